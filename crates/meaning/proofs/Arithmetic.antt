@@ -1,0 +1,187 @@
+-- What an operator gives lies in the operator's interval, for every lawful arithmetic; and the arithmetic that cuts quotients toward zero is lawful.
+-- From the order of the integers (Order).
+use Prim.Native.Nat.{ℕ, zero, suc, _/_, _%_, _≤_, max, zero-le}
+use native.Mathlib.Omega.{arith}
+use native.Mathlib.Nat.{le-trans, div-le-self, mod-le, le-of-suc-le-suc, not-suc-le-zero}
+use mathlib.Core.Path.{_≡_, refl, sym, _∙_, ap, subst, subst₂}
+use mathlib.Core.Bool.{Bool, true, false, cond, _&&_, _||_}
+use lib.Dec.{leb→le, le→leb}
+use lib.IntN.{ℤ, pos, negsuc, negℤ, natAbs, sucℤ, predℤ, _+ℤ_, _-ℤ_, _*ℤ_, sucℤ-+ℤ, +ℤ-sucℤ, +ℤ-predℤ, +ℤ-idr, sucℤ-*ℤ, *ℤ-comm, negℤ-sucℤ}
+use lib.Signed.{quotZ, remZ, _≤ℤ_, ≤ℤ-refl, leZ-yes}
+use Rattle.meaning.specs.Value.{truth, bit, compares}
+use Rattle.meaning.specs.Arithmetic.{Operator, add, subtract, multiply, divide, remainder, compare, and, or, Interval, Within, Arithmetic, least, greatest, hull, overEnds, magnitude, around, truthInterval, apply, operatorInterval, LawfulArithmetic, cutTowardZero}
+use Rattle.meaning.proofs.Order.{≤ℤ-trans, least-≤-left, least-≤-right, least-cases, greatest-≥-left, greatest-≥-right, greatest-cases, ≤-sucℤ, predℤ-≤, Rising, Falling, rising-≤, falling-≤, ≤-+ℤ-pos}
+
+-- ---- intervals
+
+-- A wider interval holds what a narrower one holds.
+pub Within-wider : {I J : Interval} {x : ℤ} → J .low ≤ℤ I .low → I .high ≤ℤ J .high → Within I x → Within J x
+Within-wider p q h = record { above = ≤ℤ-trans p (h .above); below = ≤ℤ-trans (h .below) q }
+
+-- An interval that is not empty holds its ends.
+pub low-within : (I : Interval) → I .low ≤ℤ I .high → Within I (I .low)
+low-within I h = record { above = ≤ℤ-refl (I .low); below = h }
+
+pub high-within : (I : Interval) → I .low ≤ℤ I .high → Within I (I .high)
+high-within I h = record { above = h; below = ≤ℤ-refl (I .high) }
+
+pub hull-left : (I J : Interval) {x : ℤ} → Within I x → Within (hull I J) x
+hull-left I J h = Within-wider (least-≤-left (I .low) (J .low)) (greatest-≥-left (I .high) (J .high)) h
+
+pub hull-right : (I J : Interval) {x : ℤ} → Within J x → Within (hull I J) x
+hull-right I J h = Within-wider (least-≤-right (I .low) (J .low)) (greatest-≥-right (I .high) (J .high)) h
+
+-- No smaller interval holds both.
+pub hull-smallest : {K : Interval} (I J : Interval) → K .low ≤ℤ I .low → K .low ≤ℤ J .low → I .high ≤ℤ K .high → J .high ≤ℤ K .high
+    → (K .low ≤ℤ hull I J .low) × (hull I J .high ≤ℤ K .high)
+hull-smallest {K} I J p q p′ q′ = (least-cases (λ z. K .low ≤ℤ z) p q, greatest-cases (λ z. z ≤ℤ K .high) p′ q′)
+
+pub hull-cond : (c : Bool) (I J : Interval) {x y : ℤ} → Within I x → Within J y → Within (hull I J) (cond c x y)
+hull-cond true I J h k = hull-left I J h
+hull-cond false I J h k = hull-right I J k
+
+pub bit-within : (b : Bool) → Within truthInterval (bit b)
+bit-within true = record { above = leZ-yes tt; below = leZ-yes tt }
+bit-within false = record { above = leZ-yes tt; below = leZ-yes tt }
+
+-- ---- `+ - *`: the least and greatest over the ends
+
+pub data Monotone (f : ℤ → ℤ) : Type 0 where
+  rising : Rising f → Monotone f
+  falling : Falling f → Monotone f
+
+-- The interval between what f gives at both ends.
+abbrev betweenEnds : (ℤ → ℤ) → Interval → Interval
+betweenEnds f I = record { low = least (f (I .low)) (f (I .high)); high = greatest (f (I .low)) (f (I .high)) }
+
+betweenEnds-within : {f : ℤ → ℤ} → Monotone f → (I : Interval) {x : ℤ} → Within I x → Within (betweenEnds f I) (f x)
+betweenEnds-within {f} (rising r) I h =
+    record {
+      above = ≤ℤ-trans (least-≤-left (f (I .low)) (f (I .high))) (rising-≤ r (h .above));
+      below = ≤ℤ-trans (rising-≤ r (h .below)) (greatest-≥-right (f (I .low)) (f (I .high)));
+    }
+betweenEnds-within {f} (falling r) I h =
+    record {
+      above = ≤ℤ-trans (least-≤-right (f (I .low)) (f (I .high))) (falling-≤ r (h .below));
+      below = ≤ℤ-trans (falling-≤ r (h .above)) (greatest-≥-left (f (I .low)) (f (I .high)));
+    }
+
+pub overEnds-within : (f : ℤ → ℤ → ℤ) → ((y : ℤ) → Monotone (λ x. f x y)) → ((x : ℤ) → Monotone (f x))
+    → (I J : Interval) {x y : ℤ} → Within I x → Within J y → Within (overEnds f I J) (f x y)
+overEnds-within f p q I J {x} {y} h k =
+    let s = betweenEnds-within (p y) I h in
+    let l = betweenEnds-within (q (I .low)) J k in
+    let r = betweenEnds-within (q (I .high)) J k in
+    let K = betweenEnds (f (I .low)) J in
+    let L = betweenEnds (f (I .high)) J in
+    let l′ = hull-left K L l in
+    let r′ = hull-right K L r in
+    record {
+      above = ≤ℤ-trans (least-cases (λ z. overEnds f I J .low ≤ℤ z) (l′ .above) (r′ .above)) (s .above);
+      below = ≤ℤ-trans (s .below) (greatest-cases (λ z. z ≤ℤ overEnds f I J .high) (l′ .below) (r′ .below));
+    }
+
+-- An operation gives z at some numbers of both intervals.
+pub record Attained (f : ℤ → ℤ → ℤ) (I J : Interval) (z : ℤ) : Type 0 where
+  pub left : ℤ
+  pub right : ℤ
+  pub left-within : Within I left
+  pub right-within : Within J right
+  pub gives : f left right ≡ z
+
+attained : (f : ℤ → ℤ → ℤ) (I J : Interval) {x y : ℤ} → Within I x → Within J y → Attained f I J (f x y)
+attained f I J {x} {y} p q = record { left = x; right = y; left-within = p; right-within = q; gives = refl }
+
+-- Both ends of `overEnds` are attained: no smaller interval would do.
+pub overEnds-attained : (f : ℤ → ℤ → ℤ) (I J : Interval) → I .low ≤ℤ I .high → J .low ≤ℤ J .high
+    → Attained f I J (overEnds f I J .low) × Attained f I J (overEnds f I J .high)
+overEnds-attained f I J h k =
+    let low-low = attained f I J (low-within I h) (low-within J k) in
+    let low-high = attained f I J (low-within I h) (high-within J k) in
+    let high-low = attained f I J (high-within I h) (low-within J k) in
+    let high-high = attained f I J (high-within I h) (high-within J k) in (
+      least-cases (Attained f I J) (least-cases (Attained f I J) low-low low-high) (least-cases (Attained f I J) high-low high-high),
+      greatest-cases (Attained f I J) (greatest-cases (Attained f I J) low-low low-high) (greatest-cases (Attained f I J) high-low high-high),
+    )
+
++ℤ-rising-left : (k : ℤ) → Rising (λ m. m +ℤ k)
++ℤ-rising-left k = record { step = λ m. subst (λ z. (m +ℤ k) ≤ℤ z) (sym (sucℤ-+ℤ m k)) (≤-sucℤ (m +ℤ k)) }
+
++ℤ-rising-right : (k : ℤ) → Rising (λ m. k +ℤ m)
++ℤ-rising-right k = record { step = λ m. subst (λ z. (k +ℤ m) ≤ℤ z) (sym (+ℤ-sucℤ k m)) (≤-sucℤ (k +ℤ m)) }
+
+-ℤ-falling-right : (k : ℤ) → Falling (λ m. k -ℤ m)
+-ℤ-falling-right k = record { step = λ m. subst (λ z. z ≤ℤ (k -ℤ m)) (sym (ap (λ z. k +ℤ z) (negℤ-sucℤ m) ∙ +ℤ-predℤ k (negℤ m))) (predℤ-≤ (k -ℤ m)) }
+
++ℤ-negsuc-≤ : (x : ℤ) (n : ℕ) → (x +ℤ negsuc n) ≤ℤ x
++ℤ-negsuc-≤ x zero = subst (λ z. z ≤ℤ x) (sym (+ℤ-predℤ x (pos 0) ∙ ap predℤ (+ℤ-idr x))) (predℤ-≤ x)
++ℤ-negsuc-≤ x (suc n) = ≤ℤ-trans (subst (λ z. z ≤ℤ (x +ℤ negsuc n)) (sym (+ℤ-predℤ x (negsuc n))) (predℤ-≤ (x +ℤ negsuc n))) (+ℤ-negsuc-≤ x n)
+
+*ℤ-monotone-left : (k : ℤ) → Monotone (λ m. m *ℤ k)
+*ℤ-monotone-left (pos n) = rising (record { step = λ m. subst (λ z. (m *ℤ pos n) ≤ℤ z) (sym (sucℤ-*ℤ m (pos n))) (≤-+ℤ-pos (m *ℤ pos n) n) })
+*ℤ-monotone-left (negsuc n) = falling (record { step = λ m. subst (λ z. z ≤ℤ (m *ℤ negsuc n)) (sym (sucℤ-*ℤ m (negsuc n))) (+ℤ-negsuc-≤ (m *ℤ negsuc n) n) })
+
+-- A function that gives the same everywhere goes the same way.
+Monotone-cong : {f g : ℤ → ℤ} → ((m : ℤ) → f m ≡ g m) → Monotone f → Monotone g
+Monotone-cong e (rising r) = rising (record { step = λ m. subst₂ (λ y z. y ≤ℤ z) (e m) (e (sucℤ m)) (r .step m) })
+Monotone-cong e (falling r) = falling (record { step = λ m. subst₂ (λ y z. y ≤ℤ z) (e (sucℤ m)) (e m) (r .step m) })
+
+*ℤ-monotone-right : (k : ℤ) → Monotone (λ m. k *ℤ m)
+*ℤ-monotone-right k = Monotone-cong (λ m. *ℤ-comm m k) (*ℤ-monotone-left k)
+
+-- ---- `/` and `%`: a magnitude of at most M
+
+natAbs-negℤ : (n : ℕ) → natAbs (negℤ (pos n)) ≡ n
+natAbs-negℤ zero = refl
+natAbs-negℤ (suc n) = refl
+
+pub natAbs-quotZ : (a b : ℤ) → natAbs (quotZ a b) ≡ natAbs a / natAbs b
+natAbs-quotZ (pos a) (pos b) = refl
+natAbs-quotZ (pos a) (negsuc b) = natAbs-negℤ (a / suc b)
+natAbs-quotZ (negsuc a) (pos b) = natAbs-negℤ (suc a / b)
+natAbs-quotZ (negsuc a) (negsuc b) = refl
+
+pub natAbs-remZ : (a b : ℤ) → natAbs (remZ a b) ≡ natAbs a % natAbs b
+natAbs-remZ (pos a) b = refl
+natAbs-remZ (negsuc a) b = natAbs-negℤ (suc a % natAbs b)
+
+-- "M the larger magnitude of the dividend's ends" bounds the magnitude of every number between them.
+pub magnitude-bounds : (I : Interval) (x : ℤ) → Within I x → natAbs x ≤ magnitude I
+magnitude-bounds I x h = between (I .low) (I .high) x (h .above) (h .below)
+  where
+    between : (l m x : ℤ) → l ≤ℤ x → x ≤ℤ m → natAbs x ≤ max (natAbs l) (natAbs m)
+    between l (pos m) (pos x) p q = let k = leb→le x m (q .le) in omega arith
+    between l (negsuc m) (pos x) p q = absurd (q .le)
+    between (pos l) m (negsuc x) p q = absurd (p .le)
+    between (negsuc l) m (negsuc x) p q = let k = leb→le x l (p .le) in omega arith
+
+pub around-within : (m : ℕ) (x : ℤ) → natAbs x ≤ m → Within (around m) x
+around-within zero (pos x) h = record { above = leZ-yes (le→leb 0 x zero-le); below = leZ-yes (le→leb x 0 h) }
+around-within (suc m) (pos x) h = record { above = leZ-yes tt; below = leZ-yes (le→leb x (suc m) h) }
+around-within zero (negsuc x) h = absurd (not-suc-le-zero h)
+around-within (suc m) (negsuc x) h = record { above = leZ-yes (le→leb x m (le-of-suc-le-suc h)); below = leZ-yes tt }
+
+-- A number of no larger magnitude than one in I lies around 0 within I's magnitude, and so does the 0 that stands for it with divisor 0.
+guarded-within : (I : Interval) (c : Bool) {a : ℤ} (z : ℤ) → Within I a → natAbs z ≤ natAbs a → Within (around (magnitude I)) (cond c z (pos 0))
+guarded-within I true {a} z h l = around-within (magnitude I) z (le-trans l (magnitude-bounds I a h))
+guarded-within I false z h l = around-within (magnitude I) (pos 0) zero-le
+
+pub cutTowardZero-lawful : LawfulArithmetic cutTowardZero
+cutTowardZero-lawful =
+    record {
+      quotient-within = λ I J a b h k. guarded-within I (truth b) (quotZ a b) h (rw natAbs-quotZ (div-le-self (natAbs a) (natAbs b)));
+      modulus-within = λ I J a b h k. guarded-within I (truth b) (remZ a b) h (rw natAbs-remZ (mod-le (natAbs a) (natAbs b)));
+    }
+
+-- ---- every operator
+
+pub operator-within : {A : Arithmetic} → LawfulArithmetic A → (o : Operator) (I J : Interval) {x y : ℤ}
+    → Within I x → Within J y → Within (operatorInterval A o I J) (apply A o x y)
+operator-within lawful add I J h k = overEnds-within _+ℤ_ (λ y. rising (+ℤ-rising-left y)) (λ x. rising (+ℤ-rising-right x)) I J h k
+operator-within lawful subtract I J h k = overEnds-within _-ℤ_ (λ y. rising (+ℤ-rising-left (negℤ y))) (λ x. falling (-ℤ-falling-right x)) I J h k
+operator-within lawful multiply I J h k = overEnds-within _*ℤ_ *ℤ-monotone-left *ℤ-monotone-right I J h k
+operator-within lawful divide I J {x} {y} h k = lawful .quotient-within I J x y h k
+operator-within lawful remainder I J {x} {y} h k = lawful .modulus-within I J x y h k
+operator-within lawful (compare c) I J {x} {y} h k = bit-within (compares c x y)
+operator-within lawful and I J {x} {y} h k = bit-within (truth x && truth y)
+operator-within lawful or I J {x} {y} h k = bit-within (truth x || truth y)

@@ -1,0 +1,50 @@
+-- The value of an expression at every time lies in the expression's interval, where the streams lie in their ranges and the arithmetic is lawful.
+use Prim.Native.Nat.{ℕ, zero, suc, _<_}
+use mathlib.Core.Bool.{not}
+use mathlib.Core.List.{List, List·Memᴰ}
+use lib.ListN.{length}
+use lib.Signed.{≤ℤ-refl}
+use Rattle.meaning.specs.Value.{truth, Streams}
+use Rattle.meaning.specs.Arithmetic.{Within, Arithmetic, LawfulArithmetic}
+use Rattle.meaning.specs.Expression.{Expression, integer, name, first, next, negation, binary, conditional, fby, Stream, rangeOf, value}
+use Rattle.meaning.specs.Interval.{interval, subexpressions, NamesBelow}
+use Rattle.meaning.proofs.Lists.{All, All-append, All-member}
+use Rattle.meaning.proofs.Arithmetic.{hull-left, hull-right, hull-cond, bit-within, operator-within}
+pub mod Example
+
+-- The names in an expression inside another are names in the other.
+pub subexpressions-below : (n : ℕ) (e : Expression) → NamesBelow n e → All (NamesBelow n) (subexpressions e)
+unfolding subexpressions
+subexpressions-below n (integer z) h = (h, tt)
+subexpressions-below n (name k) h = (h, tt)
+subexpressions-below n (first e) h = (h, subexpressions-below n e h)
+subexpressions-below n (next e) h = (h, subexpressions-below n e h)
+subexpressions-below n (negation e) h = (h, subexpressions-below n e h)
+subexpressions-below n (binary o a b) h = (h, All-append (NamesBelow n) (subexpressions a) _ .1 (subexpressions-below n a (h .0), subexpressions-below n b (h .1)))
+subexpressions-below n (conditional c a b) h = (
+  h,
+  All-append (NamesBelow n) (subexpressions c) _ .1
+      (subexpressions-below n c (h .0), All-append (NamesBelow n) (subexpressions a) _ .1 (subexpressions-below n a (h .1), subexpressions-below n b (h .2))),
+)
+subexpressions-below n (fby a b) h = (h, All-append (NamesBelow n) (subexpressions a) _ .1 (subexpressions-below n a (h .0), subexpressions-below n b (h .1)))
+
+-- Each of the described streams lies in its range at every time.
+abbrev pub InRange : List Stream → Streams → Type 0
+InRange ss w = (k i : ℕ) → k < length ss → Within (rangeOf ss k) (w k i)
+
+module _ {A : Arithmetic} (lawful : LawfulArithmetic A) (ss : List Stream) (w : Streams) (ranged : InRange ss w) where
+  pub interval-sound : (e : Expression) → NamesBelow (length ss) e → (i : ℕ) → Within (interval A ss e) (value A w e i)
+  unfolding interval value
+  interval-sound (integer z) b i = record { above = ≤ℤ-refl z; below = ≤ℤ-refl z }
+  interval-sound (name k) b i = ranged k i b
+  interval-sound (first e) b i = interval-sound e b zero
+  interval-sound (next e) b i = interval-sound e b (suc i)
+  interval-sound (negation e) b i = bit-within (not (truth (value A w e i)))
+  interval-sound (binary o x y) b i = operator-within lawful o (interval A ss x) (interval A ss y) (interval-sound x (b .0) i) (interval-sound y (b .1) i)
+  interval-sound (conditional c x y) b i = hull-cond (truth (value A w c i)) (interval A ss x) (interval A ss y) (interval-sound x (b .1) i) (interval-sound y (b .2) i)
+  interval-sound (fby x y) b zero = hull-left (interval A ss x) (interval A ss y) (interval-sound x (b .0) zero)
+  interval-sound (fby x y) b (suc i) = hull-right (interval A ss x) (interval A ss y) (interval-sound y (b .1) i)
+
+  -- So do the values of every expression inside it, which an accepted sheet bounds one by one.
+  pub subexpression-sound : (e f : Expression) → NamesBelow (length ss) e → List·Memᴰ f (subexpressions e) → (i : ℕ) → Within (interval A ss f) (value A w f i)
+  subexpression-sound e f b m i = interval-sound f (All-member (NamesBelow (length ss)) (subexpressions-below (length ss) e b) m) i

@@ -1,0 +1,11 @@
+pub mod Lists
+pub mod Scope
+pub mod Order
+pub mod Value
+pub mod Meaning
+pub mod Arithmetic
+pub mod Division
+pub mod Interval
+pub mod NormalForm
+pub mod Letter
+pub mod Word

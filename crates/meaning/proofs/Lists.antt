@@ -1,0 +1,70 @@
+-- Facts about Boolean choices and lists that several files need.
+use Prim.Native.Nat.{ℕ, zero, suc, _+_, _-_, _<_}
+use native.Mathlib.Omega.{arith}
+use native.Mathlib.Decide.{decLt}
+use native.Mathlib.Nat.{le-of-suc-le-suc, not-suc-le-zero}
+use mathlib.Core.Path.{_≡_, refl, sym, subst}
+use mathlib.Core.Bool.{Bool, true, false, not, cond}
+use mathlib.Core.Logic.{_↔_}
+use mathlib.Core.List.{List, [], _∷_, _++_, map, List·Memᴰ, List·Memᴰ·head, List·Memᴰ·tail}
+use lib.Dec.{T}
+use lib.ListN.{length, getD}
+
+-- ---- choices
+
+-- A choice has a property if each of its branches has it where it is taken.
+pub cond-cases : {X : Type 0} (P : X → Type 0) (c : Bool) {x y : X} → (T c → P x) → (T (not c) → P y) → P (cond c x y)
+cond-cases P true f g = f tt
+cond-cases P false f g = g tt
+
+pub cond-true : {X : Type 0} (c : Bool) (x y : X) → T c → cond c x y ≡ x
+cond-true true x y t = refl
+cond-true false x y t = absurd t
+
+pub cond-false : {X : Type 0} (c : Bool) (x y : X) → T (not c) → cond c x y ≡ y
+cond-false true x y t = absurd t
+cond-false false x y t = refl
+
+-- ---- a property of every member
+
+abbrev pub All : {X : Type 0} → (X → Type 0) → List X → Type 0
+All P [] = Unit
+All P (x ∷ xs) = P x × All P xs
+
+module _ {X : Type 0} (P : X → Type 0) where
+  pub All-append : (xs ys : List X) → All P (xs ++ ys) ↔ (All P xs × All P ys)
+  All-append [] ys = (λ h. (tt, h), λ h. h .1)
+  All-append (x ∷ xs) ys = let r = All-append xs ys in (λ h. let t = r .0 (h .1) in ((h .0, t .0), t .1), λ h. (h .0 .0, r .1 (h .0 .1, h .1)))
+
+  pub All-member : {x : X} {xs : List X} → All P xs → List·Memᴰ x xs → P x
+  All-member h (List·Memᴰ·head e) = subst P (sym e) (h .0)
+  All-member h (List·Memᴰ·tail m) = All-member (h .1) m
+
+  pub member-All : (xs : List X) → ((x : X) → List·Memᴰ x xs → P x) → All P xs
+  member-All [] f = tt
+  member-All (x ∷ xs) f = (f x (List·Memᴰ·head refl), member-All xs (λ y m. f y (List·Memᴰ·tail m)))
+
+  pub All-getD : (xs : List X) → All P xs → (j : ℕ) (d : X) → j < length xs → P (getD xs j d)
+  All-getD [] h j d l = absurd (not-suc-le-zero l)
+  All-getD (x ∷ xs) h zero d l = h .0
+  All-getD (x ∷ xs) h (suc j) d l = All-getD xs (h .1) j d (le-of-suc-le-suc l)
+
+-- A property that follows from another.
+pub All-map : {X : Type 0} {P Q : X → Type 0} (xs : List X) → ((x : X) → P x → Q x) → All P xs → All Q xs
+All-map [] f h = tt
+All-map (x ∷ xs) f h = (f x (h .0), All-map xs f (h .1))
+
+-- ---- reading a list at a place
+
+-- What holds of every number below m and of every m + j with j below n holds below m + n.
+pub below-sum : (P : ℕ → Type 0) (m n : ℕ) → ((k : ℕ) → k < m → P k) → ((j : ℕ) → j < n → P (m + j)) → (k : ℕ) → k < m + n → P k
+below-sum P m n f g k h = decide (decLt k m)
+  where
+    decide : Dec (k < m) → P k
+    decide (yes l) = f k l
+    decide (no l) = let e : m + (k - m) ≡ k = omega arith in subst P e (g (k - m) (omega arith))
+
+pub getD-map : {X Y : Type 0} (f : X → Y) (xs : List X) (j : ℕ) (d : X) (e : Y) → j < length xs → getD (map f xs) j e ≡ f (getD xs j d)
+getD-map f [] j d e l = absurd (not-suc-le-zero l)
+getD-map f (x ∷ xs) zero d e l = refl
+getD-map f (x ∷ xs) (suc j) d e l = getD-map f xs j d e (le-of-suc-le-suc l)

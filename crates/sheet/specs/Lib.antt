@@ -1,0 +1,5 @@
+pub mod Vocabulary
+pub mod Grammar
+pub mod Form
+pub mod Refusal
+pub mod Parser

@@ -1,0 +1,131 @@
+-- Refusals 1 to 7, each a condition on the bytes that mentions no other, and the answer: the first that holds, or the sheet
+-- (document 01, "Who can bring about which refusal", "Sheet bounds").
+use Prim.Native.Nat.{ℕ, zero, suc, _+_, _<_}
+use mathlib.Core.Path.{_≡_}
+use mathlib.Core.Bool.{Bool, cond, false, _&&_, _||_}
+use mathlib.Core.List.{List, [], _∷_, List·Memᴰ}
+use lib.Dec.{T, leb, eqb}
+use lib.IntN.{ℤ, pos, negℤ, natAbs}
+use lib.ListN.{length, take}
+use lib.Signed.{_≤ℤ_, _<ℤ_}
+use Rattle.text.specs.Bytes.{Token, lines, tokens}
+use Rattle.text.specs.Token.{isReserved}
+use Rattle.meaning.specs.Arithmetic.{Arithmetic, Interval}
+use Rattle.meaning.specs.Expression.{Expression, integer, Constraint, leftSide, rightSide, Stream, Sheet}
+use Rattle.meaning.specs.Interval.{interval, subexpressions, SidesBelow}
+use Rattle.meaning.specs.Letter.{letterCount}
+use Rattle.meaning.specs.Window.{allFirsts, allUntils, B, D}
+use Rattle.meaning.specs.Situation.{NoRepeats}
+use Rattle.sheet.specs.Form.{Layout, lineTokens, constraintLines, namesOf, HasForm}
+
+-- "Sheet bounds: 16,384 bytes, 8 streams, 32 constraints. Over one sheet 1,024 tokens may stand in the constraint lines.
+-- Magnitudes to 1,000,000,000. 1,024 letters, 8 untils, 8 firsts, D+B at most 6".
+abbrev pub byteBound : ℕ
+byteBound = 16384
+
+abbrev pub streamBound : ℕ
+streamBound = 8
+
+abbrev pub constraintBound : ℕ
+constraintBound = 32
+
+abbrev pub tokenBound : ℕ
+tokenBound = 1024
+
+abbrev pub bracketBound : ℕ
+bracketBound = 32
+
+abbrev pub magnitudeBound : ℕ
+magnitudeBound = 1000000000
+
+abbrev pub letterBound : ℕ
+letterBound = 1024
+
+abbrev pub untilBound : ℕ
+untilBound = 8
+
+abbrev pub firstBound : ℕ
+firstBound = 8
+
+abbrev pub windowBound : ℕ
+windowBound = 6
+
+-- "10 and 32 to 126"
+abbrev pub isAllowed : ℕ → Bool
+isAllowed b = eqb b 10 || (leb 32 b && leb b 126)
+
+-- "1: too many bytes, or a byte other than 10 and 32 to 126."
+pub data Refusal1 (text : List ℕ) : Type 0 where
+  tooManyBytes : byteBound < length text → Refusal1 text
+  barredByte : {b : ℕ} → List·Memᴰ b text → isAllowed b ≡ false → Refusal1 text
+
+-- How many tokens stand in the lines.
+abbrev pub tokenCount : List (List ℕ) → ℕ
+tokenCount [] = 0
+tokenCount (l ∷ ls) = length (tokens l) + tokenCount ls
+
+-- How often the byte stands in the text.
+abbrev pub occurrences : ℕ → List ℕ → ℕ
+occurrences c [] = 0
+occurrences c (b ∷ bs) = cond (eqb b c) 1 0 + occurrences c bs
+
+-- "2: over 8 tokens in line 1, 32 lines after line 3, 1,024 tokens in them, or, up to some place in one of them, more than 32 more `(` than `)`."
+pub data Refusal2 (L : Layout) (text : List ℕ) : Type 0 where
+  tooManyStreams : streamBound < length (lineTokens text (L .namesLine)) → Refusal2 L text
+  tooManyConstraints : constraintBound < length (constraintLines L text) → Refusal2 L text
+  tooManyTokens : tokenBound < tokenCount (constraintLines L text) → Refusal2 L text
+  tooDeep : {l : List ℕ} → List·Memᴰ l (constraintLines L text) → (place : ℕ) → bracketBound + occurrences 41 (take place l) < occurrences 40 (take place l) → Refusal2 L text
+
+-- "3: not of the form above, the empty sheet included."
+pub record Refusal3 (L : Layout) (text : List ℕ) : Type 0 where
+  pub formless : (s : Sheet) → HasForm L text s → ⊥
+
+-- The expression stands on a side of one of the constraints, whole or inside.
+pub data StandsIn (cs : List Constraint) (e : Expression) : Type 0 where
+  onLeft : {c : Constraint} → List·Memᴰ c cs → List·Memᴰ e (subexpressions (leftSide c)) → StandsIn cs e
+  onRight : {c : Constraint} → List·Memᴰ c cs → List·Memᴰ e (subexpressions (rightSide c)) → StandsIn cs e
+
+-- "4: a name given twice, reserved, or unknown in a constraint."
+pub data Refusal4 (L : Layout) (text : List ℕ) : Type 0 where
+  givenTwice : {s : Sheet} → HasForm L text s → (NoRepeats (namesOf (s .streams)) → ⊥) → Refusal4 L text
+  reservedName : {s : Sheet} {t : Token} → HasForm L text s → List·Memᴰ t (namesOf (s .streams)) → T (isReserved t) → Refusal4 L text
+  unknownName : {s : Sheet} {c : Constraint} → HasForm L text s → List·Memᴰ c (s .constraints) → (SidesBelow (length (s .streams)) c → ⊥) → Refusal4 L text
+
+-- "5: an integer beyond the magnitude bound, or a low above its high."
+pub data Refusal5 (L : Layout) (text : List ℕ) : Type 0 where
+  lowBeyond : {s : Sheet} {x : Stream} → HasForm L text s → List·Memᴰ x (s .streams) → magnitudeBound < natAbs (x .range .low) → Refusal5 L text
+  highBeyond : {s : Sheet} {x : Stream} → HasForm L text s → List·Memᴰ x (s .streams) → magnitudeBound < natAbs (x .range .high) → Refusal5 L text
+  integerBeyond : {s : Sheet} {z : ℤ} → HasForm L text s → StandsIn (s .constraints) (integer z) → magnitudeBound < natAbs z → Refusal5 L text
+  lowAboveHigh : {s : Sheet} {x : Stream} → HasForm L text s → List·Memᴰ x (s .streams) → x .range .high <ℤ x .range .low → Refusal5 L text
+
+-- "6: an expression's interval leaves ±1,000,000,000."
+pub record InBounds (I : Interval) : Type 0 where
+  pub above : negℤ (pos magnitudeBound) ≤ℤ I .low
+  pub below : I .high ≤ℤ pos magnitudeBound
+
+pub data Refusal6 (A : Arithmetic) (L : Layout) (text : List ℕ) : Type 0 where
+  leavesBounds : {s : Sheet} {e : Expression} → HasForm L text s → StandsIn (s .constraints) e → (InBounds (interval A (s .streams) e) → ⊥) → Refusal6 A L text
+
+-- "7: letters, untils, firsts or D+B over the bound."
+pub data Refusal7 (L : Layout) (text : List ℕ) : Type 0 where
+  tooManyLetters : {s : Sheet} → HasForm L text s → letterBound < letterCount (s .streams) → Refusal7 L text
+  tooManyUntils : {s : Sheet} → HasForm L text s → untilBound < length (allUntils (s .constraints)) → Refusal7 L text
+  tooManyFirsts : {s : Sheet} → HasForm L text s → firstBound < length (allFirsts (s .constraints)) → Refusal7 L text
+  tooWide : {s : Sheet} → HasForm L text s → windowBound < D (s .constraints) + B (s .constraints) → Refusal7 L text
+
+-- The answer to a text: a refusal's number, or the sheet.
+pub data Answer : Type 0 where
+  refused : ℕ → Answer
+  sheet : Sheet → Answer
+
+-- "The lowest that applies to the whole sheet is given".
+pub data AnswerTo (A : Arithmetic) (L : Layout) (text : List ℕ) : Answer → Type 0 where
+  refused1 : Refusal1 text → AnswerTo A L text (refused 1)
+  refused2 : (Refusal1 text → ⊥) → Refusal2 L text → AnswerTo A L text (refused 2)
+  refused3 : (Refusal1 text → ⊥) → (Refusal2 L text → ⊥) → Refusal3 L text → AnswerTo A L text (refused 3)
+  refused4 : (Refusal1 text → ⊥) → (Refusal2 L text → ⊥) → (Refusal3 L text → ⊥) → Refusal4 L text → AnswerTo A L text (refused 4)
+  refused5 : (Refusal1 text → ⊥) → (Refusal2 L text → ⊥) → (Refusal3 L text → ⊥) → (Refusal4 L text → ⊥) → Refusal5 L text → AnswerTo A L text (refused 5)
+  refused6 : (Refusal1 text → ⊥) → (Refusal2 L text → ⊥) → (Refusal3 L text → ⊥) → (Refusal4 L text → ⊥) → (Refusal5 L text → ⊥) → Refusal6 A L text → AnswerTo A L text (refused 6)
+  refused7 : (Refusal1 text → ⊥) → (Refusal2 L text → ⊥) → (Refusal3 L text → ⊥) → (Refusal4 L text → ⊥) → (Refusal5 L text → ⊥) → (Refusal6 A L text → ⊥) → Refusal7 L text → AnswerTo A L text (refused 7)
+  accepted : {s : Sheet} → (Refusal1 text → ⊥) → (Refusal2 L text → ⊥) → (Refusal3 L text → ⊥) → (Refusal4 L text → ⊥) → (Refusal5 L text → ⊥) → (Refusal6 A L text → ⊥) → (Refusal7 L text → ⊥)
+      → HasForm L text s → AnswerTo A L text (sheet s)
