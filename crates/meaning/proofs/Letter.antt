@@ -11,7 +11,8 @@ use lib.IntN.{ℤ, pos, natAbs, _+ℤ_, _-ℤ_}
 use lib.Signed.{leZ, leZ-yes, _≤ℤ_, _<ℤ_}
 use Rattle.meaning.specs.Value.{Value}
 use Rattle.meaning.specs.Arithmetic.{Interval, Within, truthInterval}
-use Rattle.meaning.specs.Expression.{Stream}
+use lib.ListN.{length, getD}
+use Rattle.meaning.specs.Expression.{Stream, rangeOf}
 use Rattle.meaning.specs.Letter.{Letter, IsLetter, none, more, size, letterCount, letterNumber, letterOf, recordOf}
 use Rattle.meaning.proofs.Lists.{cond-true}
 use Rattle.meaning.proofs.Order.{≤ℤ-trans, ≤-+ℤ-pos, distance-+ℤ-pos, +ℤ-pos-distance, +ℤ-pos-≤, distance-≤, distance-<}
@@ -37,6 +38,12 @@ within-size I x h =
     omega arith
 
 -- ---- letters and numbers
+
+-- A letter's values lie in the streams' ranges.
+pub letter-within : {ss : List Stream} {l : Letter} → IsLetter ss l → (k : ℕ) → k < length ss → Within (rangeOf ss k) (getD l k (pos 0))
+letter-within none k b = absurd (not-suc-le-zero b)
+letter-within (more w h) zero b = w
+letter-within (more w h) (suc k) b = letter-within h k (le-of-suc-le-suc b)
 
 pub letterNumber-bound : {ss : List Stream} {l : Letter} → IsLetter ss l → letterNumber ss l < letterCount ss
 unfolding letterNumber letterCount

@@ -15,7 +15,7 @@ use Rattle.meaning.specs.Expression.{Stream, Sheet, rangeOf, Solution}
 use Rattle.meaning.specs.Letter.{Letter, IsLetter, none, more, letterCount, letterNumber, letterOf, spell, SolutionWord}
 use Rattle.meaning.proofs.Scope.{AgreeBelow, AgreeBelow-sym, NamesKnown, Solution-agree}
 use Rattle.meaning.proofs.Interval.{InRange}
-use Rattle.meaning.proofs.Letter.{letterNumber-bound, letterOf-letterNumber, letterOf-letter, letterNumber-letterOf, letter-letterOf}
+use Rattle.meaning.proofs.Letter.{letter-within, letterNumber-bound, letterOf-letterNumber, letterOf-letter, letterNumber-letterOf, letter-letterOf}
 
 -- A word of the streams' letter numbers whose letters have the values of w.
 pub record Spells (ss : List Stream) (x : ℕ → ℕ) (w : Streams) : Type 0 where
@@ -34,11 +34,6 @@ letterOf-length : (ss : List Stream) (n : ℕ) → length (letterOf ss n) ≡ le
 unfolding letterOf
 letterOf-length [] n = refl
 letterOf-length (s ∷ ss) n = ap suc (letterOf-length ss (n % letterCount ss))
-
-letter-within : {ss : List Stream} {l : Letter} → IsLetter ss l → (k : ℕ) → k < length ss → Within (rangeOf ss k) (getD l k (pos 0))
-letter-within none k l = absurd (not-suc-le-zero l)
-letter-within (more w h) zero l = w
-letter-within (more w h) (suc k) l = letter-within h k (le-of-suc-le-suc l)
 
 within-letter : (ss : List Stream) (l : Letter) → length l ≡ length ss → ((k : ℕ) → k < length ss → Within (rangeOf ss k) (getD l k (pos 0))) → IsLetter ss l
 within-letter [] [] e h = none

@@ -6,3 +6,4 @@ pub mod Letter
 pub mod Window
 pub mod Situation
 pub mod NormalForm
+pub mod Evaluation

@@ -1,0 +1,478 @@
+"""A second route to the same answers, for small random sheets.
+
+    python3 enumerator/check.py SEED COUNT
+
+Tables are compared with the meaning of ultimately periodic words, situations
+with a plain listing of all short records, and normal forms with the words
+extended by what the added streams stand for.  It exits with 1 at the first
+difference.
+"""
+
+import itertools
+import random
+import sys
+from collections import Counter, deque, namedtuple
+
+from damage import damaged_sheets
+from examples import EXAMPLES, example_faults
+from generate import bound_sheets, random_sheets
+from grammar import all_subexpressions, expression_text
+from intervals import interval
+from lasso import Lasso, all_hold, horizon, is_solution, lasso_valuation
+from limits import NO_ENTRY, STEP_REFUSED
+from meaning import value
+from normal_form import entry_texts, normal_form_of
+from reading import ranges, read
+from situations import explore, is_lawful, judge_of, situation
+from spellings import spelling_sheets
+from step import step, table_bytes
+from table import (Partition, final_situations, followed_forever,
+                   live_situations, live_successors, partition, same_pairs,
+                   table_of)
+
+SITUATION_BOUND = 400
+RECORD_BOUND = 3000
+LASSO_BOUND = 150
+PAIR_BOUND = 150
+PARTITION_BOUND = 30
+NORMAL_FORM_WORDS = 4
+
+# What is known of one sheet while it is checked.  access: for each state the
+# letter numbers of one record that leads to it.
+Case = namedtuple("Case", "name text sheet judge graph table access rng counts")
+
+
+class Difference(Exception):
+    """The two routes disagree."""
+
+
+def expect(condition, case, *details):
+    if not condition:
+        raise Difference(case.name, case.text.decode("latin-1"), *details)
+
+
+def means_solution(case, lasso):
+    return is_solution(case.sheet, case.judge.letters, lasso)
+
+
+def follow(entries, state, word):
+    """The states met along a word after the given one, or None if an entry
+    is missing."""
+    states = []
+    for letter in word:
+        state = entries[state][letter]
+        if state == NO_ENTRY:
+            return None
+        states.append(state)
+    return states
+
+
+def table_accepts(table, lasso):
+    """Whether the table can be followed along the word from the start and
+    final states are met again and again."""
+    if table is None:
+        return False
+    states = follow(table.entries, 0, lasso.prefix)
+    if states is None:
+        return False
+    state = states[-1] if states else 0
+    rounds = {}
+    while state not in rounds:
+        rounds[state] = follow(table.entries, state, lasso.loop)
+        if rounds[state] is None:
+            return False
+        state = rounds[state][-1]
+    first, repeated = state, []
+    while not repeated or state != first:
+        repeated += rounds[state]
+        state = rounds[state][-1]
+    return any(table.finals[met] for met in repeated)
+
+
+def short_lassos(letter_total, bound):
+    """All words with a short prefix and loop, shorter ones first, at most as
+    many as the bound."""
+    found = []
+    for size in itertools.count(1):
+        for loop_length in range(1, size + 1):
+            words = itertools.product(range(letter_total), repeat=size)
+            for word in words:
+                if len(found) == bound:
+                    return found
+                split = size - loop_length
+                found.append(Lasso(word[:split], word[split:]))
+
+
+def random_word(case, longest):
+    return tuple(case.rng.randrange(len(case.judge.letters))
+                 for _ in range(case.rng.randrange(longest + 1)))
+
+
+def random_lassos(case, count):
+    return [Lasso(random_word(case, 5), random_word(case, 4) or (0,))
+            for _ in range(count)]
+
+
+def ways(table, state):
+    """The letters and next states of the entries that are not missing."""
+    return [(letter, target)
+            for letter, target in enumerate(table.entries[state])
+            if target != NO_ENTRY]
+
+
+def random_walk(case, state, longest):
+    """A word that can be followed from the state for ever: a random walk
+    along the table, closed where it meets a state again."""
+    word, met = [], {}
+    steps = case.rng.randrange(longest + 1)
+    while len(word) < steps or state not in met:
+        met[state] = len(word)
+        letter, state = case.rng.choice(ways(case.table, state))
+        word.append(letter)
+    return Lasso(tuple(word[:met[state]]), tuple(word[met[state]:]))
+
+
+def after(access, lasso):
+    return Lasso(access + lasso.prefix, lasso.loop)
+
+
+def find_lasso(start, moves, is_looping):
+    """A word that leads from the node to a cycle of nodes that fulfil
+    is_looping, or None.  moves gives (letter, next node) for a node."""
+    paths = {start: ()}
+    waiting = deque([start])
+    while waiting:
+        node = waiting.popleft()
+        for letter, target in moves(node):
+            if target not in paths:
+                paths[target] = paths[node] + (letter,)
+                waiting.append(target)
+    looping = [node for node in paths if is_looping(node)]
+    kept = followed_forever(
+        looping, {node: {target for _, target in moves(node)}
+                  for node in looping})
+    if not kept:
+        return None
+    node = next(node for node in paths if node in kept)
+    word, met = list(paths[node]), {}
+    while node not in met:
+        met[node] = len(word)
+        letter, node = next(move for move in moves(node) if move[1] in kept)
+        word.append(letter)
+    return Lasso(tuple(word[:met[node]]), tuple(word[met[node]:]))
+
+
+def parting_lasso(table, left, right):
+    """A word that the table accepts from the left state and not from the
+    right one, or None.  States after a final one are final, so a loop has
+    only final states or none."""
+    def moves(pair):
+        return [(letter, (target,
+                          NO_ENTRY if pair[1] == NO_ENTRY
+                          else table.entries[pair[1]][letter]))
+                for letter, target in ways(table, pair[0])]
+
+    def is_looping(pair):
+        return table.finals[pair[0]] and (
+            pair[1] == NO_ENTRY or not table.finals[pair[1]])
+
+    return find_lasso((left, right), moves, is_looping)
+
+
+def check_words(case):
+    """The table accepts a word exactly if the meaning calls it a solution."""
+    lassos = (short_lassos(len(case.judge.letters), LASSO_BOUND)
+              + random_lassos(case, LASSO_BOUND // 2))
+    if case.table is not None:
+        lassos += [random_walk(case, 0, 12) for _ in range(LASSO_BOUND // 3)]
+    for lasso in lassos:
+        accepted = table_accepts(case.table, lasso)
+        expect(accepted == means_solution(case, lasso), case, "word", lasso)
+        case.counts["words, of them solutions: %s" % accepted] += 1
+
+
+def check_intervals(case):
+    """Every value of every subexpression lies in its interval."""
+    found = [(expression, interval(expression, ranges(case.sheet)))
+             for expression in all_subexpressions(case.sheet.constraints)]
+    for lasso in random_lassos(case, 3):
+        valuation = lasso_valuation(case.sheet.names, case.judge.letters, lasso)
+        for time in range(8):
+            for expression, (low, high) in found:
+                expect(low <= value(expression, valuation, time) <= high,
+                       case, "interval", expression_text(expression), lasso)
+                case.counts["values within their intervals"] += 1
+
+
+def check_numbering(case):
+    """State numbers are met in order, and a final state leads to final
+    states only."""
+    met = 1
+    for state, row in enumerate(case.table.entries):
+        expect(state < met, case, "numbering", state)
+        for _, target in ways(case.table, state):
+            expect(target <= met, case, "numbering", state, target)
+            met = max(met, target + 1)
+            expect(case.table.finals[target] or not case.table.finals[state],
+                   case, "final leads to not final", state, target)
+    expect(met == len(case.table.entries), case, "numbering", met)
+    case.counts["tables with their numbering"] += 1
+
+
+def check_pair(case, left, right):
+    """Two states are told apart by a word, as the meaning confirms."""
+    for one, other in ((left, right), (right, left)):
+        lasso = parting_lasso(case.table, one, other)
+        if lasso is not None:
+            expect(means_solution(case, after(case.access[one], lasso)),
+                   case, "pair", one, other, lasso)
+            expect(not means_solution(case, after(case.access[other], lasso)),
+                   case, "pair", one, other, lasso)
+            case.counts["pairs of states told apart"] += 1
+            return
+    expect(False, case, "states not told apart", left, right)
+
+
+def check_state(case, state):
+    """A state has a solution; if it is not final, a word that can be followed
+    for ever from it is none; if it is final, walks from it are solutions."""
+    table, access = case.table, case.access[state]
+
+    def moves(here):
+        return ways(table, here)
+
+    lasso = find_lasso(state, moves, lambda here: table.finals[here])
+    expect(lasso is not None and means_solution(case, after(access, lasso)),
+           case, "state without solution", state, lasso)
+    if table.finals[state]:
+        for _ in range(10):
+            lasso = after(access, random_walk(case, state, 10))
+            expect(means_solution(case, lasso), case, "final", state, lasso)
+        case.counts["final states with walks"] += 1
+    else:
+        lasso = find_lasso(state, moves, lambda here: not table.finals[here])
+        expect(lasso is not None
+               and not means_solution(case, after(access, lasso)),
+               case, "not final", state, lasso)
+        case.counts["not final states with a word"] += 1
+
+
+def check_missing(case):
+    """After a missing entry no short word is a solution."""
+    missing = [(state, letter)
+               for state, row in enumerate(case.table.entries)
+               for letter, entry in enumerate(row) if entry == NO_ENTRY]
+    case.rng.shuffle(missing)
+    for state, letter in missing[:20]:
+        for lasso in short_lassos(len(case.judge.letters), 20):
+            lasso = after(case.access[state] + (letter,), lasso)
+            expect(not means_solution(case, lasso), case, "missing", lasso)
+        case.counts["missing entries with 20 words each"] += 1
+
+
+def lawful_records(case, longest):
+    """All lawful records up to a length, judged from the start."""
+    found = [()]
+    level = [()]
+    for _ in range(longest):
+        level = [record + (letter,) for record in level
+                 for letter in case.judge.letters
+                 if is_lawful(case.judge, record + (letter,))]
+        found += level
+        if len(found) > RECORD_BOUND:
+            return None
+    return found
+
+
+def check_situations(case):
+    """The situations of all records up to the length of the longest record
+    kept for a situation are those of the graph, and records with the same
+    situation have the same situations after each letter."""
+    longest = max(map(len, case.graph.records.values()))
+    records = lawful_records(case, longest)
+    if records is None:
+        case.counts["situation counts left out, too many records"] += 1
+        return
+    expect({situation(case.judge, record) for record in records}
+           == set(case.graph.situations), case, "situations")
+    case.counts["situation counts by listing records"] += 1
+    for record in records:
+        here = situation(case.judge, record)
+        for number, letter in enumerate(case.judge.letters):
+            longer = record + (letter,)
+            there = (situation(case.judge, longer)
+                     if is_lawful(case.judge, longer) else None)
+            expect(case.graph.successors[here].get(number) == there, case,
+                   "successor", record, letter)
+        case.counts["records with all their successors"] += 1
+
+
+def check_partition(case):
+    """Situations have one state exactly if the search of their product alone,
+    without what is known of other pairs, finds no word that parts them."""
+    successors = live_successors(case.graph, live_situations(case.graph))
+    if len(successors) > PARTITION_BOUND:
+        return
+    finals = final_situations(case.graph, successors)
+    first_of = partition(case.graph, successors, finals)
+    nothing_known = Partition(successors, set())
+    for left, right in itertools.combinations(successors, 2):
+        same = same_pairs(left, right, successors, case.graph.done,
+                          nothing_known) is not None
+        expect(same == (first_of[left] == first_of[right]), case, "partition",
+               left, right)
+        case.counts["pairs of situations compared by themselves"] += 1
+
+
+def extended_valuation(case, normal, lasso):
+    """The streams of the sheet and, for each added stream, the values of what
+    it stands for."""
+    base = lasso_valuation(case.sheet.names, case.judge.letters, lasso)
+    known = {}
+
+    def valuation(name, time):
+        if not name.startswith("#"):
+            return base(name, time)
+        if (name, time) not in known:
+            known[name, time] = value(normal.stands_for[int(name[1:])], base,
+                                      time)
+        return known[name, time]
+    return valuation
+
+
+def changed(valuation, stream, time, instead):
+    return lambda name, at: (instead if (name, at) == (stream, time)
+                             else valuation(name, at))
+
+
+def check_changes(case, normal, valuation, lasso):
+    """An added stream with another value anywhere breaks some entry."""
+    times = horizon(case.sheet.constraints, lasso)
+    for number, (low, high) in enumerate(normal.added):
+        stream = "#%d" % number
+        for time in range(min(times, 6)):
+            own = valuation(stream, time)
+            expect(low <= own <= high, case, "range", stream, time, own)
+            others = [other for other in {low, high, own - 1, own + 1}
+                      if other != own]
+            for other in others:
+                expect(not all_hold(normal.entries,
+                                    changed(valuation, stream, time, other),
+                                    times + time + 2),
+                       case, "change kept", stream, time, other, lasso)
+                case.counts["changed added values that break"] += 1
+
+
+def check_normal_form(case):
+    """A word with the added streams meets all entries exactly if the word is
+    a solution; then no added value can be another."""
+    normal = normal_form_of(case.sheet)
+    lassos = random_lassos(case, NORMAL_FORM_WORDS)
+    if case.table is not None:
+        lassos += [random_walk(case, 0, 4) for _ in range(NORMAL_FORM_WORDS)]
+    for lasso in lassos:
+        valuation = extended_valuation(case, normal, lasso)
+        meets = all_hold(normal.entries, valuation,
+                         horizon(case.sheet.constraints, lasso) + 1)
+        expect(meets == means_solution(case, lasso), case, "normal form",
+               entry_texts(normal.entries), lasso)
+        case.counts["words in normal forms"] += 1
+        if meets:
+            check_changes(case, normal, valuation, lasso)
+
+
+def access_words(table):
+    """For each state the first met word that leads to it."""
+    words = {0: ()}
+    for state in range(len(table.entries)):
+        for letter, target in ways(table, state):
+            words.setdefault(target, words[state] + (letter,))
+    return words
+
+
+def check_steps(case):
+    """The step on the table's bytes follows its entries."""
+    table = table_bytes(case.table.entries)
+    total = len(case.judge.letters)
+    for state, row in enumerate(case.table.entries):
+        for letter, entry in enumerate(row):
+            wanted = STEP_REFUSED + 12 if entry == NO_ENTRY else entry
+            expect(step(table, total, state, letter) == wanted, case, "step",
+                   state, letter)
+            case.counts["steps along a table"] += 1
+
+
+def check_table(case):
+    check_numbering(case)
+    check_steps(case)
+    states = range(len(case.table.entries))
+    pairs = list(itertools.combinations(states, 2))
+    case.rng.shuffle(pairs)
+    for left, right in pairs[:PAIR_BOUND]:
+        check_pair(case, left, right)
+    for state in states:
+        check_state(case, state)
+    check_missing(case)
+
+
+def check_sheet(name, text, rng, counts):
+    """All checks of one sheet."""
+    refusal, sheet = read(text)
+    if refusal:
+        counts["sheets left out, refusal %d" % refusal] += 1
+        return
+    judge = judge_of(sheet)
+    graph = explore(judge, SITUATION_BOUND)
+    if graph is None:
+        counts["sheets left out, more than %d situations" % SITUATION_BOUND] += 1
+        return
+    table = table_of(graph, len(judge.letters))
+    access = {} if table is None else access_words(table)
+    case = Case(name, text, sheet, judge, graph, table, access, rng, counts)
+    counts["sheets, with solution: %s" % (table is not None)] += 1
+    check_situations(case)
+    check_partition(case)
+    check_words(case)
+    check_intervals(case)
+    check_normal_form(case)
+    if table is not None:
+        check_table(case)
+
+
+def check_refusals(seed, counts):
+    """A damaged sheet meets the lowest refusal that it was damaged for, and a
+    sheet with an answer worked out by hand meets that."""
+    cases = [(name, int(name.split("-")[1]), text)
+             for name, text in damaged_sheets(seed, 24)]
+    for name, wanted, text in cases + spelling_sheets() + bound_sheets():
+        if read(text)[0] != wanted:
+            raise Difference(name, "refusal", read(text)[0], wanted, text)
+        counts["sheets with the refusal meant"] += 1
+
+
+def main(seed, count):
+    counts = Counter()
+    rng = random.Random(seed)
+    try:
+        faults = example_faults()
+        if faults:
+            raise Difference("examples of document 01", faults)
+        counts["examples of document 01"] += len(EXAMPLES)
+        check_refusals(seed, counts)
+        sheets = [(wanted.name, wanted.sheet) for wanted in EXAMPLES
+                  if "letters" not in wanted.name] + random_sheets(seed, count, 6)
+        for number, (name, text) in enumerate(sheets):
+            check_sheet(name, text, rng, counts)
+            if number % 50 == 49:
+                print("%d sheets checked" % (number + 1), flush=True)
+    except Difference as difference:
+        print("DIFFERENCE", *difference.args, sep="\n  ")
+        return 1
+    print("compared, seed %d:" % seed)
+    for what in sorted(counts):
+        print("  %8d %s" % (counts[what], what))
+    return 0
+
+
+if __name__ == "__main__":
+    sys.exit(main(int(sys.argv[1]), int(sys.argv[2])))

@@ -1,0 +1,168 @@
+"""Writes the stored vectors as JSON Lines with sorted keys.
+
+    python3 enumerator/write_vectors.py [DIR]
+
+The same program always writes the same bytes.
+"""
+
+import json
+import sys
+from collections import Counter
+from pathlib import Path
+
+from compiler import analyse, compile_analysed
+from damage import damaged_sheets
+from examples import EXAMPLES
+from generate import (bound_sheets, counted_sheets, large_table_sheets,
+                      random_sheets)
+from grammar import constraint_text
+from intervals import deepest_back, deepest_reach, firsts, untils
+from limits import SITUATIONS, STEP_REFUSED
+from normal_form import entry_texts, normal_form, normal_form_of
+from reading import letter_count
+from sluice import sluice_output
+from spellings import spelling_sheets
+from step import move
+from step_cases import step_cases
+
+DEFAULT_DIRECTORY = Path(__file__).resolve().parent.parent / "vectors"
+SEED = 1
+RANDOM_SHEETS = 400
+# Of the drawn sheets, one in so many has normal forms.
+NORMAL_STRIDE = 3
+DAMAGED_EACH = 16
+STEPS = 160
+# Drawn sheets with larger tables are left out, to keep the files short.
+RANDOM_ENTRIES = 600
+
+
+def chosen_sheets():
+    """Sheets with vectors for many row counts and with a normal form."""
+    return ([(wanted.name, wanted.sheet) for wanted in EXAMPLES]
+            + [(name, text) for name, _, text in bound_sheets()]
+            + counted_sheets() + large_table_sheets())
+
+
+def drawn_sheets():
+    """Sheets with vectors for few row counts."""
+    return (random_sheets(SEED, RANDOM_SHEETS)
+            + [(name, text) for name, _, text in spelling_sheets()]
+            + damaged_sheets(SEED, DAMAGED_EACH))
+
+
+def is_small(analysis):
+    table = analysis.table
+    return (table is None
+            or len(table.entries) * len(table.entries[0]) <= RANDOM_ENTRIES)
+
+
+def analysed(sheets):
+    return [(name, text, analyse(text, SITUATIONS)) for name, text in sheets]
+
+
+def sheet_vector(name, text, analysis):
+    vector = {"name": name, "sheet": text.decode("latin-1"),
+              "refusal": analysis.refusal,
+              "sluice": sluice_output(analysis).decode()}
+    if analysis.refusal:
+        return vector
+    sheet = analysis.sheet
+    compiled = compile_analysed(analysis, SITUATIONS)
+    counted = analysis.situations is not None
+    vector.update({
+        "names": sheet.names, "lows": sheet.lows, "highs": sheet.highs,
+        "letters": letter_count(sheet),
+        "untils": len(untils(sheet.constraints)),
+        "firsts": len(firsts(sheet.constraints)),
+        "D": deepest_reach(sheet.constraints),
+        "B": deepest_back(sheet.constraints),
+        "constraints": [constraint_text(constraint)
+                        for constraint in sheet.constraints],
+        "situations": analysis.situations if counted else ">%d" % SITUATIONS,
+        "states": compiled.states, "entries": compiled.entries,
+        "finals": compiled.finals})
+    return vector
+
+
+def row_counts(analysis, is_chosen):
+    """The rows lent: exactly enough, one too few, and round numbers."""
+    counts = {4096}
+    if analysis.situations is not None:
+        counts |= {analysis.situations - 1, analysis.situations}
+    if is_chosen and not analysis.refusal:
+        counts |= {0, 1, 255, 256, 4095, 4097, 65535, 2 ** 32}
+        if analysis.situations is not None:
+            counts.add(analysis.situations + 1)
+    return sorted(counts)
+
+
+def compile_vectors(name, analysis, is_chosen):
+    vectors = []
+    for rows in row_counts(analysis, is_chosen):
+        compiled = compile_analysed(analysis, rows)
+        vectors.append({"name": name, "rows": rows,
+                        "refusal": compiled.refusal,
+                        "states": compiled.states,
+                        "situations": compiled.situations})
+    return vectors
+
+
+def normal_vectors(name, text, analysis):
+    """Lists exactly long enough, one too short, empty and longer."""
+    lengths = {0, 1000}
+    if not analysis.refusal:
+        enough = len(normal_form_of(analysis.sheet).entries)
+        lengths |= {enough, max(0, enough - 1)}
+    vectors = []
+    for length in sorted(lengths):
+        result = normal_form(text, length)
+        vectors.append({"name": name, "list": length,
+                        "refusal": result.refusal,
+                        "entries": entry_texts(result.entries),
+                        "added": result.added})
+    return vectors
+
+
+def step_vector(case):
+    answer, place = move(case.table, case.letters, case.place, case.letter)
+    return {"table": case.table.hex(), "letters": case.letters,
+            "state": case.place.state, "letter": case.letter,
+            "answer": answer,
+            "place": {"before": list(case.place), "after": list(place)}}
+
+
+def write_lines(directory, name, vectors):
+    lines = [json.dumps(vector, sort_keys=True) for vector in vectors]
+    (directory / name).write_text("".join(line + "\n" for line in lines))
+
+
+def print_counts(title, refusals):
+    counts = Counter(refusals)
+    print("%s: %d" % (title, sum(counts.values())))
+    print("  " + ", ".join("refusal %d: %d" % item
+                           for item in sorted(counts.items())))
+
+
+def main(directory):
+    directory.mkdir(parents=True, exist_ok=True)
+    chosen = analysed(chosen_sheets())
+    drawn = [case for case in analysed(drawn_sheets()) if is_small(case[2])]
+    sheets = [sheet_vector(*case) for case in chosen + drawn]
+    compiles = [vector for cases, is_chosen in ((chosen, True), (drawn, False))
+                for name, _, analysis in cases
+                for vector in compile_vectors(name, analysis, is_chosen)]
+    normals = [vector for case in chosen + drawn[::NORMAL_STRIDE]
+               for vector in normal_vectors(*case)]
+    steps = [step_vector(case) for case in step_cases(SEED, STEPS)]
+    for name, vectors in (("sheets", sheets), ("compile", compiles),
+                          ("normal", normals), ("step", steps)):
+        write_lines(directory, name + ".jsonl", vectors)
+    print_counts("sheets", (vector["refusal"] for vector in sheets))
+    print_counts("compiles", (vector["refusal"] for vector in compiles))
+    print_counts("normal forms", (vector["refusal"] for vector in normals))
+    print_counts("steps", (max(0, vector["answer"] - STEP_REFUSED)
+                           for vector in steps))
+
+
+if __name__ == "__main__":
+    main(Path(sys.argv[1]) if len(sys.argv) > 1 else DEFAULT_DIRECTORY)
