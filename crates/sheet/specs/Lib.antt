@@ -3,3 +3,5 @@ pub mod Grammar
 pub mod Form
 pub mod Refusal
 pub mod Parser
+pub mod Reading
+pub mod Accepted

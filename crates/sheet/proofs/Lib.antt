@@ -1,0 +1,10 @@
+pub mod Vocabulary
+pub mod Grammar
+pub mod Parser
+pub mod Balance
+pub mod BracketBytes
+pub mod Form
+pub mod Refusal
+pub mod Reading
+pub mod Accepted
+mod Examples

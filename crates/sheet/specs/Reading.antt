@@ -1,0 +1,149 @@
+-- An executable reading of a text: the tests behind refusals 1 to 7 in document 01's order ("The lowest that applies to the whole sheet is
+-- given"), and the sheet. The laws of proofs/ show that it gives the one answer.
+use Prim.Native.Nat.{ℕ, _+_}
+use mathlib.Core.Bool.{Bool, true, false, not, cond, _&&_, _||_}
+use mathlib.Core.List.{List, [], _∷_, _++_}
+use mathlib.Core.Option.{Option, some, none}
+use lib.Dec.{leb, ltb, eqb}
+use lib.IntN.{ℤ, pos, negℤ, natAbs}
+use lib.ListN.{length}
+use lib.Signed.{leZ, ltZ}
+use Rattle.text.specs.Bytes.{Token, lines, tokens}
+use Rattle.text.specs.Token.{isOneOf, isName, isInteger, integerValue, isReserved}
+use Rattle.meaning.specs.Arithmetic.{Arithmetic, Interval}
+use Rattle.meaning.specs.Expression.{Expression, integer, name, first, next, negation, binary, conditional, fby, Constraint, leftSide, rightSide, Stream, Sheet}
+use Rattle.meaning.specs.Interval.{interval, subexpressions}
+use Rattle.meaning.specs.Letter.{letterCount}
+use Rattle.meaning.specs.Window.{joinOver, allFirsts, allUntils, B, D}
+use Rattle.sheet.specs.Form.{Layout, lineTokens, constraintLines, namesOf}
+use Rattle.sheet.specs.Refusal.{byteBound, streamBound, constraintBound, tokenBound, bracketBound, magnitudeBound, letterBound, untilBound, firstBound, windowBound, isAllowed, tokenCount, Answer, refused, sheet}
+use Rattle.sheet.specs.Parser.{andThen, parseConstraint}
+
+-- Some element passes the test.
+abbrev pub anyOf : {X : Type 0} → (X → Bool) → List X → Bool
+anyOf f [] = false
+anyOf f (x ∷ xs) = f x || anyOf f xs
+
+-- "1: too many bytes, or a byte other than 10 and 32 to 126."
+unfoldable pub refuses1 : List ℕ → Bool
+refuses1 text = ltb byteBound (length text) || anyOf (λ b. not (isAllowed b)) text
+
+-- At some place of the bytes, after o opening and c closing brackets, there are more than 32 more `(` than `)`.
+unfoldable pub tooDeepFrom : ℕ → ℕ → List ℕ → Bool
+tooDeepFrom o c [] = ltb (bracketBound + c) o
+tooDeepFrom o c (b ∷ bs) = ltb (bracketBound + c) o || tooDeepFrom (o + cond (eqb b 40) 1 0) (c + cond (eqb b 41) 1 0) bs
+
+-- "2: over 8 tokens in line 1, 32 lines after line 3, 1,024 tokens in them, or, up to some place in one of them, more than 32 more `(` than `)`."
+unfoldable pub refuses2 : Layout → List ℕ → Bool
+refuses2 L text =
+    ltb streamBound (length (lineTokens text (L .namesLine)))
+    || ltb constraintBound (length (constraintLines L text))
+    || ltb tokenBound (tokenCount (constraintLines L text))
+    || anyOf (tooDeepFrom 0 0) (constraintLines L text)
+
+-- The streams that the tokens of the three header lines give.
+abbrev pub streamFrom : Token → Token → Token → Stream
+streamFrom n l h = record { name = n; range = record { low = integerValue l; high = integerValue h } }
+
+unfoldable pub streamsFrom : List Token → List Token → List Token → Option (List Stream)
+streamsFrom [] [] [] = some []
+streamsFrom [] [] (h ∷ hs) = none
+streamsFrom [] (l ∷ ls) hs = none
+streamsFrom (n ∷ ns) [] hs = none
+streamsFrom (n ∷ ns) (l ∷ ls) [] = none
+streamsFrom (n ∷ ns) (l ∷ ls) (h ∷ hs) =
+    let others = andThen (streamsFrom ns ls hs) (λ ss. some (streamFrom n l h ∷ ss)) in
+    cond (isName n && isInteger l && isInteger h) others none
+
+-- The constraints that the lines give.
+unfoldable pub constraintsOf : List Token → List (List ℕ) → Option (List Constraint)
+constraintsOf names [] = some []
+constraintsOf names (l ∷ ls) = andThen (parseConstraint names (tokens l)) (λ c. andThen (constraintsOf names ls) (λ cs. some (c ∷ cs)))
+
+-- The sheet of these streams, at least one, and of the constraints that the lines give.
+abbrev pub sheetFrom : List (List ℕ) → List Stream → Option Sheet
+sheetFrom ls [] = none
+sheetFrom ls (s ∷ ss) = andThen (constraintsOf (namesOf (s ∷ ss)) ls) (λ cs. some (record { streams = s ∷ ss; constraints = cs }))
+
+-- The sheet that the text has the form of.
+unfoldable pub formOf : Layout → List ℕ → Option Sheet
+formOf L text =
+    let read : Option Sheet = andThen (streamsFrom (lineTokens text (L .namesLine)) (lineTokens text (L .lowsLine)) (lineTokens text (L .highsLine))) (sheetFrom (constraintLines L text)) in
+    cond (leb (L .constraintsFrom) (length (lines text))) read none
+
+-- No token stands twice in the list.
+abbrev pub areDistinct : List Token → Bool
+areDistinct [] = true
+areDistinct (t ∷ ts) = not (isOneOf ts t) && areDistinct ts
+
+-- Every name in the expression is one of the first n streams.
+abbrev pub namesBelow : ℕ → Expression → Bool
+namesBelow n (integer z) = true
+namesBelow n (name k) = ltb k n
+namesBelow n (first e) = namesBelow n e
+namesBelow n (next e) = namesBelow n e
+namesBelow n (negation e) = namesBelow n e
+namesBelow n (binary o a b) = namesBelow n a && namesBelow n b
+namesBelow n (conditional c a b) = namesBelow n c && (namesBelow n a && namesBelow n b)
+namesBelow n (fby a b) = namesBelow n a && namesBelow n b
+
+abbrev pub sidesBelow : ℕ → Constraint → Bool
+sidesBelow n c = namesBelow n (leftSide c) && namesBelow n (rightSide c)
+
+-- "4: a name given twice, reserved, or unknown in a constraint."
+unfoldable pub refuses4 : Sheet → Bool
+refuses4 s =
+    not (areDistinct (namesOf (s .streams)))
+    || anyOf isReserved (namesOf (s .streams))
+    || anyOf (λ c. not (sidesBelow (length (s .streams)) c)) (s .constraints)
+
+-- Every expression on a side of one of the constraints, whole or inside.
+abbrev pub allExpressions : List Constraint → List Expression
+allExpressions cs = joinOver (λ c. subexpressions (leftSide c) ++ subexpressions (rightSide c)) cs
+
+abbrev pub isBeyond : ℤ → Bool
+isBeyond z = ltb magnitudeBound (natAbs z)
+
+abbrev pub isIntegerBeyond : Expression → Bool
+isIntegerBeyond (integer z) = isBeyond z
+isIntegerBeyond (name k) = false
+isIntegerBeyond (first e) = false
+isIntegerBeyond (next e) = false
+isIntegerBeyond (negation e) = false
+isIntegerBeyond (binary o a b) = false
+isIntegerBeyond (conditional c a b) = false
+isIntegerBeyond (fby a b) = false
+
+abbrev pub isRangeFaulty : Stream → Bool
+isRangeFaulty x = isBeyond (x .range .low) || isBeyond (x .range .high) || ltZ (x .range .high) (x .range .low)
+
+-- "5: an integer beyond the magnitude bound, or a low above its high."
+unfoldable pub refuses5 : Sheet → Bool
+refuses5 s = anyOf isRangeFaulty (s .streams) || anyOf isIntegerBeyond (allExpressions (s .constraints))
+
+abbrev pub inBounds : Interval → Bool
+inBounds I = leZ (negℤ (pos magnitudeBound)) (I .low) && leZ (I .high) (pos magnitudeBound)
+
+-- "6: an expression's interval leaves ±1,000,000,000."
+unfoldable pub refuses6 : Arithmetic → Sheet → Bool
+refuses6 A s = anyOf (λ e. not (inBounds (interval A (s .streams) e))) (allExpressions (s .constraints))
+
+-- "7: letters, untils, firsts or D+B over the bound."
+unfoldable pub refuses7 : Sheet → Bool
+refuses7 s =
+    ltb letterBound (letterCount (s .streams))
+    || ltb untilBound (length (allUntils (s .constraints)))
+    || ltb firstBound (length (allFirsts (s .constraints)))
+    || ltb windowBound (D (s .constraints) + B (s .constraints))
+
+-- The answer to a text that has the form of the sheet.
+unfoldable pub answerToSheet : Arithmetic → Sheet → Answer
+answerToSheet A s = cond (refuses4 s) (refused 4) (cond (refuses5 s) (refused 5) (cond (refuses6 A s) (refused 6) (cond (refuses7 s) (refused 7) (sheet s))))
+
+abbrev pub answerToForm : Arithmetic → Option Sheet → Answer
+answerToForm A none = refused 3
+answerToForm A (some s) = answerToSheet A s
+
+-- The answer to a text.
+unfoldable pub answerTo : Arithmetic → Layout → List ℕ → Answer
+answerTo A L text = cond (refuses1 text) (refused 1) (cond (refuses2 L text) (refused 2) (answerToForm A (formOf L text)))

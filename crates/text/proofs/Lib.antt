@@ -1,0 +1,4 @@
+pub mod Reflects
+pub mod Token
+pub mod Bytes
+mod Examples
