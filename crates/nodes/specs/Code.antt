@@ -1,0 +1,33 @@
+-- The numbers by which stored nodes and constraints name what they are.
+use Prim.Native.Nat.{ℕ, _+_}
+use Rattle.meaning.specs.Value.{Comparison, less, atMost, equal, atLeast, greater, different}
+use Rattle.meaning.specs.Arithmetic.{Operator, add, subtract, multiply, divide, remainder, compare, and, or}
+use Rattle.meaning.specs.Expression.{Sign, comparison, implies, Constraint, always, until}
+
+abbrev pub comparisonCode : Comparison → ℕ
+comparisonCode less = 0
+comparisonCode atMost = 1
+comparisonCode equal = 2
+comparisonCode atLeast = 3
+comparisonCode greater = 4
+comparisonCode different = 5
+
+-- A node's kind: 0 integer, 1 name, 2 first, 3 next, 4 not, 5 if, 6 fby, and from 7 on the operators in the order in which document 01 lists them.
+abbrev pub operatorCode : Operator → ℕ
+operatorCode add = 7
+operatorCode subtract = 8
+operatorCode multiply = 9
+operatorCode divide = 10
+operatorCode remainder = 11
+operatorCode (compare c) = 12 + comparisonCode c
+operatorCode and = 18
+operatorCode or = 19
+
+-- A constraint's relation: 0 to 5 the comparison signs, 6 `->`, 7 `until`.
+abbrev pub signCode : Sign → ℕ
+signCode (comparison c) = comparisonCode c
+signCode implies = 6
+
+abbrev pub relationCode : Constraint → ℕ
+relationCode (always s a b) = signCode s
+relationCode (until a b) = 7
