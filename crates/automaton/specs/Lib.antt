@@ -1,0 +1,12 @@
+pub mod Words
+pub mod Solutions
+pub mod Table
+pub mod Stored
+pub mod Graph
+pub mod Fixpoints
+pub mod Rounds
+pub mod Numbering
+pub mod Situations
+pub mod Closure
+pub mod Construction
+pub mod Listed

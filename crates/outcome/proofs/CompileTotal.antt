@@ -1,0 +1,147 @@
+-- Every compile has an outcome, whatever the bytes and the room. From the answer to a text (sheet), the exploration of situations (meaning) and
+-- the table of their graph (proofs/SituationGraph).
+use Prim.Native.Nat.{ℕ, zero, suc, _+_, _-_, _*_, _/_, _≤_, _<_, min}
+use native.Mathlib.Omega.{arith}
+use native.Mathlib.Nat.{div-add-mod', mul-le-mul-right}
+use native.Mathlib.Decide.{decLe}
+use mathlib.Core.Path.{_≡_, refl, sym, _∙_, ap, subst}
+use mathlib.Core.Logic.{_⊎_, inl, inr}
+use mathlib.Core.List.{List, [], _∷_, _++_}
+use lib.ListN.{length, getD, take, drop, length-append, length-replicate, List·getD-append}
+use lib.Seq.{length-take-le, getD-take, drop-at}
+use Rattle.automaton.specs.Solutions.{NoSolution}
+use Rattle.automaton.specs.Table.{no-state, SameRows}
+use Rattle.automaton.specs.Stored.{StoredTable, HasTable, entry-at, final-at}
+use Rattle.automaton.proofs.Places.{place-before}
+use Rattle.automaton.proofs.Transfer.{rows-table}
+use Rattle.meaning.specs.Value.{Streams}
+use Rattle.meaning.specs.Arithmetic.{Arithmetic}
+use Rattle.meaning.specs.Expression.{Sheet, Solution}
+use Rattle.meaning.specs.Letter.{letterCount, SolutionWord}
+use Rattle.meaning.specs.Situation.{SituationCount, MoreSituations}
+use Rattle.meaning.proofs.Scope.{NamesKnown}
+use Rattle.meaning.proofs.Word.{spelled-once, solution-word}
+use Rattle.meaning.proofs.Exploration.{Situation-discrete, counted-or-more}
+use Rattle.sheet.specs.Form.{Layout}
+use Rattle.sheet.specs.Refusal.{Answer, refused, sheet, AnswerTo}
+use Rattle.sheet.specs.Reading.{answerTo}
+use Rattle.sheet.proofs.Reading.{answer-correct}
+use Rattle.sheet.proofs.Accepted.{accepted-facts}
+use Rattle.outcome.specs.Room.{Lent, rowsHeld, fewestRows, zeros, zeroTables}
+use Rattle.outcome.specs.Compile.{CompileAnswer, refusedBy, Room, roomRows, Tables, allZero, HoldsTable, Explorable, CompileOutcome, unread, tooManySituations, tooFewRows, noSolution, compiled, situationBound}
+use Rattle.outcome.proofs.SituationGraph.{table-or-no-word}
+use Rattle.outcome.proofs.StateCount.{states-at-most-situations}
+
+-- ---- the rows that the tables hold fit them
+
+fewest-first : (t : Lent) (ts : List Lent) → fewestRows t ts ≤ rowsHeld t
+fewest-first t [] = omega arith
+fewest-first t (u ∷ us) = omega arith
+
+fewest-second : (t u : Lent) (us : List Lent) → fewestRows t (u ∷ us) ≤ rowsHeld u
+fewest-second t u us = let h = fewest-first u us in omega arith
+
+rows-fit : (n k size : ℕ) → n ≤ size / k → n * k ≤ size
+rows-fit n k size h = let l = mul-le-mul-right k h in omega (arith, div-add-mod' size k, l)
+
+-- ---- the first N numbers of a list, and zeros up to a size
+
+padded : ℕ → ℕ → List ℕ → List ℕ
+padded N size l = take N l ++ zeros (size - N)
+
+module _ (N size : ℕ) (l : List ℕ) (enough : N ≤ length l) (fits : N ≤ size) where
+  padded-length : length (padded N size l) ≡ size
+  unfolding padded
+  padded-length = omega (arith, length-append (take N l) (zeros (size - N)), length-take-le N l enough, length-replicate {A = ℕ} (size - N) 0)
+
+  padded-beyond : drop N (padded N size l) ≡ zeros (size - N)
+  unfolding padded
+  padded-beyond = drop-at (take N l) (zeros (size - N)) N (length-take-le N l enough)
+
+  padded-below : (i : ℕ) → i < N → getD (padded N size l) i 0 ≡ getD l i 0
+  unfolding padded
+  padded-below i h = List·getD-append (take N l) (zeros (size - N)) 0 i (omega (arith, length-take-le N l enough)) ∙ getD-take N l i 0 h
+
+module _ (A : Arithmetic) (s : Sheet) (room : Room) where
+  abbrev k : ℕ
+  k = letterCount (s .streams)
+
+  -- A table that fits the room can be held in it.
+  holds-padded : {n : ℕ} {entries finals : List ℕ} → StoredTable (SolutionWord A s) k n entries finals → n * k ≤ room .entries → n ≤ room .finals
+      → HoldsTable A s room n (record { entries = padded (n * k) (room .entries) entries; finals = padded n (room .finals) finals; work = zeroTables (room .work) })
+  holds-padded {n} {entries} {finals} t fe ff =
+      let es = padded (n * k) (room .entries) entries in
+      let fs = padded n (room .finals) finals in
+      let same : SameRows k n (entry-at k entries) (final-at finals) n (entry-at k es) (final-at fs) =
+      record {
+        states = refl;
+        entries = λ i a hi ha. sym (padded-below (n * k) (room .entries) entries (t .entries-fit) fe (i * k + a) (omega (arith, place-before k i a n 0 ha (inl hi))));
+        finals = λ i hi. sym (padded-below n (room .finals) finals (t .finals-fit) ff i hi);
+      } in
+      record {
+        entriesSize = padded-length (n * k) (room .entries) entries (t .entries-fit) fe;
+        finalsSize = padded-length n (room .finals) finals (t .finals-fit) ff;
+        table =
+            record {
+              entries-fit = omega (arith, padded-length (n * k) (room .entries) entries (t .entries-fit) fe);
+              finals-fit = omega (arith, padded-length n (room .finals) finals (t .finals-fit) ff);
+              table = rows-table same (t .table);
+            };
+        entriesBeyond = padded-beyond (n * k) (room .entries) entries (t .entries-fit) fe;
+        finalsBeyond = padded-beyond n (room .finals) finals (t .finals-fit) ff;
+        workZero = refl;
+      }
+
+-- An outcome, whatever its numbers and contents.
+pub record HasOutcome (A : Arithmetic) (L : Layout) (text : List ℕ) (room : Room) : Type 0 where
+  pub answer : CompileAnswer
+  pub tables : Tables
+  pub outcome : CompileOutcome A L text room answer tables
+
+module _ (A : Arithmetic) (L : Layout) (text : List ℕ) (room : Room) where
+  -- No word is a solution, so no streams are.
+  no-streams : {s : Sheet} → AnswerTo A L text (sheet s) → NoSolution (letterCount (s .streams)) (SolutionWord A s) → (w : Streams) → Solution A s w → ⊥
+  no-streams {s} r f w x =
+      let known : NamesKnown s = record { sides = accepted-facts r .namesKnown } in
+      let p = spelled-once (s .streams) w (x .ranged) in
+      f (p .word) (p .spells .letters) (solution-word A known (p .spells) .1 x)
+
+  explorable-outcome : {s : Sheet} {m : ℕ} → Explorable A L text room s m → HasOutcome A L text room
+  explorable-outcome {s} {m} e = go (table-or-no-word Situation-discrete A s (e .counted) (omega (arith, e .withinBound)))
+    where
+      go : HasTable (SolutionWord A s) (letterCount (s .streams)) ⊎ NoSolution (letterCount (s .streams)) (SolutionWord A s) → HasOutcome A L text room
+      go (inl t) =
+          let n = t .states in
+          let le : n ≤ m = states-at-most-situations A s (t .stored .table) (e .counted) in
+          let rows = e .withinRoom in
+          let one = fewest-first (record { perRow = letterCount (s .streams); size = room .entries }) (record { perRow = 1; size = room .finals } ∷ room .work) in
+          let two = fewest-second (record { perRow = letterCount (s .streams); size = room .entries }) (record { perRow = 1; size = room .finals }) (room .work) in
+          let fe : n * letterCount (s .streams) ≤ room .entries = rows-fit n (letterCount (s .streams)) (room .entries) (omega arith) in
+          let ff : n * 1 ≤ room .finals = rows-fit n 1 (room .finals) (omega arith) in
+          record { answer = _; tables = _; outcome = compiled e (holds-padded A s room (t .stored) fe (omega arith)) }
+      go (inr f) = record { answer = _; tables = _; outcome = noSolution e (no-streams (e .read) f) }
+
+  read-outcome : {s : Sheet} → AnswerTo A L text (sheet s) → HasOutcome A L text room
+  read-outcome {s} r = go (decLe situationBound rows)
+    where
+      rows : ℕ
+      rows = roomRows room (letterCount (s .streams))
+
+      many : situationBound ≤ rows → ((m : ℕ) × (m ≤ situationBound) × SituationCount A s m) ⊎ MoreSituations A s situationBound → HasOutcome A L text room
+      many h (inl c) = explorable-outcome (record { read = r; counted = c .2; withinBound = c .1; withinRoom = omega (arith, c .1, h) })
+      many h (inr x) = record { answer = _; tables = _; outcome = tooManySituations r h x }
+
+      few : rows < situationBound → ((m : ℕ) × (m ≤ rows) × SituationCount A s m) ⊎ MoreSituations A s rows → HasOutcome A L text room
+      few h (inl c) = explorable-outcome (record { read = r; counted = c .2; withinBound = omega (arith, c .1, h); withinRoom = c .1 })
+      few h (inr x) = record { answer = _; tables = _; outcome = tooFewRows r h x }
+
+      go : Dec (situationBound ≤ rows) → HasOutcome A L text room
+      go (yes h) = many h (counted-or-more A s situationBound)
+      go (no h) = few (omega arith) (counted-or-more A s rows)
+
+  pub compile-total : HasOutcome A L text room
+  compile-total = go (answerTo A L text) (answer-correct A L text)
+    where
+      go : (a : Answer) → AnswerTo A L text a → HasOutcome A L text room
+      go (refused n) r = record { answer = _; tables = _; outcome = unread r }
+      go (sheet s) r = read-outcome r

@@ -1,0 +1,5 @@
+pub mod SheetWords
+pub mod SituationGraph
+pub mod CompileUnique
+pub mod StateCount
+pub mod CompileTotal

@@ -1,0 +1,7 @@
+pub mod Reflects
+pub mod Refusals
+pub mod Answers
+pub mod Places
+pub mod Paths
+pub mod Compiled
+pub mod Examples

@@ -1,0 +1,4 @@
+pub mod Step
+pub mod RunningPlace
+pub mod Executable
+pub mod Followed
