@@ -20,7 +20,7 @@ use Rattle.meaning.specs.Situation.{SituationCount, MoreSituations}
 use Rattle.meaning.proofs.Count.{count-unique, count-excludes-more}
 use Rattle.sheet.specs.Form.{Layout}
 use Rattle.sheet.specs.Refusal.{Answer, refused, sheet, AnswerTo}
-use Rattle.sheet.proofs.Reading.{answer-complete}
+use Rattle.outcome.proofs.Answers.{one-number, one-sheet, refused≢sheet}
 use Rattle.outcome.specs.Room.{Lent, zeros, zeroTables}
 use Rattle.outcome.specs.Compile.{CompileAnswer, refusedBy, Room, roomRows, Tables, allZero, HoldsTable, Explorable, CompileOutcome, unread, tooManySituations, tooFewRows, noSolution, compiled, situationBound}
 
@@ -101,23 +101,11 @@ module _ (A : Arithmetic) (L : Layout) (text : List ℕ) (room : Room) where
   split (noSolution e f) = wasRead (e .read) (nothing (e .counted) (e .withinBound) (e .withinRoom) f)
   split (compiled e h) = wasRead (e .read) (table (e .counted) (e .withinBound) (e .withinRoom) h)
 
-  one-answer : {a b : Answer} → AnswerTo A L text a → AnswerTo A L text b → a ≡ b
-  one-answer r r′ = sym (answer-complete r) ∙ answer-complete r′
-
-  refused-injective : {n m : ℕ} → refused n ≡ refused m → n ≡ m
-  refused-injective e = cc
-
-  sheet-injective : {s s′ : Sheet} → sheet s ≡ sheet s′ → s ≡ s′
-  sheet-injective e = cc
-
-  refused≢sheet : {n : ℕ} {s : Sheet} → refused n ≡ sheet s → ⊥
-  refused≢sheet e = let z : _≡_ {A = ℕ} 0 1 = cc in omega arith
-
   pub compile-unique : {a b : CompileAnswer} {t u : Tables} → CompileOutcome A L text room a t → CompileOutcome A L text room b u → (a ≡ b) × (t ≡ u)
   compile-unique {a} {b} {t} {u} x y = go (split x) (split y)
     where
       go : Split a t → Split b u → (a ≡ b) × (t ≡ u)
-      go (notRead r e z) (notRead r′ e′ z′) = (e ∙ ap refusedBy (refused-injective (one-answer r r′)) ∙ sym e′, z ∙ sym z′)
-      go (notRead r e z) (wasRead r′ o) = absurd (refused≢sheet (one-answer r r′))
-      go (wasRead r o) (notRead r′ e z) = absurd (refused≢sheet (one-answer r′ r))
-      go (wasRead {s} r o) (wasRead r′ o′) = sheet-unique A s room o (subst (λ q. SheetOutcome A q room b u) (sym (sheet-injective (one-answer r r′))) o′)
+      go (notRead r e z) (notRead r′ e′ z′) = (e ∙ ap refusedBy (one-number r r′) ∙ sym e′, z ∙ sym z′)
+      go (notRead r e z) (wasRead r′ o) = absurd (refused≢sheet r r′)
+      go (wasRead r o) (notRead r′ e z) = absurd (refused≢sheet r′ r)
+      go (wasRead {s} r o) (wasRead r′ o′) = sheet-unique A s room o (subst (λ q. SheetOutcome A q room b u) (one-sheet r′ r) o′)

@@ -1,5 +1,7 @@
+pub mod Answers
 pub mod SheetWords
 pub mod SituationGraph
 pub mod CompileUnique
 pub mod StateCount
 pub mod CompileTotal
+pub mod NormalForm

@@ -23,13 +23,16 @@ module _ {E : Type 0} (blank : E) (encoded : List ℕ → Sheet → List E) wher
   abbrev pub entryCount : Arithmetic → Sheet → ℕ
   entryCount A s = length (normalForm A s .constraints)
 
+  abbrev pub givenAnswer : Arithmetic → Sheet → NormalAnswer
+  givenAnswer A s = record { refusal = 0; entries = entryCount A s; added = length (normalForm A s .streams) - length (s .streams) }
+
+  -- "Room [..] in a list beyond what is given, is zero".
+  abbrev pub givenList : Arithmetic → List ℕ → ℕ → Sheet → List E
+  givenList A text room s = encoded text s ++ replicate (room - entryCount A s) blank
+
   -- "The normal form can meet 1 to 7 and 10, and leaves its list zero."
   pub data NormalOutcome (A : Arithmetic) (L : Layout) (text : List ℕ) (room : ℕ) : NormalAnswer → List E → Type 0 where
     unread : {n : ℕ} → AnswerTo A L text (refused n) → NormalOutcome A L text room (notGiven n) (replicate room blank)
     -- "10: [..] or the list for the normal form is shorter than its entries."
     tooShort : {s : Sheet} → AnswerTo A L text (sheet s) → room < entryCount A s → NormalOutcome A L text room (notGiven 10) (replicate room blank)
-    -- "Room [..] in a list beyond what is given, is zero".
-    given : {s : Sheet} → AnswerTo A L text (sheet s) → entryCount A s ≤ room
-        → NormalOutcome A L text room
-        (record { refusal = 0; entries = entryCount A s; added = length (normalForm A s .streams) - length (s .streams) })
-        (encoded text s ++ replicate (room - entryCount A s) blank)
+    given : {s : Sheet} → AnswerTo A L text (sheet s) → entryCount A s ≤ room → NormalOutcome A L text room (givenAnswer A s) (givenList A text room s)

@@ -1,0 +1,151 @@
+-- Tests that two values, letters or situations are equal, that compute, and that decide equality. The library's own decisions do not compute outside.
+use Prim.Native.Nat.{ℕ, suc}
+use mathlib.Core.Path.{_≡_, refl, ap, ap₂, subst, sym}
+use mathlib.Core.Bool.{Bool, true, false, not, _&&_, _||_}
+use mathlib.Core.HLevel.{Discrete}
+use mathlib.Core.List.{List, [], _∷_, List·Memᴰ, List·Memᴰ·head, List·Memᴰ·tail}
+use lib.Dec.{T, eqb, eqb→eq, eqb-refl, not-T, T-not}
+use lib.IntN.{ℤ, pos, negsuc}
+use Rattle.meaning.specs.Situation.{Situation, whole, cut, NoRepeats}
+
+abbrev pub sameInteger : ℤ → ℤ → Bool
+sameInteger (pos m) (pos n) = eqb m n
+sameInteger (pos m) (negsuc n) = false
+sameInteger (negsuc m) (pos n) = false
+sameInteger (negsuc m) (negsuc n) = eqb m n
+
+abbrev pub sameMark : Bool → Bool → Bool
+sameMark true b = b
+sameMark false b = not b
+
+abbrev pub sameList : {X : Type 0} → (X → X → Bool) → List X → List X → Bool
+sameList f [] [] = true
+sameList f [] (y ∷ ys) = false
+sameList f (x ∷ xs) [] = false
+sameList f (x ∷ xs) (y ∷ ys) = f x y && sameList f xs ys
+
+abbrev pub sameSituation : Situation → Situation → Bool
+sameSituation (whole r) (whole t) = sameList (sameList sameInteger) r t
+sameSituation (whole r) (cut t y n) = false
+sameSituation (cut r x m) (whole t) = false
+sameSituation (cut r x m) (cut t y n) = sameList (sameList sameInteger) r t && (sameList sameInteger x y && sameList sameMark m n)
+
+pub both : (a b : Bool) → T (a && b) → T a × T b
+both true b t = (tt, t)
+both false b t = absurd t
+
+joins : (a b : Bool) → T a → T b → T (a && b)
+joins true b s t = t
+joins false b s t = absurd s
+
+-- A test that decides equality.
+pub record Decides {X : Type 0} (f : X → X → Bool) : Type 0 where
+  pub sound : (x y : X) → T (f x y) → x ≡ y
+  pub reflexive : (x : X) → T (f x x)
+
+integers : Decides sameInteger
+integers = record { sound = sound; reflexive = reflexive }
+  where
+    sound : (x y : ℤ) → T (sameInteger x y) → x ≡ y
+    sound (pos m) (pos n) t = ap pos (eqb→eq m n t)
+    sound (pos m) (negsuc n) t = absurd t
+    sound (negsuc m) (pos n) t = absurd t
+    sound (negsuc m) (negsuc n) t = ap negsuc (eqb→eq m n t)
+
+    reflexive : (x : ℤ) → T (sameInteger x x)
+    reflexive (pos m) = eqb-refl m
+    reflexive (negsuc m) = eqb-refl m
+
+marks : Decides sameMark
+marks = record { sound = sound; reflexive = reflexive }
+  where
+    sound : (x y : Bool) → T (sameMark x y) → x ≡ y
+    sound true true t = refl
+    sound true false t = absurd t
+    sound false true t = absurd t
+    sound false false t = refl
+
+    reflexive : (x : Bool) → T (sameMark x x)
+    reflexive true = tt
+    reflexive false = tt
+
+pub lists : {X : Type 0} {f : X → X → Bool} → Decides f → Decides (sameList f)
+lists {X} {f} d = record { sound = sound; reflexive = reflexive }
+  where
+    sound : (x y : List X) → T (sameList f x y) → x ≡ y
+    sound [] [] t = refl
+    sound [] (y ∷ ys) t = absurd t
+    sound (x ∷ xs) [] t = absurd t
+    sound (x ∷ xs) (y ∷ ys) t = let p = both (f x y) (sameList f xs ys) t in ap₂ _∷_ (d .sound x y (p .0)) (sound xs ys (p .1))
+
+    reflexive : (x : List X) → T (sameList f x x)
+    reflexive [] = tt
+    reflexive (x ∷ xs) = joins (f x x) (sameList f xs xs) (d .reflexive x) (reflexive xs)
+
+situations : Decides sameSituation
+situations = record { sound = sound; reflexive = reflexive }
+  where
+    sound : (x y : Situation) → T (sameSituation x y) → x ≡ y
+    sound (whole r) (whole t) h = ap whole (lists (lists integers) .sound r t h)
+    sound (whole r) (cut t y n) h = absurd h
+    sound (cut r x m) (whole t) h = absurd h
+    sound (cut r x m) (cut t y n) h =
+        let p = both (sameList (sameList sameInteger) r t) (sameList sameInteger x y && sameList sameMark m n) h in
+        let q = both (sameList sameInteger x y) (sameList sameMark m n) (p .1) in
+        λ i. cut (lists (lists integers) .sound r t (p .0) i) (lists integers .sound x y (q .0) i) (lists marks .sound m n (q .1) i)
+
+    reflexive : (x : Situation) → T (sameSituation x x)
+    reflexive (whole r) = lists (lists integers) .reflexive r
+    reflexive (cut r x m) =
+        joins (sameList (sameList sameInteger) r r) (sameList sameInteger x x && sameList sameMark m m) (lists (lists integers) .reflexive r)
+        (joins (sameList sameInteger x x) (sameList sameMark m m) (lists integers .reflexive x) (lists marks .reflexive m))
+
+pub sameSituation-sound : (x y : Situation) → T (sameSituation x y) → x ≡ y
+sameSituation-sound x y t = situations .sound x y t
+
+pub sameSituation-complete : (x y : Situation) → x ≡ y → T (sameSituation x y)
+sameSituation-complete x y e = subst (λ z. T (sameSituation x z)) e (situations .reflexive x)
+
+-- The decision that computes.
+abbrev pub decideBy : {x y : Situation} (b : Bool) → sameSituation x y ≡ b → Dec (x ≡ y)
+decideBy {x} {y} true e = yes (sameSituation-sound x y (subst T (sym e) tt))
+decideBy {x} {y} false e = no (λ q. subst T e (sameSituation-complete x y q))
+
+abbrev pub decideSituation : Discrete Situation
+decideSituation x y = decideBy {x = x} {y = y} (sameSituation x y) refl
+
+-- The situation is one of the list.
+abbrev pub isMember : Situation → List Situation → Bool
+isMember x [] = false
+isMember x (y ∷ ys) = sameSituation x y || isMember x ys
+
+pub isMember-sound : (x : Situation) (l : List Situation) → T (isMember x l) → List·Memᴰ x l
+isMember-sound x [] t = absurd t
+isMember-sound x (y ∷ ys) t = go (sameSituation x y) refl t (isMember-sound x ys)
+  where
+    go : (b : Bool) → sameSituation x y ≡ b → T (b || isMember x ys) → (T (isMember x ys) → List·Memᴰ x ys) → List·Memᴰ x (y ∷ ys)
+    go true e t rest = List·Memᴰ·head (sameSituation-sound x y (subst T (sym e) tt))
+    go false e t rest = List·Memᴰ·tail (rest t)
+
+isMember-complete : (x : Situation) (l : List Situation) → List·Memᴰ x l → T (isMember x l)
+isMember-complete x (y ∷ ys) (List·Memᴰ·head e) = left (sameSituation x y) (isMember x ys) (sameSituation-complete x y e)
+  where
+    left : (a b : Bool) → T a → T (a || b)
+    left true b t = tt
+    left false b t = absurd t
+isMember-complete x (y ∷ ys) (List·Memᴰ·tail m) = right (sameSituation x y) (isMember x ys) (isMember-complete x ys m)
+  where
+    right : (a b : Bool) → T b → T (a || b)
+    right true b t = tt
+    right false b t = t
+
+-- The list has no repeats.
+abbrev pub hasNoRepeats : List Situation → Bool
+hasNoRepeats [] = true
+hasNoRepeats (x ∷ xs) = not (isMember x xs) && hasNoRepeats xs
+
+pub hasNoRepeats-sound : (l : List Situation) → T (hasNoRepeats l) → NoRepeats l
+hasNoRepeats-sound [] t = tt
+hasNoRepeats-sound (x ∷ xs) t =
+    let p = both (not (isMember x xs)) (hasNoRepeats xs) t in
+    (λ m. T-not (isMember x xs) (p .0) (isMember-complete x xs m), hasNoRepeats-sound xs (p .1))

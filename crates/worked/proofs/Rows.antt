@@ -1,0 +1,121 @@
+-- Each row of the worked sheets holds: a test that computes the answer to the text, the situations and the table of their graph, and one law
+-- that turns the test into what the row says.
+use Prim.Native.Nat.{ℕ, zero, suc, _≤_}
+use mathlib.Core.Path.{_≡_, refl, sym, _∙_, ap, subst}
+use mathlib.Core.Bool.{Bool, true, false, _&&_}
+use mathlib.Core.List.{List, [], _∷_, map, List·Memᴰ}
+use lib.Dec.{T, eqb, eqb→eq, eqb-refl, leb, leb→le}
+use lib.ListN.{length}
+use Rattle.automaton.specs.Table.{no-state}
+use Rattle.automaton.specs.Graph.{Graph, Language}
+use Rattle.automaton.specs.Construction.{Rows, answer, IsAnswer}
+use Rattle.automaton.specs.Construction as construction
+use Rattle.automaton.proofs.Construction.{answer-is}
+use Rattle.automaton.proofs.Equality.{stored-transfer}
+use Rattle.text.specs.Bytes.{bytesOf, lines, tokens}
+use Rattle.text.specs.Token.{isName, isNatural, isInteger, naturalFrom, integerValue, reservedWords, isReserved}
+use Rattle.meaning.specs.Value.{Streams}
+use Rattle.meaning.specs.Arithmetic.{cutTowardZero}
+use Rattle.meaning.specs.Expression.{Sheet, Solution, value}
+use Rattle.meaning.specs.Interval.{interval, subexpressions}
+use Rattle.meaning.specs.Letter.{letterCount, letterOf}
+use Rattle.meaning.specs.Window.{reach, back, firsts, B, D}
+use Rattle.meaning.specs.Evaluation.{windowValue, windowPermits, windowMarks, allowsLetter, situationAfter, successor, marksOf, allDone}
+use Rattle.meaning.specs.Situation.{all, SituationCount, done, permits, lawful, firstValues, untilMarks, situation}
+use Rattle.meaning.proofs.Scope.{NamesKnown}
+use Rattle.meaning.proofs.Word.{spelled-once, solution-word}
+use Rattle.sheet.specs.Form.{threeHeaderLines}
+use Rattle.sheet.specs.Refusal.{Answer, refused, sheet, AnswerTo}
+use Rattle.sheet.specs.Vocabulary.{operators, operatorOf, relations, relationOf, prefixes, prefixOf, placeOf}
+use Rattle.sheet.specs.Parser.{expressionBy, openingOf, partTo, parseConstraint}
+use Rattle.sheet.specs.Reading.{refuses1, tooDeepFrom, refuses2, streamsFrom, constraintsOf, formOf, refuses4, refuses5, refuses6, refuses7, answerToSheet, answerTo}
+use Rattle.sheet.proofs.Reading.{answer-correct}
+use Rattle.sheet.proofs.Accepted.{accepted-facts}
+use Rattle.outcome.proofs.SituationGraph.{placeIn, nodeSuccessor, situationGraph, startNode, situations-language}
+use Rattle.worked.specs.Rows.{Row, rows, Holds, compiles, refuses}
+use Rattle.worked.proofs.Equality.{both, sameList, lists, Decides, decideSituation}
+use Rattle.worked.proofs.Count.{explored, situationOf, countsSituations, counted}
+
+-- ---- the test
+
+abbrev found : Sheet → List (List ℕ)
+found s = explored cutTowardZero s 64 ([] ∷ []) ([] ∷ [])
+
+module _ (s : Sheet) (t : T (countsSituations cutTowardZero s (found s))) where
+  abbrev graph : Graph
+  graph = situationGraph decideSituation cutTowardZero s (counted cutTowardZero s (found s) t)
+
+  abbrev start : ℕ
+  start = startNode decideSituation cutTowardZero s (counted cutTowardZero s (found s) t)
+
+abbrev answerTest : Row → construction.Answer → Bool
+answerTest r construction.Answer.no-word = eqb (r .refusal) 9
+answerTest r (construction.Answer.table x) =
+    eqb (r .refusal) 0 && (eqb (x .states) (r .states) && (sameList eqb (x .entries) (r .entries) && sameList eqb (x .finals) (r .finals)))
+
+abbrev countedTest : (r : Row) (s : Sheet) (b : Bool) → countsSituations cutTowardZero s (found s) ≡ b → Bool
+countedTest r s true e =
+    let t = subst T (sym e) tt in
+    leb (graph s t .nodes) no-state && (eqb (length (map (situationOf cutTowardZero s) (found s))) (r .situations) && answerTest r (answer (graph s t) (start s t)))
+countedTest r s false e = false
+
+abbrev sheetTest : Row → Answer → Bool
+sheetTest r (refused n) = false
+sheetTest r (sheet s) = countedTest r s (countsSituations cutTowardZero s (found s)) refl
+
+abbrev rowTest : Row → Bool
+rowTest r = sheetTest r (answerTo cutTowardZero threeHeaderLines (bytesOf (r .text)))
+
+-- ---- what the test shows
+
+numbers : Decides eqb
+numbers = record { sound = λ x y t. eqb→eq x y t; reflexive = eqb-refl }
+
+module _ (r : Row) {s : Sheet} (read : AnswerTo cutTowardZero threeHeaderLines (bytesOf (r .text)) (sheet s)) where
+  module _ (t : T (countsSituations cutTowardZero s (found s))) (e : length (map (situationOf cutTowardZero s) (found s)) ≡ r .situations) where
+    count : SituationCount cutTowardZero s (r .situations)
+    count = subst (SituationCount cutTowardZero s) e (counted cutTowardZero s (found s) t)
+
+    answer-holds : (a : construction.Answer) → IsAnswer (graph s t) (start s t) a → T (answerTest r a) → Holds r
+    unfolding situationGraph
+    answer-holds construction.Answer.no-word n h =
+        refuses read count (eqb→eq (r .refusal) 9 h)
+        (λ w x.
+        let known : NamesKnown s = record { sides = accepted-facts read .namesKnown } in
+        let p = spelled-once (s .streams) w (x .ranged) in
+        n (p .word) (p .spells .letters)
+        (situations-language decideSituation cutTowardZero s (counted cutTowardZero s (found s) t) .from (p .word) (p .spells .letters) (solution-word cutTowardZero known (p .spells) .1 x)))
+    answer-holds (construction.Answer.table x) n h =
+        let p = both (eqb (r .refusal) 0) (eqb (x .states) (r .states) && (sameList eqb (x .entries) (r .entries) && sameList eqb (x .finals) (r .finals))) h in
+        let q = both (eqb (x .states) (r .states)) (sameList eqb (x .entries) (r .entries) && sameList eqb (x .finals) (r .finals)) (p .1) in
+        let u = both (sameList eqb (x .entries) (r .entries)) (sameList eqb (x .finals) (r .finals)) (q .1) in
+        let stored = stored-transfer (situations-language decideSituation cutTowardZero s (counted cutTowardZero s (found s) t)) n in
+        compiles read count (eqb→eq (r .refusal) 0 (p .0))
+        (rw (← eqb→eq (x .states) (r .states) (q .0), ← lists numbers .sound (x .entries) (r .entries) (u .0), ← lists numbers .sound (x .finals) (r .finals) (u .1)) stored)
+
+  counted-holds : (b : Bool) (e : countsSituations cutTowardZero s (found s) ≡ b) → T (countedTest r s b e) → Holds r
+  counted-holds true e h =
+      let t = subst T (sym e) tt in
+      let p = both (leb (graph s t .nodes) no-state) (eqb (length (map (situationOf cutTowardZero s) (found s))) (r .situations) && answerTest r (answer (graph s t) (start s t))) h in
+      let q = both (eqb (length (map (situationOf cutTowardZero s) (found s))) (r .situations)) (answerTest r (answer (graph s t) (start s t))) (p .1) in
+      answer-holds t (eqb→eq (length (map (situationOf cutTowardZero s) (found s))) (r .situations) (q .0)) (answer (graph s t) (start s t)) (answer-is (graph s t) (start s t) (leb→le (graph s t .nodes) no-state (p .0))) (q .1)
+  counted-holds false e h = absurd h
+
+row-holds : (r : Row) → T (rowTest r) → Holds r
+row-holds r h = go (answerTo cutTowardZero threeHeaderLines (bytesOf (r .text))) (answer-correct cutTowardZero threeHeaderLines (bytesOf (r .text))) h
+  where
+    go : (a : Answer) → AnswerTo cutTowardZero threeHeaderLines (bytesOf (r .text)) a → T (sheetTest r a) → Holds r
+    go (refused n) c h = absurd h
+    go (sheet s) c h = counted-holds r c (countsSituations cutTowardZero s (found s)) refl h
+
+all-rows : (l : List Row) → T (all rowTest l) → (r : Row) → List·Memᴰ r l → Holds r
+all-rows (x ∷ l) t r (List·Memᴰ.List·Memᴰ·head e) = subst Holds (sym e) (row-holds x (both (rowTest x) (all rowTest l) t .0))
+all-rows (x ∷ l) t r (List·Memᴰ.List·Memᴰ·tail m) = all-rows l (both (rowTest x) (all rowTest l) t .1) r m
+
+computed : T (all rowTest rows)
+unfolding lines tokens isName isNatural isInteger naturalFrom integerValue reservedWords isReserved interval subexpressions letterCount letterOf reach back firsts B D operators operatorOf relations relationOf prefixes prefixOf placeOf expressionBy openingOf partTo parseConstraint refuses1 tooDeepFrom refuses2 streamsFrom constraintsOf formOf refuses4 refuses5 refuses6 refuses7 answerToSheet answerTo value permits done lawful firstValues untilMarks situation windowValue windowPermits windowMarks allowsLetter situationAfter successor marksOf allDone placeIn nodeSuccessor situationGraph startNode rows
+computed = tt
+
+-- Every row of document 01's worked sheets holds.
+pub rows-hold : (r : Row) → List·Memᴰ r rows → Holds r
+rows-hold = all-rows rows computed

@@ -1,0 +1,55 @@
+-- The worked sheets of document 01 that are marked P, as rows of one table, and what a row says.
+use Prim.Native.Nat.{ℕ}
+use Prim.Native.String.{String}
+use mathlib.Core.Path.{_≡_}
+use mathlib.Core.List.{List, [], _∷_}
+use Rattle.automaton.specs.Stored.{StoredTable}
+use Rattle.text.specs.Bytes.{bytesOf}
+use Rattle.meaning.specs.Value.{Streams}
+use Rattle.meaning.specs.Arithmetic.{cutTowardZero}
+use Rattle.meaning.specs.Expression.{Sheet, Solution}
+use Rattle.meaning.specs.Letter.{letterCount, SolutionWord}
+use Rattle.meaning.specs.Situation.{SituationCount}
+use Rattle.sheet.specs.Form.{threeHeaderLines}
+use Rattle.sheet.specs.Refusal.{sheet, AnswerTo}
+
+-- A sheet's text, its refusal or 0, its numbers of states and of situations, and its used rows.
+pub record Row : Type 0 where
+  pub text : String
+  pub refusal : ℕ
+  pub states : ℕ
+  pub situations : ℕ
+  pub entries : List ℕ
+  pub finals : List ℕ
+
+abbrev pub none : ℕ
+none = 65535
+
+unfoldable pub rows : List Row
+rows =
+    -- P1, "one state"
+    record { text = "level gate\n0 0\n2 1\n( level ge 2 ) -> gate"; refusal = 0; states = 1; situations = 2; entries = 0 ∷ 0 ∷ 0 ∷ 0 ∷ none ∷ 0 ∷ []; finals = 1 ∷ [] }
+    -- P2, "9"
+    ∷ record { text = "x\n0\n1\nnext x == x + 1"; refusal = 9; states = 0; situations = 4; entries = []; finals = [] }
+    -- P3, "3 situations, 2 states; entries 0 1, then 1 1; only state 1 final."
+    ∷ record { text = "x\n0\n1\n1 until x"; refusal = 0; states = 2; situations = 3; entries = 0 ∷ 1 ∷ 1 ∷ 1 ∷ []; finals = 0 ∷ 1 ∷ [] }
+    -- P4, "entries 65535 1 0 1, then 1 1 1 1."
+    ∷ record { text = "x y\n0 0\n1 1\nx until y"; refusal = 0; states = 2; situations = 3; entries = none ∷ 1 ∷ 0 ∷ 1 ∷ 1 ∷ 1 ∷ 1 ∷ 1 ∷ []; finals = 0 ∷ 1 ∷ [] }
+    -- P5, "one state, final, entry 0."
+    ∷ record { text = "x\n0\n0"; refusal = 0; states = 1; situations = 2; entries = 0 ∷ []; finals = 1 ∷ [] }
+    -- P6, "4 situations, 2 states; entries 1 65535, then 65535 0; both final."
+    ∷ record { text = "x\n0\n1\nx == 0 fby ( 1 - x )"; refusal = 0; states = 2; situations = 4; entries = 1 ∷ none ∷ none ∷ 0 ∷ []; finals = 1 ∷ 1 ∷ [] }
+    -- P7, "the same table."
+    ∷ record { text = "x\n0\n1\nx >= 1"; refusal = 0; states = 1; situations = 2; entries = none ∷ 0 ∷ []; finals = 1 ∷ [] }
+    ∷ record { text = "x\n0\n1\nx != 0"; refusal = 0; states = 1; situations = 2; entries = none ∷ 0 ∷ []; finals = 1 ∷ [] }
+    -- P8, "9"
+    ∷ record { text = "x\n0\n1\n1 until 0"; refusal = 9; states = 0; situations = 2; entries = []; finals = [] }
+    ∷ []
+
+-- What a row says, about the definitions: none of refusals 1 to 7 applies to the text, its sheet has this number of situations, and the used
+-- rows are its table; or no solution exists.
+pub data Holds (r : Row) : Type 0 where
+  compiles : {s : Sheet} → AnswerTo cutTowardZero threeHeaderLines (bytesOf (r .text)) (sheet s) → SituationCount cutTowardZero s (r .situations) → r .refusal ≡ 0
+      → StoredTable (SolutionWord cutTowardZero s) (letterCount (s .streams)) (r .states) (r .entries) (r .finals) → Holds r
+  refuses : {s : Sheet} → AnswerTo cutTowardZero threeHeaderLines (bytesOf (r .text)) (sheet s) → SituationCount cutTowardZero s (r .situations) → r .refusal ≡ 9
+      → ((w : Streams) → Solution cutTowardZero s w → ⊥) → Holds r
