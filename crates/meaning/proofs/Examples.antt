@@ -5,7 +5,9 @@ use mathlib.Core.Bool.{true}
 use mathlib.Core.List.{List, [], _∷_}
 use lib.IntN.{pos, negsuc}
 use Rattle.meaning.specs.Value.{truth, equal}
-use Rattle.meaning.specs.Expression.{Expression, integer, name, first, next, fby, Constraint, always, comparison}
+use Rattle.meaning.specs.Arithmetic.{cutTowardZero}
+use Rattle.meaning.specs.Expression.{Expression, integer, name, first, next, fby, Constraint, always, until, comparison, value}
+use Rattle.meaning.specs.Situation.{done}
 use Rattle.meaning.specs.Window.{reach, back, firsts, B, D}
 
 abbrev x : Expression
@@ -62,3 +64,8 @@ truth-two = refl
 
 truth-minus-one : truth (negsuc 0) ≡ true
 truth-minus-one = refl
+
+-- An until is done where its right side is 2: any value but 0 counts.
+done-two : done cutTowardZero (λ k i. pos 2) (until (integer (pos 1)) x) 1 ≡ true
+unfolding done value
+done-two = refl

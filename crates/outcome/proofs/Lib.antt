@@ -5,3 +5,4 @@ pub mod CompileUnique
 pub mod StateCount
 pub mod CompileTotal
 pub mod NormalForm
+pub mod NoRows

@@ -1,0 +1,62 @@
+"""Writes, from the stored vectors, what the program crates read and what they must print.
+
+    python3 enumerator/write_programs.py VECTORS CRATES
+
+The files are CRATES/NAME/stdin and CRATES/NAME/stdout.
+"""
+
+import json
+import os
+import sys
+
+LARGEST_WORD = 2**32 - 1
+LARGEST_INPUT = 65536
+
+
+def load(folder, name):
+    with open(os.path.join(folder, name), encoding="latin-1") as lines:
+        return [json.loads(line) for line in lines]
+
+
+def word(number):
+    """Four bytes, low first."""
+    return number.to_bytes(4, "little")
+
+
+def step_case(vector):
+    """The bytes of one step and the line that it must print; none where a number is no 32-bit one or the state is not the place's."""
+    state, steps = vector["place"]["before"]
+    numbers = [vector["letters"], vector["letter"], state, steps]
+    if max(numbers) > LARGEST_WORD or vector["state"] != state:
+        return None
+    table = bytes.fromhex(vector["table"])
+    text = word(len(table)) + b"".join(word(number) for number in numbers) + table
+    after = vector["place"]["after"]
+    return text, "%d %d %d\n" % (vector["answer"], after[0], after[1])
+
+
+def step_program(vectors):
+    """The cases that fit one buffer of the program, in order."""
+    text, expected = b"", ""
+    for vector in vectors:
+        case = step_case(vector)
+        if case and len(text) + len(case[0]) <= LARGEST_INPUT:
+            text += case[0]
+            expected += case[1]
+    return text, expected.encode()
+
+
+def write(folder, crate, files):
+    for name, content in zip(("stdin", "stdout"), files):
+        path = os.path.join(folder, crate, name)
+        os.makedirs(os.path.dirname(path), exist_ok=True)
+        with open(path, "wb") as out:
+            out.write(content)
+
+
+def main(vectors, crates):
+    write(crates, "step_vectors", step_program(load(vectors, "step.jsonl")))
+
+
+if __name__ == "__main__":
+    main(sys.argv[1], sys.argv[2])
