@@ -1,0 +1,8 @@
+pub mod Loops
+pub mod Checking
+pub mod Compacting
+pub mod Analysis
+pub mod Renumbering
+pub mod Reducing
+pub mod Outcome
+pub mod Functional

@@ -1,0 +1,82 @@
+-- From what the passes leave to the outcome: what lies beyond the used rows is cleared, and so is every work table.
+use mathlib.Core.Path.{_≡_, refl, sym, ap, subst, _∙_}
+use mathlib.Core.Logic.{_⊎_, inl, inr}
+use mathlib.Core.List.{List}
+use Prim.Native.Nat.{ℕ, _+_, _*_, _<_, _≤_}
+use native.Mathlib.Nat.{mul-le-mul-right, zero-mul}
+use native.Mathlib.Omega.{arith}
+use lib.ListN.{getD, length, replicate, length-replicate, getD-replicate}
+use lib.Seq.{ext-getD}
+use Rattle.automaton.specs.Table.{SameRows}
+use Rattle.automaton.specs.Stored.{entry-at, final-at}
+use Rattle.automaton.proofs.Transfer.{rows-table}
+use Rattle.marks.proofs.Laws.{row-fits}
+use Rattle.refine.proofs.Lists.{zeros}
+use Rattle.minimise.specs.Outcome.{Tables, cleared, IsRefusal, NoWord, HasTable, MinimiseOutcome}
+use Rattle.minimise.specs.Reducing.{Rejected, Wordless, Tabled, ClearedFrom, Ran}
+
+-- a list with 0 in every place
+pub all-zero : (list : List ℕ) (n : ℕ) → length list ≡ n → ((i : ℕ) → getD list i 0 ≡ 0) → list ≡ replicate n 0
+all-zero list n e z = ext-getD 0 list (replicate n 0) (e ∙ sym (length-replicate n 0)) λ i h. z i ∙ sym (zeros n i)
+
+module _ {entries flags entries₁ flags₁ : List ℕ} {letters rows refusal states : ℕ} {work : List (List ℕ)} (R : Ran entries flags letters rows work refusal states entries₁ flags₁) where
+  -- the used rows lie within the tables
+  pub ran-fits : (states * letters ≤ length entries) × (states ≤ length flags)
+  ran-fits = go R
+    where
+      none : states ≡ 0 → (states * letters ≤ length entries) × (states ≤ length flags)
+      none e = rw e (rw zero-mul (omega arith), omega arith)
+
+      go : Ran entries flags letters rows work refusal states entries₁ flags₁ → (states * letters ≤ length entries) × (states ≤ length flags)
+      go (inl x) = none (x .no-states)
+      go (inr x) = has (x .1)
+        where
+          has : Wordless entries flags letters rows refusal states ⊎ Tabled entries flags letters rows refusal states entries₁ flags₁ → (states * letters ≤ length entries) × (states ≤ length flags)
+          has (inl y) = none (y .no-states)
+          has (inr y) = (omega (arith, mul-le-mul-right letters (y .few-states), y .graph .entries-fit), omega (arith, y .few-states, y .graph .flags-fit))
+
+  pub ran-outcome : {entries₂ flags₂ : List ℕ} {work₂ : List (List ℕ)} → length entries₁ ≡ length entries → length flags₁ ≡ length flags
+      → ClearedFrom entries₁ entries₂ (states * letters) → ClearedFrom flags₁ flags₂ states → work₂ ≡ cleared work
+      → MinimiseOutcome (record { entries = entries; flags = flags; work = work }) letters rows refusal states (record { entries = entries₂; flags = flags₂; work = work₂ })
+  ran-outcome {entries₂} {flags₂} {work₂} el fl E F w = go R
+    where
+      before : Tables
+      before = record { entries = entries; flags = flags; work = work }
+
+      after : Tables
+      after = record { entries = entries₂; flags = flags₂; work = work₂ }
+
+      refusal-is : {number : ℕ} → refusal ≡ number → states ≡ 0 → IsRefusal number before refusal states after
+      refusal-is e z = record {
+        number-is = e;
+        no-states = z;
+        entries-zero = all-zero entries₂ (length entries) (E .same ∙ el) λ i. E .beyond i (rw (z, zero-mul) (omega arith));
+        flags-zero = all-zero flags₂ (length flags) (F .same ∙ fl) λ i. F .beyond i (omega arith);
+        work-zero = w;
+      }
+
+      go : Ran entries flags letters rows work refusal states entries₁ flags₁ → MinimiseOutcome before letters rows refusal states after
+      go (inl x) = inl (record { refused = λ a. x .no-room (a .graph, a .room); answer = refusal-is (x .refused) (x .no-states) })
+      go (inr x) = inr (has (x .1))
+        where
+          has : Wordless entries flags letters rows refusal states ⊎ Tabled entries flags letters rows refusal states entries₁ flags₁
+              → NoWord before letters rows refusal states after ⊎ HasTable before letters rows refusal states after
+          has (inl y) = inl (record { accepted = record { graph = y .graph; room = x .0 }; empty = y .empty; answer = refusal-is (y .refused) (y .no-states) })
+          has (inr y) = inr (record {
+            accepted = record { graph = y .graph; room = x .0 };
+            no-refusal = y .no-refusal;
+            table = record {
+              entries-fit = omega (arith, ran-fits .0, E .same, el);
+              finals-fit = omega (arith, ran-fits .1, F .same, fl);
+              table = rows-table (record {
+                states = refl;
+                entries = λ i a hi ha. sym (E .below (i * letters + a) (omega (arith, row-fits i states letters (states * letters) hi (omega arith))));
+                finals = λ i hi. sym (F .below i hi);
+              }) (y .table);
+            };
+            entries-length = E .same ∙ el;
+            flags-length = F .same ∙ fl;
+            entries-beyond = E .beyond;
+            flags-beyond = F .beyond;
+            work-zero = w;
+          })

@@ -1,0 +1,49 @@
+-- `minimise::state_of` meets its contract.
+use Prim.Native.Nat.{ℕ, _≤_, _<_, _-_}
+use mathlib.Core.Path.{_≡_, refl, sym, ap, _∙_}
+use native.Mathlib.Omega.{arith}
+use lib.ListN.{length, getD}
+use borrow.Author.Needs.{needs}
+use Rattle.minimise.proofs.state_of.Statement.{statement}
+use Rattle.minimise.proofs.state_of.Tie as tie
+
+class-at-requires : tie.Need-class-at-requires
+class-at-requires c κs = search needs
+
+cast-c : tie.Need-cast-c
+cast-c c = search needs
+
+sub-result : tie.Need-sub-result
+sub-result c = omega arith
+
+mul-result : tie.Need-mul-result
+mul-result c = omega (arith, c .before .before .before .before .pre .inside (c .before .before .before .before .args .entry), c .before .class-at .ensures)
+
+shared-slice-read-result : tie.Need-shared-slice-read-result
+shared-slice-read-result c = omega (arith, c .before .before .before .before .before .pre .inside (c .before .before .before .before .before .args .entry), c .before .before .class-at .ensures, c .before .if1 .left)
+
+cast-result : tie.Need-cast-result
+cast-result c =
+    let e = c .before .before .class-at .ensures in
+    record { fits = rw e (c .before .before .before .before .before .pre .small (c .before .before .before .before .before .args .entry) (omega (arith, e, c .before .if1 .left))) }
+
+returns : tie.Need-returns
+returns c = record { none = λ e. refl; some = λ h. absurd (omega (arith, c .before .class-at .ensures, c .if1 .taken)) }
+
+returns-2 : tie.Need-returns-2
+returns-2 c =
+    let e = c .before .before .class-at .ensures in
+    record { none = λ z. absurd (omega (arith, e, c .before .if1 .left)); some = λ h. ap (λ x. getD (c .before .before .before .before .before .args .number .now) (x - 1) 0) e }
+
+pub state-of-spec : {M : Type 1} → statement M
+state-of-spec =
+    tie.close
+    (tie.spec
+    class-at-requires
+    cast-c
+    sub-result
+    mul-result
+    shared-slice-read-result
+    cast-result
+    returns
+    returns-2)

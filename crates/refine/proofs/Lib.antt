@@ -1,0 +1,6 @@
+pub mod Lists
+pub mod FirstClasses
+pub mod Signatures
+pub mod Chains
+pub mod Splitting
+pub mod Refinement

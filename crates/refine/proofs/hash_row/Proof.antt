@@ -1,0 +1,73 @@
+-- `refine::hash_row` meets its contract: `h` is the hash of the first `a` classes.
+use Prim.Native.Nat.{ℕ, suc, _≤_, _<_, _-_, _+_}
+use mathlib.Core.Path.{_≡_, refl, sym, ap, ap₂, _∙_}
+use native.Mathlib.Omega.{arith}
+use native.Mathlib.Numerals.{add-one}
+use lib.ListN.{length, getD}
+use Rattle.refine.specs.Signatures.{class-after, mixed, hash}
+use Rattle.refine.proofs.Signatures.{hash-step, hash-start}
+use borrow.Author.Needs.{needs}
+use Rattle.refine.proofs.hash_row.Statement.{statement}
+use Rattle.refine.proofs.hash_row.Tie as tie
+
+abbrev Inv-loop : tie.InvT-loop
+Inv-loop entries start letters class first h₀ a₀ h a = (a ≤ letters) × (h < 4294967296) × (h ≡ hash (class-after entries class start) first a)
+
+abbrev μ-loop : tie.MeasureT-loop
+μ-loop entries start letters class first h₀ a₀ h a = letters - a
+
+loop-holds : tie.Need-loop-holds Inv-loop μ-loop
+loop-holds c = (search needs, search needs, sym (hash-start (class-after (c .before .before .args .entries .now) (c .before .before .args .class .now) (c .before .before .args .start)) (c .before .before .args .first)))
+
+add-class-at : tie.Need-add-class-at Inv-loop μ-loop
+add-class-at c = search needs
+
+mul-class-at : tie.Need-mul-class-at Inv-loop μ-loop
+mul-class-at c = search needs
+
+shared-slice-read-class-at : tie.Need-shared-slice-read-class-at Inv-loop μ-loop
+shared-slice-read-class-at c = search needs
+
+class-at-requires : tie.Need-class-at-requires Inv-loop μ-loop
+class-at-requires c κs = search needs
+
+mix-requires : tie.Need-mix-requires Inv-loop μ-loop
+mix-requires c κs = search needs
+
+add-a : tie.Need-add-a Inv-loop μ-loop
+add-a c = search needs
+
+loop-less : tie.Need-loop-less Inv-loop μ-loop
+loop-less c = search needs
+
+loop-again : tie.Need-loop-again Inv-loop μ-loop
+loop-again c =
+    let args = c .before .before .before .before .before .before .before .args in
+    let loop = c .before .before .before .before .loop in
+    let f = class-after (args .entries .now) (args .class .now) (args .start) in (
+      omega arith,
+      omega (arith, c .mix .ensures),
+      c .mix .ensures ∙ (ap₂ mixed (loop .inv .2) (c .before .class-at .ensures) ∙ rw add-one (sym (hash-step f (args .first) (loop .a)))),
+    )
+
+returns : tie.Need-returns Inv-loop μ-loop
+returns c =
+    let end : c .before .loop .a ≡ c .before .before .before .before .args .letters = omega arith in
+    (c .before .loop .inv .1, rw (← end) (c .before .loop .inv .2))
+
+pub hash-row-spec : {M : Type 1} → statement M
+hash-row-spec =
+    tie.close
+    (tie.spec
+    Inv-loop
+    μ-loop
+    loop-holds
+    add-class-at
+    mul-class-at
+    shared-slice-read-class-at
+    class-at-requires
+    mix-requires
+    add-a
+    loop-less
+    loop-again
+    returns)

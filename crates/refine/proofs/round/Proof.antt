@@ -1,0 +1,77 @@
+-- `refine::round` meets its contract: the tables are made ready, the classes are split, and the new ones take their place.
+use Prim.Native.Nat.{ℕ, suc, _≤_, _<_}
+use mathlib.Core.Path.{_≡_, refl, sym, ap, _∙_}
+use mathlib.Core.List.{List}
+use native.Mathlib.Omega.{arith}
+use native.Mathlib.Decide.{decLt}
+use lib.ListN.{length, getD, List·getD-eq-default}
+use Rattle.refine.proofs.Lists.{zeros}
+use borrow.Author.Needs.{needs}
+use Rattle.refine.proofs.round.Statement.{statement}
+use Rattle.refine.proofs.round.Tie as tie
+
+-- a class is at most the number of rows
+class-most : (class : List ℕ) → ((s : ℕ) → getD class s 0 ≤ suc s) → (s : ℕ) → getD class s 0 ≤ length class
+class-most class low s = elim (decLt s (length class)) [ yes h ↦ omega (arith, low s) | no h ↦ let q : getD class s 0 ≡ 0 = List·getD-eq-default class 0 (omega arith) in omega arith ]
+
+fill-requires : tie.Need-fill-requires
+fill-requires c κs = search needs
+
+mark-shared-requires : tie.Need-mark-shared-requires
+mark-shared-requires c κs = (c .before .before .before .before .fill .kept .0 ∙ c .before .before .before .before .before .before .before .before .before .before .before .before .pre .shared-fits, class-most (c .before .before .before .before .before .before .before .before .before .before .before .before .args .class .now) (c .before .before .before .before .before .before .before .before .before .before .before .before .pre .low))
+
+fill-requires-2 : tie.Need-fill-requires-2
+fill-requires-2 c κs = search needs
+
+split-round-requires : tie.Need-split-round-requires
+split-round-requires c κs =
+    let pre = c .before .before .before .before .before .before .before .before .before .before .before .before .before .before .before .before .before .before .before .before .before .before .before .before .pre in
+    record {
+      few = pre .few;
+      entries-fit = pre .entries-fit;
+      shared-fits = c .before .before .before .before .before .before .before .before .before .before .before .mark-shared .kept .1 .0 ∙ (c .before .before .before .before .before .before .before .before .before .before .before .before .before .before .before .before .fill .kept .0 ∙ pre .shared-fits);
+      next-fits = pre .next-fits;
+      heads-fit = c .before .before .before .before .before .before .before .fill2 .kept .0 ∙ pre .heads-fit;
+      links-fit = pre .links-fit;
+      low = pre .low;
+      sharing = c .before .before .before .before .before .before .before .before .before .before .before .mark-shared .ensures;
+      empty = λ k. rw (c .before .before .before .before .before .before .before .fill2 .ensures) (zeros (length (c .before .before .before .before .before .before .before .before .before .before .before .before .before .before .before .before .before .before .before .before .before .before .before .before .args .heads .now)) k);
+      falling = pre .falling;
+    }
+
+copy-requires : tie.Need-copy-requires
+copy-requires c κs = search needs
+
+same-length : tie.Need-same-length
+same-length c = search needs
+
+same-length-2 : tie.Need-same-length-2
+same-length-2 c = search needs
+
+same-length-3 : tie.Need-same-length-3
+same-length-3 c = search needs
+
+same-length-4 : tie.Need-same-length-4
+same-length-4 c = search needs
+
+same-length-5 : tie.Need-same-length-5
+same-length-5 c = search needs
+
+returns : tie.Need-returns
+returns c = (rw (c .before .before .copy .ensures) (c .before .before .before .before .before .before .before .before .before .before .before .split-round .ensures .0), c .before .before .before .before .before .before .before .before .before .before .before .split-round .ensures .1)
+
+pub round-spec : {M : Type 1} → statement M
+round-spec =
+    tie.close
+    (tie.spec
+    fill-requires
+    mark-shared-requires
+    fill-requires-2
+    split-round-requires
+    copy-requires
+    same-length
+    same-length-2
+    same-length-3
+    same-length-4
+    same-length-5
+    returns)

@@ -1,0 +1,4 @@
+pub mod Classes
+pub mod Signatures
+pub mod Splitting
+pub mod Steps

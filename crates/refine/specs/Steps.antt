@@ -1,0 +1,65 @@
+-- What the steps of the refinement ask of their lists, and what they leave.
+use mathlib.Core.Path.{_≡_}
+use mathlib.Core.Logic.{_⊎_, _≢_}
+use mathlib.Core.List.{List}
+use Prim.Native.Nat.{ℕ, suc, _*_, _<_, _≤_}
+use lib.ListN.{getD, length}
+use Rattle.marks.specs.Marks.{Marked}
+use Rattle.refine.specs.Classes.{IsNamed, Refined, Sizes}
+use Rattle.refine.specs.Splitting.{Falling, Sharing}
+
+-- the live rows in two classes, the final ones and the others
+pub record ByFinals (live finals class : List ℕ) : Type 0 where
+  pub named : IsNamed live class
+  pub finals-alike : (s t : ℕ) → Marked live s → Marked live t → getD class s 0 ≡ getD class t 0 → Marked finals s → Marked finals t
+  pub parted : (s t : ℕ) → Marked live s → Marked live t → getD class s 0 ≢ getD class t 0
+      → (Marked finals s × (¬ Marked finals t)) ⊎ (Marked finals t × (¬ Marked finals s))
+
+-- `row` is a row, and the chain from `head` leads through earlier rows
+pub record Searchable (letters : ℕ) (entries class links : List ℕ) (head row : ℕ) : Type 0 where
+  pub inside : row < length class
+  pub head-most : head ≤ row
+  pub entries-fit : length class * letters ≤ length entries
+  pub links-fit : length links ≡ length class
+  pub falling : Falling links
+
+-- `row` is a row, and all chains lead through earlier rows
+pub record Splittable (letters : ℕ) (entries class heads links : List ℕ) (row : ℕ) : Type 0 where
+  pub few : length class < 65536
+  pub inside : row < length class
+  pub entries-fit : length class * letters ≤ length entries
+  pub heads-fit : length heads ≡ length class
+  pub links-fit : length links ≡ length class
+  pub heads-most : (k : ℕ) → getD heads k 0 ≤ row
+  pub falling : Falling links
+
+-- before a round: no row hangs in a chain
+pub record IsSized (letters : ℕ) (entries class shared next heads links : List ℕ) : Type 0 where
+  pub few : length class < 65536
+  pub entries-fit : length class * letters ≤ length entries
+  pub shared-fits : length shared ≡ length class
+  pub next-fits : length next ≡ length class
+  pub heads-fit : length heads ≡ length class
+  pub links-fit : length links ≡ length class
+  pub low : (s : ℕ) → getD class s 0 ≤ suc s
+  pub sharing : Sharing class shared (length class)
+  pub empty : (k : ℕ) → getD heads k 0 ≡ 0
+  pub falling : Falling links
+
+-- before a round: its tables may hold anything, but links lead to earlier rows
+pub record Rounds (letters : ℕ) (entries class next heads links shared : List ℕ) : Type 0 where
+  pub few : length class < 65536
+  pub entries-fit : length class * letters ≤ length entries
+  pub next-fits : length next ≡ length class
+  pub heads-fit : length heads ≡ length class
+  pub links-fit : length links ≡ length class
+  pub shared-fits : length shared ≡ length class
+  pub low : (s : ℕ) → getD class s 0 ≤ suc s
+  pub falling : Falling links
+
+-- The classes are those of the rows that no record tells apart, if the lists have the sizes; and else nothing changes. What
+-- the work tables `next`, `heads`, `links` and `shared` hold afterwards is free.
+pub record RefineOutcome (letters : ℕ) (entries live finals class next heads links shared class′ next′ heads′ links′ shared′ : List ℕ) : Type 0 where
+  pub fits : Sizes letters entries live finals class next heads links shared → Refined letters entries live finals class′
+  pub unchanged : ¬ Sizes letters entries live finals class next heads links shared
+      → (class′ ≡ class) × (next′ ≡ next) × (heads′ ≡ heads) × (links′ ≡ links) × (shared′ ≡ shared)
