@@ -1,7 +1,9 @@
 #!/usr/bin/env python3
 """Makes small graphs, computes the table of each by sets and Moore's refinement on dictionaries, and writes the files `stdin`
-and `stdout` of the crate `graphs`. Run from the repository's root: python3 tests/graphs/make.py"""
+and `stdout` of the crate `graphs` below the folder of crates that it is given: python3 tests/graphs/make.py CRATES"""
+import os
 import random
+import sys
 
 NONE = 65535
 WORK = 6
@@ -190,16 +192,18 @@ def cases():
     return out
 
 
-def main():
+def main(crates):
+    folder = os.path.join(crates, "graphs")
+    os.makedirs(folder, exist_ok=True)
     lines, answers = [str(len(cases()))], []
     for letters, rows, entries, flags, works in cases():
         refusal, states, table, finals = expected(letters, rows, entries, flags, works)
         head = [letters, rows, len(entries), len(flags)] + works
         lines.append(" ".join(str(x) for x in head + entries + flags))
         answers.append(f"{refusal} {states} :" + "".join(f" {x}" for x in table) + " :" + "".join(f" {x}" for x in finals) + " : 0")
-    with open("crates/graphs/stdin", "w") as f:
+    with open(os.path.join(folder, "stdin"), "w") as f:
         f.write("\n".join(lines) + "\n")
-    with open("crates/graphs/stdout", "w") as f:
+    with open(os.path.join(folder, "stdout"), "w") as f:
         f.write("\n".join(answers) + "\n")
     kinds = {}
     for answer in answers:
@@ -208,4 +212,4 @@ def main():
 
 
 if __name__ == "__main__":
-    main()
+    main(sys.argv[1])

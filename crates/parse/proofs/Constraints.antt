@@ -1,0 +1,142 @@
+-- The answers of the reader of constraints: each way that it goes gives what its contract says. From the laws of Readers and Trees.
+use Prim.Native.Nat.{ℕ, _+_, _-_, _≤_, _<_}
+use mathlib.Core.Path.{_≡_, refl, sym, ap, ap₂, _∙_}
+use mathlib.Core.Bool.{Bool, true, _||_}
+use mathlib.Core.List.{List, [], _∷_, _++_}
+use mathlib.Core.Option.{none}
+use native.Mathlib.Omega.{arith}
+use lib.ListN.{length, drop, length-append}
+use Rattle.text.specs.Bytes.{Token, tokens}
+use Rattle.meaning.specs.Value.{less, atMost, equal, atLeast, greater, different}
+use Rattle.meaning.specs.Expression.{Expression, comparison, implies}
+use Rattle.meaning.specs.Interval.{subexpressions}
+use Rattle.meaning.specs.Window.{firsts}
+use Rattle.nodes.specs.Postfix.{postfix, sideNodes}
+use Rattle.sheet.specs.Vocabulary.{Relation, sign, untilSign, related, relations, relationOf}
+use Rattle.sheet.specs.Reading.{anyOf, isIntegerBeyond}
+use Rattle.sheet.specs.Parser.{andThen, Reader, expressionBy, wholeLine, constraintFrom, secondSide, partTo, parseConstraint}
+use Rattle.scan.specs.Place.{TokenAt, noToken, aToken}
+use Rattle.scan.specs.declared.Span.{Span}
+use Rattle.scan.specs.Word.{codeOr255, relationNumber}
+use Rattle.scan.proofs.Words.{code-none, code-some}
+use Rattle.parse.specs.declared.Read.{Read}
+use Rattle.parse.specs.declared.ConstraintRead.{ConstraintRead}
+use Rattle.parse.specs.Stored.{Arrays, store, SameBelow}
+use Rattle.parse.specs.Bounded.{bounded, hasBeyond, boundedConstraint}
+use Rattle.parse.specs.Reading.{Stores, Found, unread, constraintRead, Fits, ConstraintOutcome, isNoConstraint, isRead}
+use Rattle.parse.proofs.Trees.{anyOf-append, Row, row-one, row-more}
+use Rattle.parse.proofs.Readers.{wordOf, no-word}
+
+relation-small : (r : Relation) → relationNumber r < 255
+relation-small (sign (comparison less)) = omega arith
+relation-small (sign (comparison atMost)) = omega arith
+relation-small (sign (comparison equal)) = omega arith
+relation-small (sign (comparison atLeast)) = omega arith
+relation-small (sign (comparison greater)) = omega arith
+relation-small (sign (comparison different)) = omega arith
+relation-small (sign implies) = omega arith
+relation-small untilSign = omega arith
+
+-- What stands after the first side: no relation, or one.
+pub no-relation : {line : List ℕ} {at : ℕ} {s : Span} (p : Reader) (a : Expression) → TokenAt line at s → codeOr255 relationNumber (relationOf (wordOf line s)) ≡ 255 → secondSide p a (tokens (drop at line)) ≡ none
+no-relation p a (noToken _ _ e) h = ap (secondSide p a) e
+no-relation {line} {s = s} p a (aToken _ _ _ e) h =
+    ap (secondSide p a) e ∙ ap (λ o. constraintFrom p a o (tokens (drop (s .end) line))) (code-none relationNumber relation-small (relationOf (wordOf line s)) h)
+
+pub record Relation-at (line : List ℕ) (at : ℕ) (s : Span) (code : ℕ) : Type 0 where
+  pub relation : Relation
+  pub code-is : code ≡ relationNumber relation
+  pub first : tokens (drop at line) ≡ wordOf line s ∷ tokens (drop (s .end) line)
+  pub goes-on : (p : Reader) (a : Expression) → secondSide p a (tokens (drop at line)) ≡ andThen (expressionBy p (tokens (drop (s .end) line))) (λ y. wholeLine (related relation a (y .tree)) (y .rest))
+
+pub relation-at : {line : List ℕ} {at : ℕ} {s : Span} {code : ℕ} → TokenAt line at s → code ≡ codeOr255 relationNumber (relationOf (wordOf line s)) → (code ≡ 255 → ⊥) → Relation-at line at s code
+unfolding relationOf relations
+relation-at {line} {s = s} (noToken p q e) c n = absurd (n (c ∙ ap (λ w. codeOr255 relationNumber (relationOf w)) (no-word line s p q)))
+relation-at {line} {s = s} (aToken _ _ _ e) c n =
+    let (r, is, code) = code-some relationNumber (relationOf (wordOf line s)) (λ h. n (c ∙ h)) in
+    record {
+      relation = r;
+      code-is = c ∙ code;
+      first = e;
+      goes-on = λ p a. ap (secondSide p a) e ∙ ap (λ o. constraintFrom p a o (tokens (drop (s .end) line))) is;
+    }
+
+-- The sides of a constraint and what is stored of them.
+related-nodes : (r : Relation) (a b : Expression) (n f : ℕ) → postfix n f (bounded a) ++ postfix (n + length (postfix n f (bounded a))) (f + length (firsts (bounded a))) (bounded b) ≡ sideNodes n f (boundedConstraint (related r a b))
+related-nodes (sign s) a b n f = refl
+related-nodes untilSign a b n f = refl
+
+abbrev answer : ℕ → ℕ → ℕ → ℕ → ℕ → Bool → ConstraintRead
+answer relation left right next firsts beyond = record { fits = true; ok = true; relation = relation; left = left; right = right; next = next; firsts = firsts; beyond = beyond }
+
+module _ {old mid new : Arrays} {n f m g k h : ℕ} {x y : Bool} {a b : Expression} (s : Stores a old mid n f m g x) (t : Stores b mid new m g k h y) (r : Relation) where
+  abbrev left : ℕ
+  left = length (postfix n f (bounded a))
+
+  abbrev right : ℕ
+  right = length (postfix (n + left) (f + length (firsts (bounded a))) (bounded b))
+
+  row : Row old new n f k h (postfix n f (bounded a) ++ postfix (n + left) (f + length (firsts (bounded a))) (bounded b)) (length (firsts (bounded a)) + length (firsts (bounded b)))
+  row = row-more (row-one s) t
+
+  pub related-arrays : new ≡ store old n (sideNodes n f (boundedConstraint (related r a b)))
+  related-arrays = row .arrays ∙ ap (store old n) (related-nodes r a b n f)
+
+  last : k ≡ n + left + right
+  last = let z = length-append (postfix n f (bounded a)) (postfix (n + left) (f + length (firsts (bounded a))) (bounded b)) in omega (arith, row .nodes)
+
+  pub related-read : {c : ℕ} {u : Bool} → c ≡ relationNumber r → u ≡ (x || y) → answer c (m - 1) (k - 1) k h u ≡ constraintRead n f (related r a b)
+  unfolding hasBeyond
+  related-read {c} {u} p q =
+      let z = length-append (firsts (bounded a)) (firsts (bounded b)) in
+      let lefts : m - 1 ≡ n + left - 1 = ap (λ j. j - 1) (s .nodes) in
+      let rights : k - 1 ≡ n + left + right - 1 = ap (λ j. j - 1) last in
+      let nexts : k ≡ n + length (postfix n f (bounded a) ++ postfix (n + left) (f + length (firsts (bounded a))) (bounded b)) = row .nodes in
+      let numbers : h ≡ f + length (firsts (bounded a) ++ firsts (bounded b)) = omega (arith, row .firsts) in
+      let far = q ∙ ap₂ _||_ (s .beyond) (t .beyond) ∙ sym (anyOf-append isIntegerBeyond (subexpressions a) (subexpressions b)) in
+      (λ i. answer (p i) (lefts i) (rights i) (nexts i) (numbers i) (far i)) ∙ by r
+    where
+      by : (o : Relation) → answer (relationNumber o) (n + left - 1) (n + left + right - 1) (n + length (postfix n f (bounded a) ++ postfix (n + left) (f + length (firsts (bounded a))) (bounded b))) (f + length (firsts (bounded a) ++ firsts (bounded b))) (anyOf isIntegerBeyond (subexpressions a ++ subexpressions b)) ≡ constraintRead n f (related o a b)
+      by (sign v) = refl
+      by untilSign = refl
+
+-- The line as a whole.
+abbrev partsOf : List ℕ → List ℕ → Reader
+partsOf names line = partTo (tokens names) (length (tokens line))
+
+module _ (names line : List ℕ) {n f : ℕ} (w : Fits line n f) where
+  pub side-missing : {old new : Arrays} {r : ConstraintRead} → ((d : ℕ) → length (tokens line) ≤ d → expressionBy (partTo (tokens names) d) (tokens line) ≡ none) → r ≡ unread true → SameBelow n new old → ConstraintOutcome names line n f old new r
+  unfolding parseConstraint
+  side-missing h e k = isNoConstraint w (ap (λ o. andThen o (λ y. secondSide (partsOf names line) (y .tree) (y .rest))) (h (length (tokens line)) (omega arith))) e k
+
+  module _ {old mid : Arrays} {a : Read} (h : Found (λ d. expressionBy (partTo (tokens names) d)) line (tokens line) old mid n f a) {s : Span} (j : TokenAt line (a .next) s) where
+    first-side : parseConstraint (tokens names) (tokens line) ≡ secondSide (partsOf names line) (h .tree) (tokens (drop (a .next) line))
+    unfolding parseConstraint
+    first-side = ap (λ o. andThen o (λ y. secondSide (partsOf names line) (y .tree) (y .rest))) (h .reads (length (tokens line)) (omega arith))
+
+    pub sign-missing : {new : Arrays} {r : ConstraintRead} → codeOr255 relationNumber (relationOf (wordOf line s)) ≡ 255 → r ≡ unread true → SameBelow n new old → ConstraintOutcome names line n f old new r
+    sign-missing c e k = isNoConstraint w (first-side ∙ no-relation (partsOf names line) (h .tree) j c) e k
+
+    module _ {code : ℕ} (o : Relation-at line (a .next) s code) where
+      second-side : parseConstraint (tokens names) (tokens line) ≡ andThen (expressionBy (partsOf names line) (tokens (drop (s .end) line))) (λ y. wholeLine (related (o .relation) (h .tree) (y .tree)) (y .rest))
+      second-side = first-side ∙ o .goes-on (partsOf names line) (h .tree)
+
+      pub second-fewer : length (tokens (drop (s .end) line)) < length (tokens line)
+      second-fewer = omega (arith, ap length (o .first), h .fewer)
+
+      pub second-side-missing : {new : Arrays} {r : ConstraintRead} → ((d : ℕ) → length (tokens (drop (s .end) line)) ≤ d → expressionBy (partTo (tokens names) d) (tokens (drop (s .end) line)) ≡ none) → r ≡ unread true → SameBelow n new old → ConstraintOutcome names line n f old new r
+      second-side-missing g e k =
+          let z = second-fewer in
+          isNoConstraint w (second-side ∙ ap (λ m. andThen m (λ y. wholeLine (related (o .relation) (h .tree) (y .tree)) (y .rest))) (g (length (tokens line)) (omega arith))) e k
+
+      module _ {new : Arrays} {b : Read} (g : Found (λ d. expressionBy (partTo (tokens names) d)) line (tokens (drop (s .end) line)) mid new (a .nodes) (a .firsts) b) where
+        both-sides : parseConstraint (tokens names) (tokens line) ≡ wholeLine (related (o .relation) (h .tree) (g .tree)) (tokens (drop (b .next) line))
+        both-sides =
+            let z = second-fewer in
+            second-side ∙ ap (λ m. andThen m (λ y. wholeLine (related (o .relation) (h .tree) (y .tree)) (y .rest))) (g .reads (length (tokens line)) (omega arith))
+
+        pub line-longer : {t : Token} {us : List Token} {r : ConstraintRead} → tokens (drop (b .next) line) ≡ t ∷ us → r ≡ unread true → SameBelow n new old → ConstraintOutcome names line n f old new r
+        line-longer m e k = isNoConstraint w (both-sides ∙ ap (wholeLine (related (o .relation) (h .tree) (g .tree))) m) e k
+
+        pub line-read : {u : Bool} → tokens (drop (b .next) line) ≡ [] → u ≡ (a .beyond || b .beyond) → ConstraintOutcome names line n f old new (answer code (a .nodes - 1) (b .nodes - 1) (b .nodes) (b .firsts) u)
+        line-read m q = isRead w (both-sides ∙ ap (wholeLine (related (o .relation) (h .tree) (g .tree))) m) (related-read (h .stores) (g .stores) (o .relation) (o .code-is) q) (related-arrays (h .stores) (g .stores) (o .relation))

@@ -1,0 +1,55 @@
+-- Nodes stored one after the other: stores in a row are one store, and what stands below the first stays. By induction over the nodes.
+use Prim.Native.Nat.{ℕ, suc, _+_, _≤_}
+use mathlib.Core.Path.{_≡_, refl, sym, ap, _∙_}
+use mathlib.Core.List.{List, [], _∷_, _++_, map}
+use native.Mathlib.Omega.{arith}
+use lib.ListN.{length, take, set}
+use lib.Seq.{sets, take-set-le, take-take}
+use Rattle.nodes.specs.Postfix.{Node, kindsOf, valuesOf, startsOf}
+use Rattle.parse.specs.Stored.{Arrays, store, SameBelow}
+
+sets-append : {A : Type 0} (g : Node → A) (x : List A) (n : ℕ) (l m : List Node) → sets (sets x n (map g l)) (n + length l) (map g m) ≡ sets x n (map g (l ++ m))
+sets-append g x n [] m = let same : n + 0 ≡ n = omega arith in ap (λ k. sets x k (map g m)) same
+sets-append g x n (y ∷ l) m =
+    let next : n + suc (length l) ≡ suc n + length l = omega arith in
+    ap (λ k. sets (sets (set x n (g y)) (suc n) (map g l)) k (map g m)) next ∙ sets-append g (set x n (g y)) (suc n) l m
+
+pub store-append : (a : Arrays) (n : ℕ) (l m : List Node) → store (store a n l) (n + length l) m ≡ store a n (l ++ m)
+unfolding store
+store-append a n l m =
+    λ i. record {
+      kinds = sets-append (λ x. x .kind) (a .kinds) n l m i;
+      values = sets-append (λ x. x .value) (a .values) n l m i;
+      starts = sets-append (λ x. x .start) (a .starts) n l m i;
+    }
+
+-- One more node after nodes that were stored.
+pub store-more : (a : Arrays) {b c : Arrays} (n : ℕ) {k : ℕ} (l m : List Node) → b ≡ store a n l → k ≡ n + length l → c ≡ store b k m → c ≡ store a n (l ++ m)
+store-more a n l m p q r = r ∙ (λ i. store (p i) (q i) m) ∙ store-append a n l m
+
+sets-below : {A : Type 0} (k : ℕ) (x : List A) (n : ℕ) (vs : List A) → k ≤ n → take k (sets x n vs) ≡ take k x
+sets-below k x n [] h = refl
+sets-below k x n (v ∷ vs) h = sets-below k (set x n v) (suc n) vs (omega arith) ∙ take-set-le k x n v h
+
+pub below-refl : (n : ℕ) (a : Arrays) → SameBelow n a a
+below-refl n a = record { kinds = refl; values = refl; starts = refl }
+
+pub below-store : (a : Arrays) {b : Arrays} (n : ℕ) (l : List Node) → b ≡ store a n l → SameBelow n b a
+unfolding store
+below-store a n l e =
+    record {
+      kinds = ap (λ x. take n (x .kinds)) e ∙ sets-below n (a .kinds) n (kindsOf l) (omega arith);
+      values = ap (λ x. take n (x .values)) e ∙ sets-below n (a .values) n (valuesOf l) (omega arith);
+      starts = ap (λ x. take n (x .starts)) e ∙ sets-below n (a .starts) n (startsOf l) (omega arith);
+    }
+
+take-less : {A : Type 0} {k n : ℕ} (x y : List A) → k ≤ n → take n x ≡ take n y → take k x ≡ take k y
+take-less {k = k} {n = n} x y h e = sym (take-take k n x h) ∙ ap (take k) e ∙ take-take k n y h
+
+pub below-trans : {a b c : Arrays} {k n : ℕ} → k ≤ n → SameBelow n c b → SameBelow k b a → SameBelow k c a
+below-trans {b = b} {c = c} h p q =
+    record {
+      kinds = take-less (c .kinds) (b .kinds) h (p .kinds) ∙ q .kinds;
+      values = take-less (c .values) (b .values) h (p .values) ∙ q .values;
+      starts = take-less (c .starts) (b .starts) h (p .starts) ∙ q .starts;
+    }

@@ -1,0 +1,32 @@
+-- Integers beyond the magnitude bound: whether a tree has one, and the tree with 0 in the place of each (document 01, "Magnitudes to
+-- 1,000,000,000"). A sheet with such an integer is refused, so that no stored value leaves the machine's numbers.
+use mathlib.Core.Bool.{Bool, cond}
+use mathlib.Core.List.{_++_}
+use lib.IntN.{ℤ, pos}
+use Rattle.meaning.specs.Expression.{Expression, integer, name, first, next, negation, binary, conditional, fby, Constraint, always, until, leftSide, rightSide}
+use Rattle.meaning.specs.Interval.{subexpressions}
+use Rattle.sheet.specs.Reading.{anyOf, isBeyond, isIntegerBeyond}
+
+abbrev pub within : ℤ → ℤ
+within z = cond (isBeyond z) (pos 0) z
+
+unfoldable pub bounded : Expression → Expression
+bounded (integer z) = integer (within z)
+bounded (name k) = name k
+bounded (first e) = first (bounded e)
+bounded (next e) = next (bounded e)
+bounded (negation e) = negation (bounded e)
+bounded (binary o a b) = binary o (bounded a) (bounded b)
+bounded (conditional c a b) = conditional (bounded c) (bounded a) (bounded b)
+bounded (fby a b) = fby (bounded a) (bounded b)
+
+abbrev pub boundedConstraint : Constraint → Constraint
+boundedConstraint (always s a b) = always s (bounded a) (bounded b)
+boundedConstraint (until a b) = until (bounded a) (bounded b)
+
+unfoldable pub hasBeyond : Expression → Bool
+hasBeyond e = anyOf isIntegerBeyond (subexpressions e)
+
+-- Some integer of the constraint is beyond the bound.
+abbrev pub constraintBeyond : Constraint → Bool
+constraintBeyond c = anyOf isIntegerBeyond (subexpressions (leftSide c) ++ subexpressions (rightSide c))

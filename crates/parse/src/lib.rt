@@ -1,0 +1,406 @@
+// Reads one constraint line into stored nodes.
+ghost use mathlib.Core.Path.{_≡_};
+ghost use mathlib.Core.Bool.{false, _||_};
+ghost use mathlib.Core.List.{[], _∷_};
+ghost use Prim.Native.Nat.{_≤_, _<_};
+ghost use lib.IntN.{pos};
+ghost use lib.ListN.{drop};
+ghost use Rattle.text.specs.Bytes.{tokens};
+ghost use Rattle.nodes.specs.Postfix.{node};
+ghost use Rattle.sheet.specs.Parser.{partTo, conditionalBy, expressionBy};
+ghost use Rattle.parse.specs.Stored.{arrays, store};
+ghost use Rattle.parse.specs.Reading.{Room, Reading, LeafReading, firstsInside, prefixValue, unread, ConstraintOutcome};
+
+// What reading a part or an expression gives: whether there is one, the place after it, the numbers of nodes and of `first`s stored so
+// far, and whether an integer in it is beyond the magnitude bound.
+struct Read {
+    ok: bool,
+    next: usize,
+    nodes: usize,
+    firsts: usize,
+    beyond: bool,
+}
+
+// What reading a constraint line gives: whether the arrays have room for it, whether it is a constraint, and then its relation, the places
+// of the last nodes of its sides, the numbers of nodes and of `first`s stored so far, and whether an integer in it is beyond the bound.
+pub struct ConstraintRead {
+    pub fits: bool,
+    pub ok: bool,
+    pub relation: u8,
+    pub left: usize,
+    pub right: usize,
+    pub next: usize,
+    pub firsts: usize,
+    pub beyond: bool,
+}
+
+fn nothing() -> Read
+    ensures { λ r. ⌜ r .ok ≡ false ⌝ }
+{
+    Read {
+        ok: false,
+        next: 0,
+        nodes: 0,
+        firsts: 0,
+        beyond: false,
+    }
+}
+
+// Whether one of both holds; both are known, so that no branch is needed.
+fn either(left: bool, right: bool) -> bool
+    ensures { λ r. ⌜ r ≡ left || right ⌝ }
+{
+    left | right
+}
+
+// The answer where no constraint was read.
+fn unread(fits: bool) -> ConstraintRead
+    ensures { λ r. ⌜ r ≡ unread fits ⌝ }
+{
+    ConstraintRead {
+        fits: fits,
+        ok: false,
+        relation: 0,
+        left: 0,
+        right: 0,
+        next: 0,
+        firsts: 0,
+        beyond: false,
+    }
+}
+
+// A number as a node's value.
+fn value_of(n: usize) -> i64
+    requires { ⌜ n < 9223372036854775808 ⌝ }
+    ensures { λ r. ⌜ r ≡ pos n ⌝ }
+{
+    n as i64
+}
+
+// Stores one node.
+fn put(
+    kinds: &mut [u8; 1024],
+    values: &mut [i64; 1024],
+    starts: &mut [u16; 1024],
+    at: usize,
+    kind: u8,
+    value: i64,
+    start: usize,
+)
+    requires { ⌜ (at < 1024) × (start ≤ at) ⌝ }
+    ensures { λ r. ⌜ arrays (now (kinds .exit)) (now (values .exit)) (now (starts .exit)) ≡ store (arrays (now (kinds .entry)) (now (values .entry)) (now (starts .entry))) at (node kind value start ∷ []) ⌝ }
+{
+    kinds[at] = kind;
+    values[at] = value;
+    starts[at] = start as u16;
+}
+
+// An integer or a name.
+fn leaf(
+    names: &[u8],
+    word: &[u8],
+    next: usize,
+    kinds: &mut [u8; 1024],
+    values: &mut [i64; 1024],
+    starts: &mut [u16; 1024],
+    nodes: usize,
+    firsts: usize,
+) -> Read
+    requires { ⌜ nodes < 1024 ⌝ }
+    ensures { λ r. ⌜ LeafReading (tokens (now (names .entry))) (now (word .entry)) next (arrays (now (kinds .entry)) (now (values .entry)) (now (starts .entry))) (arrays (now (kinds .exit)) (now (values .exit)) (now (starts .exit))) nodes firsts r ⌝ }
+{
+    let integer = scan::read_integer(word);
+    if integer.ok {
+        let value = integer.value;
+        put(kinds, values, starts, nodes, 0, value, nodes);
+        return Read {
+            ok: true,
+            next: next,
+            nodes: nodes + 1,
+            firsts: firsts,
+            beyond: integer.beyond,
+        };
+    }
+    if scan::is_reserved(word) {
+        return nothing();
+    }
+    if !scan::is_name(word) {
+        return nothing();
+    }
+    let place = value_of(scan::place_of(names, word));
+    put(kinds, values, starts, nodes, 1, place, nodes);
+    Read {
+        ok: true,
+        next: next,
+        nodes: nodes + 1,
+        firsts: firsts,
+        beyond: false,
+    }
+}
+
+// The number of the first `first` inside a node of this kind: a `first` takes its own number before those inside it.
+fn firsts_inside(kind: u8, firsts: usize) -> usize
+    requires { ⌜ firsts < 2048 ⌝ }
+    ensures { λ r. ⌜ r ≡ firstsInside kind firsts ⌝ }
+{
+    if kind == 2 { firsts + 1 } else { firsts }
+}
+
+// The value of the node of `first`, `next` or `not`.
+fn prefix_value(kind: u8, firsts: usize) -> i64
+    requires { ⌜ firsts < 2048 ⌝ }
+    ensures { λ r. ⌜ r ≡ prefixValue kind firsts ⌝ }
+{
+    if kind == 2 { value_of(firsts) } else { 0 }
+}
+
+// The part that begins with the first token from `at` on. The readers of parts and of expressions call each other, and what they call has
+// fewer tokens left to read, or as many where an expression begins with a part. The text between two brackets is passed on as a part of the
+// bytes and read as an expression by itself.
+fn part(
+    names: &[u8],
+    text: &[u8],
+    at: usize,
+    kinds: &mut [u8; 1024],
+    values: &mut [i64; 1024],
+    starts: &mut [u16; 1024],
+    nodes: usize,
+    firsts: usize,
+) -> Read
+    requires { ⌜ Room (tokens (drop at (now text))) nodes firsts ⌝ }
+    ensures { λ r. ⌜ Reading (partTo (tokens (now (names .entry)))) (now (text .entry)) (tokens (drop at (now (text .entry)))) (arrays (now (kinds .entry)) (now (values .entry)) (now (starts .entry))) (arrays (now (kinds .exit)) (now (values .exit)) (now (starts .exit))) nodes firsts r ⌝ }
+{
+    let token = scan::next_token(text, at);
+    let start = token.start;
+    let end = token.end;
+    if start == end {
+        return nothing();
+    }
+    let word = &text[start..end];
+    let kind = scan::prefix_code(word);
+    if kind != 255 {
+        let inside = firsts_inside(kind, firsts);
+        let inner = part(names, text, end, kinds, values, starts, nodes, inside);
+        if !inner.ok {
+            return nothing();
+        }
+        let last = inner.nodes;
+        let value = prefix_value(kind, firsts);
+        put(kinds, values, starts, last, kind, value, nodes);
+        return Read {
+            ok: true,
+            next: inner.next,
+            nodes: last + 1,
+            firsts: inner.firsts,
+            beyond: inner.beyond,
+        };
+    }
+    if !scan::is_opening(word) {
+        return leaf(names, word, end, kinds, values, starts, nodes, firsts);
+    }
+    let from = start + 1;
+    let close = scan::partner(text, from);
+    if text.len() <= close {
+        return nothing();
+    }
+    let inside = &text[from..close];
+    let inner = expression(names, inside, 0, kinds, values, starts, nodes, firsts);
+    if !inner.ok {
+        return nothing();
+    }
+    let after = scan::next_token(inside, inner.next);
+    if after.start != after.end {
+        return nothing();
+    }
+    Read {
+        ok: true,
+        next: close + 1,
+        nodes: inner.nodes,
+        firsts: inner.firsts,
+        beyond: inner.beyond,
+    }
+}
+
+// What stands after `if`.
+fn conditional(
+    names: &[u8],
+    text: &[u8],
+    at: usize,
+    kinds: &mut [u8; 1024],
+    values: &mut [i64; 1024],
+    starts: &mut [u16; 1024],
+    nodes: usize,
+    firsts: usize,
+) -> Read
+    requires { ⌜ Room (tokens (drop at (now text))) nodes firsts ⌝ }
+    ensures { λ r. ⌜ Reading (λ d. conditionalBy (partTo (tokens (now (names .entry))) d)) (now (text .entry)) (tokens (drop at (now (text .entry)))) (arrays (now (kinds .entry)) (now (values .entry)) (now (starts .entry))) (arrays (now (kinds .exit)) (now (values .exit)) (now (starts .exit))) nodes firsts r ⌝ }
+{
+    let condition = part(names, text, at, kinds, values, starts, nodes, firsts);
+    if !condition.ok {
+        return nothing();
+    }
+    let then = scan::next_token(text, condition.next);
+    let then_start = then.start;
+    let then_end = then.end;
+    if !scan::is_then(&text[then_start..then_end]) {
+        return nothing();
+    }
+    let branch = part(
+        names,
+        text,
+        then_end,
+        kinds,
+        values,
+        starts,
+        condition.nodes,
+        condition.firsts,
+    );
+    if !branch.ok {
+        return nothing();
+    }
+    let other = scan::next_token(text, branch.next);
+    let other_start = other.start;
+    let other_end = other.end;
+    if !scan::is_else(&text[other_start..other_end]) {
+        return nothing();
+    }
+    let last = part(
+        names,
+        text,
+        other_end,
+        kinds,
+        values,
+        starts,
+        branch.nodes,
+        branch.firsts,
+    );
+    if !last.ok {
+        return nothing();
+    }
+    let place = last.nodes;
+    put(kinds, values, starts, place, 5, 0, nodes);
+    Read {
+        ok: true,
+        next: last.next,
+        nodes: place + 1,
+        firsts: last.firsts,
+        beyond: either(condition.beyond, either(branch.beyond, last.beyond)),
+    }
+}
+
+// The expression that begins with the first token from `at` on.
+fn expression(
+    names: &[u8],
+    text: &[u8],
+    at: usize,
+    kinds: &mut [u8; 1024],
+    values: &mut [i64; 1024],
+    starts: &mut [u16; 1024],
+    nodes: usize,
+    firsts: usize,
+) -> Read
+    requires { ⌜ Room (tokens (drop at (now text))) nodes firsts ⌝ }
+    ensures { λ r. ⌜ Reading (λ d. expressionBy (partTo (tokens (now (names .entry))) d)) (now (text .entry)) (tokens (drop at (now (text .entry)))) (arrays (now (kinds .entry)) (now (values .entry)) (now (starts .entry))) (arrays (now (kinds .exit)) (now (values .exit)) (now (starts .exit))) nodes firsts r ⌝ }
+{
+    let token = scan::next_token(text, at);
+    let start = token.start;
+    let end = token.end;
+    if scan::is_if(&text[start..end]) {
+        return conditional(names, text, end, kinds, values, starts, nodes, firsts);
+    }
+    let left = part(names, text, at, kinds, values, starts, nodes, firsts);
+    if !left.ok {
+        return nothing();
+    }
+    let sign = scan::next_token(text, left.next);
+    let sign_start = sign.start;
+    let sign_end = sign.end;
+    let kind = scan::operator_code(&text[sign_start..sign_end]);
+    if kind == 255 {
+        return left;
+    }
+    let right = part(
+        names,
+        text,
+        sign_end,
+        kinds,
+        values,
+        starts,
+        left.nodes,
+        left.firsts,
+    );
+    if !right.ok {
+        return nothing();
+    }
+    let last = right.nodes;
+    put(kinds, values, starts, last, kind, 0, nodes);
+    Read {
+        ok: true,
+        next: right.next,
+        nodes: last + 1,
+        firsts: right.firsts,
+        beyond: either(left.beyond, right.beyond),
+    }
+}
+
+// Reads a constraint line, where `names` is line 1. The nodes are stored from `from` on and its `first`s numbered from `firsts` on. Nothing
+// is changed where the line has more tokens than there is room for nodes, or where too many `first`s were numbered before.
+pub fn parse_constraint(
+    names: &[u8],
+    line: &[u8],
+    kinds: &mut [u8; 1024],
+    values: &mut [i64; 1024],
+    starts: &mut [u16; 1024],
+    from: usize,
+    firsts: usize,
+) -> ConstraintRead
+    ensures { λ r. ⌜ ConstraintOutcome (now (names .entry)) (now (line .entry)) from firsts (arrays (now (kinds .entry)) (now (values .entry)) (now (starts .entry))) (arrays (now (kinds .exit)) (now (values .exit)) (now (starts .exit))) r ⌝ }
+{
+    if 1024 < from {
+        return unread(false);
+    }
+    if 1024 < firsts {
+        return unread(false);
+    }
+    if 1024 - from < scan::token_count(line) {
+        return unread(false);
+    }
+    let left = expression(names, line, 0, kinds, values, starts, from, firsts);
+    if !left.ok {
+        return unread(true);
+    }
+    let sign = scan::next_token(line, left.next);
+    let sign_start = sign.start;
+    let sign_end = sign.end;
+    let relation = scan::relation_code(&line[sign_start..sign_end]);
+    if relation == 255 {
+        return unread(true);
+    }
+    let right = expression(
+        names,
+        line,
+        sign_end,
+        kinds,
+        values,
+        starts,
+        left.nodes,
+        left.firsts,
+    );
+    if !right.ok {
+        return unread(true);
+    }
+    let after = scan::next_token(line, right.next);
+    if after.start != after.end {
+        return unread(true);
+    }
+    ConstraintRead {
+        fits: true,
+        ok: true,
+        relation: relation,
+        left: left.nodes - 1,
+        right: right.nodes - 1,
+        next: right.nodes,
+        firsts: right.firsts,
+        beyond: either(left.beyond, right.beyond),
+    }
+}

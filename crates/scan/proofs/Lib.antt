@@ -1,0 +1,6 @@
+pub mod Tokens
+pub mod Lines
+pub mod Words
+pub mod Integers
+pub mod Partners
+pub mod Functional
