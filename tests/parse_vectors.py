@@ -1,7 +1,7 @@
 #!/usr/bin/env python3
 """Writes the standard input of the program `parse_try` and the output that it must give.
 
-usage: parse_vectors.py ENUMERATOR VECTORS FOLDER
+usage: parse_vectors.py ENUMERATOR SHEETS FOLDER
 
 The lines are constraint lines of the enumerator's stored sheets, as they stand in the sheet and
 fully bracketed, with lines of random tokens and the lines below. What they must be read as comes

@@ -1,2 +1,5 @@
 pub mod Code
 pub mod Postfix
+pub mod Bounded
+pub mod Evaluate
+pub mod Bounds

@@ -1,0 +1,169 @@
+-- `arithmetic::applied` meets its contract: each arm gives what the operator of its kind gives.
+use mathlib.Core.Path.{_∙_, ap, ap₂}
+use mathlib.Core.Bool.{not, _&&_, _||_}
+use borrow.Author.Needs.{needs}
+use Rattle.meaning.specs.Value.{bit}
+use Rattle.arithmetic.proofs.Operators.{applied-kind, applied-last, later}
+use Rattle.arithmetic.proofs.applied.Statement.{statement}
+use Rattle.arithmetic.proofs.applied.Tie as tie
+
+sum-requires : tie.Need-sum-requires
+sum-requires c κs = search needs
+
+difference-requires : tie.Need-difference-requires
+difference-requires c κs = search needs
+
+product-requires : tie.Need-product-requires
+product-requires c κs = search needs
+
+quotient-requires : tie.Need-quotient-requires
+quotient-requires c κs = search needs
+
+modulus-requires : tie.Need-modulus-requires
+modulus-requires c κs = search needs
+
+less-requires : tie.Need-less-requires
+less-requires c κs = search needs
+
+bit-requires : tie.Need-bit-requires
+bit-requires c κs = search needs
+
+at-most-requires : tie.Need-at-most-requires
+at-most-requires c κs = search needs
+
+bit-requires-2 : tie.Need-bit-requires-2
+bit-requires-2 c κs = search needs
+
+same-requires : tie.Need-same-requires
+same-requires c κs = search needs
+
+bit-requires-3 : tie.Need-bit-requires-3
+bit-requires-3 c κs = search needs
+
+at-most-requires-2 : tie.Need-at-most-requires-2
+at-most-requires-2 c κs = search needs
+
+bit-requires-4 : tie.Need-bit-requires-4
+bit-requires-4 c κs = search needs
+
+less-requires-2 : tie.Need-less-requires-2
+less-requires-2 c κs = search needs
+
+bit-requires-5 : tie.Need-bit-requires-5
+bit-requires-5 c κs = search needs
+
+same-requires-2 : tie.Need-same-requires-2
+same-requires-2 c κs = search needs
+
+bit-requires-6 : tie.Need-bit-requires-6
+bit-requires-6 c κs = search needs
+
+truth-requires : tie.Need-truth-requires
+truth-requires c κs = search needs
+
+truth-requires-2 : tie.Need-truth-requires-2
+truth-requires-2 c κs = search needs
+
+both-requires : tie.Need-both-requires
+both-requires c κs = search needs
+
+bit-requires-7 : tie.Need-bit-requires-7
+bit-requires-7 c κs = search needs
+
+truth-requires-3 : tie.Need-truth-requires-3
+truth-requires-3 c κs = search needs
+
+truth-requires-4 : tie.Need-truth-requires-4
+truth-requires-4 c κs = search needs
+
+either-requires : tie.Need-either-requires
+either-requires c κs = search needs
+
+bit-requires-8 : tie.Need-bit-requires-8
+bit-requires-8 c κs = search needs
+
+returns : tie.Need-returns
+returns c = applied-kind 7 (c .before .match .keys1) (c .before .before .fits .a) (c .before .before .fits .b) (record { sfits = c .sum .ok }) (c .sum .ensures)
+
+returns-2 : tie.Need-returns-2
+returns-2 c = applied-kind 8 (c .before .match .keys2) (c .before .before .fits .a) (c .before .before .fits .b) (record { sfits = c .difference .ok }) (c .difference .ensures)
+
+returns-3 : tie.Need-returns-3
+returns-3 c = applied-kind 9 (c .before .match .keys3) (c .before .before .fits .a) (c .before .before .fits .b) (record { sfits = c .product .ok }) (c .product .ensures)
+
+returns-4 : tie.Need-returns-4
+returns-4 c = applied-kind 10 (c .before .match .keys4) (c .before .before .fits .a) (c .before .before .fits .b) (record { sfits = c .quotient .ok }) (c .quotient .ensures)
+
+returns-5 : tie.Need-returns-5
+returns-5 c = applied-kind 11 (c .before .match .keys5) (c .before .before .fits .a) (c .before .before .fits .b) (record { sfits = c .modulus .ok }) (c .modulus .ensures)
+
+returns-6 : tie.Need-returns-6
+returns-6 c = applied-kind 12 (c .before .before .match .keys6) (c .before .before .before .fits .a) (c .before .before .before .fits .b) (record { sfits = c .bit .ok }) (c .bit .ensures ∙ ap bit (c .before .less .ensures))
+
+returns-7 : tie.Need-returns-7
+returns-7 c = applied-kind 13 (c .before .before .match .keys7) (c .before .before .before .fits .a) (c .before .before .before .fits .b) (record { sfits = c .bit2 .ok }) (c .bit2 .ensures ∙ ap bit (c .before .at-most .ensures))
+
+returns-8 : tie.Need-returns-8
+returns-8 c = applied-kind 14 (c .before .before .match .keys8) (c .before .before .before .fits .a) (c .before .before .before .fits .b) (record { sfits = c .bit3 .ok }) (c .bit3 .ensures ∙ ap bit (c .before .same .ensures))
+
+returns-9 : tie.Need-returns-9
+returns-9 c = applied-kind 15 (c .before .before .match .keys9) (c .before .before .before .fits .a) (c .before .before .before .fits .b) (record { sfits = c .bit4 .ok }) (c .bit4 .ensures ∙ ap bit (c .before .at-most2 .ensures))
+
+returns-10 : tie.Need-returns-10
+returns-10 c = applied-kind 16 (c .before .before .match .keys10) (c .before .before .before .fits .a) (c .before .before .before .fits .b) (record { sfits = c .bit5 .ok }) (c .bit5 .ensures ∙ ap bit (c .before .less2 .ensures))
+
+returns-11 : tie.Need-returns-11
+returns-11 c = applied-kind 17 (c .before .before .match .keys11) (c .before .before .before .fits .a) (c .before .before .before .fits .b) (record { sfits = c .bit6 .ok }) (c .bit6 .ensures ∙ ap (λ t. bit (not t)) (c .before .same2 .ensures))
+
+returns-12 : tie.Need-returns-12
+returns-12 c = applied-kind 18 (c .before .before .before .before .match .keys12) (c .before .before .before .before .before .fits .a) (c .before .before .before .before .before .fits .b) (record { sfits = c .bit7 .ok }) (c .bit7 .ensures ∙ ap bit (c .before .both .ensures ∙ ap₂ _&&_ (c .before .before .before .truth .ensures) (c .before .before .truth2 .ensures)))
+
+-- The kind is none of 7 to 18.
+returns-13 : tie.Need-returns-13
+returns-13 c =
+    let rest = c .before .before .before .before .match .rest in
+    applied-last {k = c .before .before .before .before .before .args .kind} (later (later (later (later (later (later (later (later (later (later (later (later (c .before .before .before .before .before .pre .0) (rest .0 .0 .0 .0 .0 .0 .0 .0 .0 .0 .0 .1)) (rest .0 .0 .0 .0 .0 .0 .0 .0 .0 .0 .1)) (rest .0 .0 .0 .0 .0 .0 .0 .0 .0 .1)) (rest .0 .0 .0 .0 .0 .0 .0 .0 .1)) (rest .0 .0 .0 .0 .0 .0 .0 .1)) (rest .0 .0 .0 .0 .0 .0 .1)) (rest .0 .0 .0 .0 .0 .1)) (rest .0 .0 .0 .0 .1)) (rest .0 .0 .0 .1)) (rest .0 .0 .1)) (rest .0 .1)) (rest .1)) (c .before .before .before .before .before .fits .a) (c .before .before .before .before .before .fits .b) (record { sfits = c .bit8 .ok })
+    (c .bit8 .ensures ∙ ap bit (c .before .either .ensures ∙ ap₂ _||_ (c .before .before .before .truth3 .ensures) (c .before .before .truth4 .ensures)))
+
+pub applied-spec : {M : Type 1} → statement M
+applied-spec =
+    tie.close
+    (tie.spec
+    sum-requires
+    difference-requires
+    product-requires
+    quotient-requires
+    modulus-requires
+    less-requires
+    bit-requires
+    at-most-requires
+    bit-requires-2
+    same-requires
+    bit-requires-3
+    at-most-requires-2
+    bit-requires-4
+    less-requires-2
+    bit-requires-5
+    same-requires-2
+    bit-requires-6
+    truth-requires
+    truth-requires-2
+    both-requires
+    bit-requires-7
+    truth-requires-3
+    truth-requires-4
+    either-requires
+    bit-requires-8
+    returns
+    returns-2
+    returns-3
+    returns-4
+    returns-5
+    returns-6
+    returns-7
+    returns-8
+    returns-9
+    returns-10
+    returns-11
+    returns-12
+    returns-13)

@@ -1,0 +1,422 @@
+use arithmetic::apply;
+use arithmetic::at_most;
+use arithmetic::in_bound;
+use nodes::Evaluated;
+use nodes::Range;
+use nodes::Summary;
+use nodes::left_end;
+ghost use mathlib.Core.Path.{_≡_};
+ghost use mathlib.Core.Bool.{true};
+ghost use Prim.Native.Nat.{suc, _+_, _-_, _≤_, _<_, max};
+ghost use lib.IntN.{ℤ, pos, natAbs};
+ghost use Rattle.meaning.specs.Arithmetic.{least, greatest, hull, overEnds, around, magnitude, cutTowardZero, apply};
+ghost use Rattle.nodes.specs.Bounded.{inBound, operatorAt};
+ghost use Rattle.nodes.specs.Evaluate.{stored, Stores};
+ghost use Rattle.nodes.specs.Bounds.{noRange, rangeWithin, intervalOf, usable, joined, truthRange, operatorRange, branchRange, streamRange, limited, noSummary, leafSummary, firstSummary, nextSummary, negationSummary, operatorSummary, conditionalSummary, fbySummary, summaryBefore, nodeSummary};
+ghost use Rattle.bounds.specs.Span.{span, spanValues};
+
+fn no_range() -> Range
+    ensures { λ r. ⌜ r ≡ noRange ⌝ }
+{
+    Range {
+        ok: false,
+        low: 0,
+        high: 0,
+    }
+}
+
+// The interval itself, where both ends are within the magnitude bound.
+fn range_within(low: i64, high: i64) -> Range
+    ensures { λ r. ⌜ r ≡ rangeWithin (record { low = low; high = high }) ⌝ }
+{
+    if in_bound(low) {
+        if in_bound(high) {
+            Range {
+                ok: true,
+                low: low,
+                high: high,
+            }
+        } else {
+            no_range()
+        }
+    } else {
+        no_range()
+    }
+}
+
+// There is an interval, and its ends are within the bound.
+fn usable(a: Range) -> bool
+    ensures { λ r. ⌜ r ≡ usable a ⌝ }
+{
+    if a.ok {
+        if in_bound(a.low) {
+            in_bound(a.high)
+        } else {
+            false
+        }
+    } else {
+        false
+    }
+}
+
+fn least(a: i64, b: i64) -> i64
+    ensures { λ r. ⌜ r ≡ least a b ⌝ }
+{
+    if at_most(a, b) { a } else { b }
+}
+
+fn greatest(a: i64, b: i64) -> i64
+    ensures { λ r. ⌜ r ≡ greatest a b ⌝ }
+{
+    if at_most(a, b) { b } else { a }
+}
+
+// "the hull of both sides"
+fn hull(a: Range, b: Range) -> Range
+    ensures { λ r. ⌜ r ≡ joined hull a b ⌝ }
+{
+    if usable(a) {
+        if usable(b) {
+            range_within(least(a.low, b.low), greatest(a.high, b.high))
+        } else {
+            no_range()
+        }
+    } else {
+        no_range()
+    }
+}
+
+// From the least to the greatest of four numbers.
+fn span(p: i64, q: i64, r: i64, s: i64) -> Range
+    ensures { λ x. ⌜ x ≡ rangeWithin (span p q r s) ⌝ }
+{
+    range_within(
+        least(least(p, q), least(r, s)),
+        greatest(greatest(p, q), greatest(r, s)),
+    )
+}
+
+// The same of four values, where all are there.
+fn span_values(p: Evaluated, q: Evaluated, r: Evaluated, s: Evaluated) -> Range
+    ensures { λ x. ⌜ x ≡ spanValues p q r s ⌝ }
+{
+    if p.ok {
+        if q.ok {
+            if r.ok {
+                if s.ok {
+                    span(p.value, q.value, r.value, s.value)
+                } else {
+                    no_range()
+                }
+            } else {
+                no_range()
+            }
+        } else {
+            no_range()
+        }
+    } else {
+        no_range()
+    }
+}
+
+// "for `+ - *` the least and greatest over the ends": within the bound where all four results are.
+fn over_ends(kind: u8, a: Range, b: Range) -> Range
+    requires { ⌜ (7 ≤ kind) × (kind < 10) × (usable a ≡ true) × (usable b ≡ true) ⌝ }
+    ensures { λ r. ⌜ r ≡ rangeWithin (overEnds (apply cutTowardZero (operatorAt kind)) (intervalOf a) (intervalOf b)) ⌝ }
+{
+    let low = a.low;
+    let high = a.high;
+    let left = b.low;
+    let right = b.high;
+    span_values(
+        apply(kind, low, left),
+        apply(kind, low, right),
+        apply(kind, high, left),
+        apply(kind, high, right),
+    )
+}
+
+// The magnitude of a number within the bound.
+fn absolute(z: i64) -> i64
+    requires { ⌜ inBound z ≡ true ⌝ }
+    ensures { λ r. ⌜ r ≡ pos (natAbs z) ⌝ }
+{
+    if z < 0 {
+        return 0 - z;
+    }
+    z
+}
+
+// "for `/` and `%` from −M to M, M the larger magnitude of the dividend's ends"
+fn around(a: Range) -> Range
+    requires { ⌜ usable a ≡ true ⌝ }
+    ensures { λ r. ⌜ r ≡ rangeWithin (around (magnitude (intervalOf a))) ⌝ }
+{
+    let most = greatest(absolute(a.low), absolute(a.high));
+    range_within(0 - most, most)
+}
+
+// "0 to 1 for truth values"
+fn truth_range(a: Range) -> Range
+    ensures { λ r. ⌜ r ≡ truthRange a ⌝ }
+{
+    if a.ok { range_within(0, 1) } else { no_range() }
+}
+
+// The interval of what the operator with a node's kind gives.
+fn operator_range(kind: u8, a: Range, b: Range) -> Range
+    ensures { λ r. ⌜ r ≡ operatorRange cutTowardZero kind a b ⌝ }
+{
+    if kind < 7 {
+        return no_range();
+    }
+    if 19 < kind {
+        return no_range();
+    }
+    if !usable(a) {
+        return no_range();
+    }
+    if !usable(b) {
+        return no_range();
+    }
+    if kind < 10 {
+        return over_ends(kind, a, b);
+    }
+    if kind < 12 {
+        return around(a);
+    }
+    range_within(0, 1)
+}
+
+// The range of the stream with a number.
+fn stream_range(lows: &[i64], highs: &[i64], number: i64) -> Range
+    ensures { λ r. ⌜ r ≡ streamRange (now (lows .entry)) (now (highs .entry)) number ⌝ }
+{
+    if number < 0 {
+        return no_range();
+    }
+    let k = number as usize;
+    if lows.len() <= k {
+        return no_range();
+    }
+    if highs.len() <= k {
+        return no_range();
+    }
+    range_within(lows[k], highs[k])
+}
+
+fn larger(a: u32, b: u32) -> u32
+    ensures { λ r. ⌜ r ≡ max a b ⌝ }
+{
+    if a <= b {
+        return b;
+    }
+    a
+}
+
+// One more, up to the limit of the counts.
+fn one_more(n: u32) -> u32
+    ensures { λ r. ⌜ r ≡ limited (suc n) ⌝ }
+{
+    if n < 65535 {
+        return n + 1;
+    }
+    65535
+}
+
+fn one_less(n: u32) -> u32
+    ensures { λ r. ⌜ r ≡ n - 1 ⌝ }
+{
+    if n == 0 {
+        return 0;
+    }
+    n - 1
+}
+
+// The sum, up to the limit of the counts.
+fn sum(a: u32, b: u32) -> u32
+    ensures { λ r. ⌜ r ≡ limited (a + b) ⌝ }
+{
+    if 65535 <= a {
+        return 65535;
+    }
+    if 65535 <= b {
+        return 65535;
+    }
+    if 65535 <= a + b {
+        return 65535;
+    }
+    a + b
+}
+
+fn leaf(range: Range) -> Summary
+    ensures { λ r. ⌜ r ≡ leafSummary range ⌝ }
+{
+    Summary {
+        range: range,
+        reach: 0,
+        back: 0,
+        firsts: 0,
+        ahead: 0,
+    }
+}
+
+fn after_first(a: Summary) -> Summary
+    ensures { λ r. ⌜ r ≡ firstSummary a ⌝ }
+{
+    let range = a.range;
+    Summary {
+        range: range,
+        reach: a.reach,
+        back: 0,
+        firsts: one_more(a.firsts),
+        ahead: larger(a.reach, a.ahead),
+    }
+}
+
+fn after_next(a: Summary) -> Summary
+    ensures { λ r. ⌜ r ≡ nextSummary a ⌝ }
+{
+    let range = a.range;
+    Summary {
+        range: range,
+        reach: one_more(a.reach),
+        back: one_less(a.back),
+        firsts: a.firsts,
+        ahead: a.ahead,
+    }
+}
+
+fn after_not(a: Summary) -> Summary
+    ensures { λ r. ⌜ r ≡ negationSummary a ⌝ }
+{
+    let range = truth_range(a.range);
+    Summary {
+        range: range,
+        reach: a.reach,
+        back: a.back,
+        firsts: a.firsts,
+        ahead: a.ahead,
+    }
+}
+
+fn operator(kind: u8, a: Summary, b: Summary) -> Summary
+    ensures { λ r. ⌜ r ≡ operatorSummary cutTowardZero kind a b ⌝ }
+{
+    let range = operator_range(kind, a.range, b.range);
+    Summary {
+        range: range,
+        reach: larger(a.reach, b.reach),
+        back: larger(a.back, b.back),
+        firsts: sum(a.firsts, b.firsts),
+        ahead: larger(a.ahead, b.ahead),
+    }
+}
+
+fn branch_range(c: Range, a: Range, b: Range) -> Range
+    ensures { λ r. ⌜ r ≡ branchRange c a b ⌝ }
+{
+    if c.ok { hull(a, b) } else { no_range() }
+}
+
+fn conditional(c: Summary, a: Summary, b: Summary) -> Summary
+    ensures { λ r. ⌜ r ≡ conditionalSummary c a b ⌝ }
+{
+    let range = branch_range(c.range, a.range, b.range);
+    Summary {
+        range: range,
+        reach: larger(c.reach, larger(a.reach, b.reach)),
+        back: larger(c.back, larger(a.back, b.back)),
+        firsts: sum(c.firsts, sum(a.firsts, b.firsts)),
+        ahead: larger(c.ahead, larger(a.ahead, b.ahead)),
+    }
+}
+
+fn followed(a: Summary, b: Summary) -> Summary
+    ensures { λ r. ⌜ r ≡ fbySummary a b ⌝ }
+{
+    let range = hull(a.range, b.range);
+    let right = one_less(b.reach);
+    Summary {
+        range: range,
+        reach: larger(a.reach, right),
+        back: one_more(b.back),
+        firsts: sum(a.firsts, b.firsts),
+        ahead: larger(a.ahead, b.ahead),
+    }
+}
+
+fn no_summary() -> Summary
+    ensures { λ r. ⌜ r ≡ noSummary ⌝ }
+{
+    leaf(no_range())
+}
+
+// The summary of the part that ends before `end`, by recursion into its parts, which end earlier.
+fn summary_before(
+    kinds: &[u8],
+    values: &[i64],
+    starts: &[u16],
+    lows: &[i64],
+    highs: &[i64],
+    end: usize,
+) -> Summary
+    requires { ⌜ Stores (stored (now kinds) (now values) (now starts)) end ⌝ }
+    ensures { λ r. ⌜ r ≡ summaryBefore cutTowardZero (stored (now (kinds .entry)) (now (values .entry)) (now (starts .entry))) (now (lows .entry)) (now (highs .entry)) end ⌝ }
+{
+    if end == 0 {
+        return no_summary();
+    }
+    let i = end - 1;
+    let kind = kinds[i];
+    match kind {
+        0 => leaf(range_within(values[i], values[i])),
+        1 => leaf(stream_range(lows, highs, values[i])),
+        2 => after_first(summary_before(kinds, values, starts, lows, highs, i)),
+        3 => after_next(summary_before(kinds, values, starts, lows, highs, i)),
+        4 => after_not(summary_before(kinds, values, starts, lows, highs, i)),
+        5 => {
+            let middle = left_end(starts, i);
+            let left = left_end(starts, middle);
+            let c = summary_before(kinds, values, starts, lows, highs, left);
+            let a = summary_before(kinds, values, starts, lows, highs, middle);
+            let b = summary_before(kinds, values, starts, lows, highs, i);
+            conditional(c, a, b)
+        }
+        6 => {
+            let left = left_end(starts, i);
+            let a = summary_before(kinds, values, starts, lows, highs, left);
+            let b = summary_before(kinds, values, starts, lows, highs, i);
+            followed(a, b)
+        }
+        _ => {
+            let left = left_end(starts, i);
+            let a = summary_before(kinds, values, starts, lows, highs, left);
+            let b = summary_before(kinds, values, starts, lows, highs, i);
+            operator(kind, a, b)
+        }
+    }
+}
+
+// The interval, reach, back and firsts of the node with the place `root`; the streams have these lowest and highest values.
+pub fn summary(
+    kinds: &[u8],
+    values: &[i64],
+    starts: &[u16],
+    lows: &[i64],
+    highs: &[i64],
+    root: usize,
+) -> Summary
+    ensures { λ r. ⌜ r ≡ nodeSummary cutTowardZero (stored (now (kinds .entry)) (now (values .entry)) (now (starts .entry))) (now (lows .entry)) (now (highs .entry)) root ⌝ }
+{
+    if kinds.len() <= root {
+        return no_summary();
+    }
+    if values.len() <= root {
+        return no_summary();
+    }
+    if starts.len() <= root {
+        return no_summary();
+    }
+    summary_before(kinds, values, starts, lows, highs, root + 1)
+}

@@ -1,0 +1,4 @@
+pub mod Above
+pub mod Counts
+pub mod Numbers
+pub mod Streams

@@ -1,0 +1,68 @@
+-- The streams that a sheet's lowest and highest values describe have the letters of the sheet's own streams; and the test for a letter decides
+-- whether the values are one.
+use Prim.Native.Nat.{ℕ, _+_, _*_, _/_, _%_}
+use native.Mathlib.Omega.{arith}
+use mathlib.Core.Path.{_≡_, refl, sym, _∙_, ap, ap₂, subst}
+use mathlib.Core.Bool.{Bool, true, _&&_}
+use mathlib.Core.List.{List, [], _∷_}
+use lib.Dec.{T}
+use lib.IntN.{pos, natAbs, _+ℤ_, _-ℤ_}
+use lib.Signed.{leZ, leZ-yes}
+use Rattle.meaning.specs.Expression.{Stream}
+use Rattle.meaning.specs.Letter.{Letter, IsLetter, none, more, size, letterCount, letterNumber, letterOf}
+use Rattle.meaning.proofs.Facts.{true-of-T}
+use Rattle.nodes.specs.Bounds.{lowsOf, highsOf}
+use Rattle.nodes.proofs.Parts.{and-left, and-right}
+use Rattle.letters.specs.Described.{described, isLetter}
+
+-- ---- the sheet's streams
+
+-- The streams without their names.
+abbrev pub unnamed : List Stream → List Stream
+unnamed ss = described (lowsOf ss) (highsOf ss)
+
+pub letterCount-unnamed : (ss : List Stream) → letterCount (unnamed ss) ≡ letterCount ss
+unfolding letterCount
+letterCount-unnamed [] = refl
+letterCount-unnamed (s ∷ ss) = ap (λ n. size (s .range) * n) (letterCount-unnamed ss)
+
+pub letterOf-unnamed : (ss : List Stream) (n : ℕ) → letterOf (unnamed ss) n ≡ letterOf ss n
+unfolding letterOf
+letterOf-unnamed [] n = refl
+letterOf-unnamed (s ∷ ss) n =
+    let c = letterCount-unnamed ss in
+    ap₂ _∷_ (ap (λ m. s .range .low +ℤ pos (n / m)) c) (ap (λ m. letterOf (unnamed ss) (n % m)) c ∙ letterOf-unnamed ss (n % letterCount ss))
+
+pub letterNumber-unnamed : (ss : List Stream) (l : Letter) → letterNumber (unnamed ss) l ≡ letterNumber ss l
+unfolding letterNumber
+letterNumber-unnamed [] l = refl
+letterNumber-unnamed (s ∷ ss) [] = refl
+letterNumber-unnamed (s ∷ ss) (v ∷ l) = ap₂ (λ m n. natAbs (v -ℤ s .range .low) * m + n) (letterCount-unnamed ss) (letterNumber-unnamed ss l)
+
+pub isLetter-unnamed : (ss : List Stream) (l : Letter) → isLetter (unnamed ss) l ≡ isLetter ss l
+unfolding isLetter
+isLetter-unnamed [] [] = refl
+isLetter-unnamed [] (v ∷ l) = refl
+isLetter-unnamed (s ∷ ss) [] = refl
+isLetter-unnamed (s ∷ ss) (v ∷ l) = ap (λ t. leZ (s .range .low) v && (leZ v (s .range .high) && t)) (isLetter-unnamed ss l)
+
+-- ---- the test
+
+T-of : {b : Bool} → b ≡ true → T b
+T-of e = subst T (sym e) tt
+
+pub isLetter-sound : (ss : List Stream) (l : Letter) → isLetter ss l ≡ true → IsLetter ss l
+unfolding isLetter
+isLetter-sound [] [] e = none
+isLetter-sound [] (v ∷ l) e = let y : _≡_ {A = ℕ} 0 1 = cc in absurd (omega arith)
+isLetter-sound (s ∷ ss) [] e = let y : _≡_ {A = ℕ} 0 1 = cc in absurd (omega arith)
+isLetter-sound (s ∷ ss) (v ∷ l) e =
+    let r = and-right (leZ (s .range .low) v) (leZ v (s .range .high) && isLetter ss l) e in
+    more (record { above = leZ-yes (T-of (and-left (leZ (s .range .low) v) _ e)); below = leZ-yes (T-of (and-left (leZ v (s .range .high)) _ r)) })
+    (isLetter-sound ss l (and-right (leZ v (s .range .high)) (isLetter ss l) r))
+
+pub isLetter-complete : {ss : List Stream} {l : Letter} → IsLetter ss l → isLetter ss l ≡ true
+unfolding isLetter
+isLetter-complete none = refl
+isLetter-complete (more {s} {ss} {v} {l} w h) =
+    simp (true-of-T (leZ (s .range .low) v) (w .above .le), true-of-T (leZ v (s .range .high)) (w .below .le)) (isLetter-complete h)

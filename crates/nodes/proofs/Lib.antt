@@ -1,0 +1,8 @@
+pub mod Parts
+pub mod Evaluate
+pub mod Postfix
+pub mod Meaning
+pub mod Accepted
+pub mod Record
+pub mod Summing
+pub mod Bounds
