@@ -1,0 +1,138 @@
+-- Lists that loops fill from the front: copies, padded copies, images under a function, the letters of a window, and a key. From the laws of
+-- lists alone.
+use Prim.Native.Nat.{ℕ, zero, suc, _+_, _-_, _*_, _≤_, _<_}
+use native.Mathlib.Omega.{arith}
+use native.Mathlib.Numerals.{add-one}
+use native.Mathlib.Decide.{decLt}
+use native.Mathlib.Nat.{zero-mul, suc-mul}
+use mathlib.Core.Path.{_≡_, refl, sym, _∙_, ap, subst}
+use mathlib.Core.List.{List, [], _∷_, _++_, map, map-append, append-assoc, append-nil}
+use lib.IntN.{ℤ}
+use lib.ListN.{length, getD, take, drop, set, replicate, length-append, length-take, length-drop, length-replicate, length-set, getD-replicate, List·getD-append, List·getD-eq-default, drop-of-length-le}
+use lib.Seq.{take-suc, take-suc-set, take-set-lt, set-split, getD-take, getD-append-add, length-take-le, take-all, paste, take-paste, length-paste}
+use Rattle.explore.specs.Chains.{keySize}
+use Rattle.explore.specs.Key.{padded, encoded, letterRoom, firstRoom}
+use Rattle.explore.specs.Step.{letterAt, windowOf}
+use Rattle.explore.proofs.ChainLaws.{part-long}
+
+-- ---- images under a function
+
+module _ {X Y : Type 0} (f : X → Y) where
+  pub mapped-more : (from : List X) (to : List Y) (i : ℕ) (d : X) (v : Y) → i < length from → i < length to → v ≡ f (getD from i d) → take i to ≡ map f (take i from)
+      → take (i + 1) (set to i v) ≡ map f (take (i + 1) from)
+  mapped-more from to i d v h k e t =
+      ap (λ n. take n (set to i v)) (add-one i) ∙ take-suc-set to i v k
+      ∙ (λ j. t j ++ (e j ∷ []))
+      ∙ sym (map-append f (take i from) (getD from i d ∷ []))
+      ∙ ap (map f) (sym (take-suc from i d h) ∙ ap (λ n. take n from) (sym (add-one i)))
+
+  pub mapped-all : (from : List X) (to : List Y) (i : ℕ) → i ≡ length from → take i to ≡ map f (take i from) → take (length from) to ≡ map f from
+  mapped-all from to i e t = ap (λ n. take n to) (sym e) ∙ t ∙ ap (map f) (ap (λ n. take n from) e ∙ take-all (length from) from (omega arith))
+
+-- ---- copies
+
+pub copied-all : (to from : List ℕ) → length from ≤ length to → take (length from) (paste to 0 from (length from)) ≡ from
+copied-all to from h =
+    let e : 0 + length from ≡ length from = omega arith in
+    ap (λ n. take n (paste to 0 from (length from))) (sym e) ∙ take-paste to 0 from (length from) (omega arith) (omega arith) ∙ take-all (length from) from (omega arith)
+
+-- ---- padded copies
+
+pub length-padded : (k : ℕ) (l : List ℕ) → length (padded k l) ≡ k
+length-padded k l = length-take-le k (l ++ replicate k 0) (omega (arith, length-append l (replicate k 0), length-replicate {A = ℕ} k 0))
+
+pub getD-padded : (k : ℕ) (l : List ℕ) (i : ℕ) → i < k → getD (padded k l) i 0 ≡ getD l i 0
+getD-padded k l i h = getD-take k (l ++ replicate k 0) i 0 h ∙ by (decLt i (length l))
+  where
+    by : Dec (i < length l) → getD (l ++ replicate k 0) i 0 ≡ getD l i 0
+    by (yes b) = List·getD-append l (replicate k 0) 0 i b
+    by (no b) =
+        let e : length l + (i - length l) ≡ i = omega arith in
+        ap (λ n. getD (l ++ replicate k 0) n 0) (sym e) ∙ getD-append-add l (replicate k 0) (i - length l) 0
+        ∙ getD-replicate k (i - length l) 0 0 (omega arith) ∙ sym (List·getD-eq-default l 0 {n = i} (omega arith))
+
+-- ---- a key
+
+module _ (key p q : List ℕ) (size marks : ℕ) (long : length key ≡ keySize) (lp : length p ≡ letterRoom) (lq : length q ≡ firstRoom) where
+  abbrev with-letters : List ℕ
+  with-letters = paste key 1 p 6
+
+  abbrev with-firsts : List ℕ
+  with-firsts = paste with-letters 7 q 8
+
+  pub letters-long : length with-letters ≡ keySize
+  letters-long = length-paste key 1 p 6 (omega arith) (omega arith) ∙ long
+
+  pub firsts-long : length with-firsts ≡ keySize
+  firsts-long = length-paste with-letters 7 q 8 (omega (arith, letters-long)) (omega arith) ∙ letters-long
+
+  front : take 15 with-firsts ≡ getD key 0 0 ∷ (p ++ q)
+  front =
+      take-paste with-letters 7 q 8 (omega (arith, letters-long)) (omega arith)
+      ∙ (λ i. take-paste key 1 p 6 (omega arith) (omega arith) i ++ take-all 8 q (omega arith) i)
+      ∙ (λ i. (take-suc key 0 0 (omega arith) i ++ take-all 6 p (omega arith) i) ++ q)
+
+  pub key-written : set (set with-firsts 0 size) 15 marks ≡ size ∷ (p ++ (q ++ (marks ∷ [])))
+  key-written =
+      let l : length (set with-firsts 0 size) ≡ keySize = length-set with-firsts 0 size ∙ firsts-long in
+      let rest : drop 16 (set with-firsts 0 size) ≡ [] = drop-of-length-le (set with-firsts 0 size) {i = 16} (omega arith) in
+      set-split (set with-firsts 0 size) 15 marks (omega arith)
+      ∙ (λ i. (take-set-lt 15 with-firsts 0 size (omega arith) ∙ ap (λ x. set x 0 size) front) i ++ (marks ∷ rest i))
+      ∙ ap (size ∷_) (append-assoc p q (marks ∷ []))
+
+-- ---- the letters of a window
+
+module _ (streams : ℕ) (values : List ℤ) where
+  windowOf-snoc : (l : List ℕ) (a : ℕ) → windowOf streams values (l ++ (a ∷ [])) ≡ windowOf streams values l ++ letterAt streams values a
+  unfolding windowOf
+  windowOf-snoc [] a = append-nil (letterAt streams values a)
+  windowOf-snoc (b ∷ l) a = ap (letterAt streams values b ++_) (windowOf-snoc l a) ∙ sym (append-assoc (letterAt streams values b) (windowOf streams values l) (letterAt streams values a))
+
+  pub windowOf-none : windowOf streams values [] ≡ []
+  unfolding windowOf
+  windowOf-none = refl
+
+  module _ (letters : List ℕ) (p at from : ℕ) (window : List ℤ) (more : p < length letters) (is : from ≡ getD letters p 0 * streams) (inside : from + streams ≤ length values)
+      (room : at + streams ≤ length window) (so-far : take at window ≡ windowOf streams values (take p letters)) where
+    abbrev part : List ℤ
+    part = take (from + streams - from) (drop from values)
+
+    part-is : part ≡ letterAt streams values (getD letters p 0)
+    part-is =
+        let e : from + streams - from ≡ streams = omega arith in
+        ap (λ n. take n (drop from values)) e ∙ ap (λ n. take streams (drop n values)) is
+
+    long : length part ≡ streams
+    long = part-long values from streams inside
+
+    pub window-more : take (at + streams) (paste window at part (length part)) ≡ windowOf streams values (take (p + 1) letters)
+    window-more =
+        ap (λ n. take (at + streams) (paste window at part n)) long
+        ∙ take-paste window at part streams (omega arith) (omega (arith, long))
+        ∙ (λ i. so-far i ++ (take-all streams part (omega (arith, long)) ∙ part-is) i)
+        ∙ sym (windowOf-snoc (take p letters) (getD letters p 0))
+        ∙ ap (windowOf streams values) (sym (take-suc letters p 0 more) ∙ ap (λ n. take n letters) (sym (add-one p)))
+
+    pub window-long : length (paste window at part (length part)) ≡ length window
+    window-long = length-paste window at part (length part) (omega (arith, long)) (omega arith)
+
+-- ---- the letters of a key and one more
+
+module _ (recent key : List ℕ) (held letter : ℕ) (inside : held + 1 ≤ length key) (room : held < length recent) where
+  abbrev copied : List ℕ
+  copied = take (held + 1 - 1) (drop 1 key)
+
+  copied-is : copied ≡ take held (drop 1 key)
+  copied-is = let e : held + 1 - 1 ≡ held = omega arith in ap (λ n. take n (drop 1 key)) e
+
+  copied-long : length copied ≡ held
+  copied-long = ap length copied-is ∙ length-take-le held (drop 1 key) (simp length-drop (omega arith))
+
+  pub recent-letters : take (held + 1) (set (paste recent 0 copied (length copied)) held letter) ≡ take held (drop 1 key) ++ (letter ∷ [])
+  recent-letters =
+      let long : length (paste recent 0 copied held) ≡ length recent = length-paste recent 0 copied held (omega arith) (omega (arith, copied-long)) in
+      let zero-held : 0 + held ≡ held = omega arith in
+      ap (λ n. take (held + 1) (set (paste recent 0 copied n) held letter)) copied-long
+      ∙ ap (λ n. take n (set (paste recent 0 copied held) held letter)) (add-one held)
+      ∙ take-suc-set (paste recent 0 copied held) held letter (omega arith)
+      ∙ ap (_++ (letter ∷ [])) (ap (λ n. take n (paste recent 0 copied held)) (sym zero-held) ∙ take-paste recent 0 copied held (omega arith) (omega (arith, copied-long)) ∙ take-all held copied (omega (arith, copied-long)) ∙ copied-is)

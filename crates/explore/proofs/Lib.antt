@@ -1,0 +1,11 @@
+pub mod ChainLaws
+pub mod JudgeLaws
+pub mod KeyLists
+pub mod KeyNumbers
+pub mod StepLaws
+pub mod SearchLaws
+pub mod RowLaws
+pub mod KeySituations
+pub mod KeyMarks
+pub mod GraphLaws
+pub mod JudgeMeaning

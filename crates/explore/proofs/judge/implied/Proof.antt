@@ -1,0 +1,20 @@
+-- `judge::implied` meets its contract, by its test.
+use Rattle.explore.proofs.JudgeLaws.{implied-so, implied-else}
+use borrow.Author.Needs.{needs}
+use Rattle.explore.proofs.judge.implied.Statement.{statement}
+use Rattle.explore.proofs.judge.implied.Tie as tie
+
+truth-requires : tie.Need-truth-requires
+truth-requires c κs = search needs
+
+truth-requires-2 : tie.Need-truth-requires-2
+truth-requires-2 c κs = search needs
+
+returns : tie.Need-returns
+returns c = implied-so (c .before .before .before .args .a) (c .before .before .before .args .b) (c .before .before .before .fits .a) (c .before .before .before .fits .b) (c .before .before .truth .ensures) (c .before .if1 .taken) (c .truth2 .ensures)
+
+returns-2 : tie.Need-returns-2
+returns-2 c = implied-else (c .before .before .args .a) (c .before .before .args .b) (c .before .before .fits .a) (c .before .truth .ensures) (c .if1 .left)
+
+pub implied-spec : {M : Type 1} → statement M
+implied-spec = tie.close (tie.spec truth-requires truth-requires-2 returns returns-2)

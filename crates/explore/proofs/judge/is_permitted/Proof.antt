@@ -1,0 +1,26 @@
+-- `judge::is_permitted` meets its contract, by its test.
+use mathlib.Core.Path.{_∙_, sym, ap}
+use mir.Syntax.{w64}
+use mir.ValLaws.{toZ-ofZ}
+use Rattle.meaning.specs.Value.{truth}
+use borrow.Author.Needs.{needs}
+use Rattle.explore.proofs.judge.is_permitted.Statement.{statement}
+use Rattle.explore.proofs.judge.is_permitted.Tie as tie
+
+returns : tie.Need-returns
+returns c = search needs
+
+value-of-requires : tie.Need-value-of-requires
+value-of-requires c κs = search needs
+
+truth-requires : tie.Need-truth-requires
+truth-requires c κs = search needs
+
+returns-2 : tie.Need-returns-2
+returns-2 c =
+    let value = c .before .value-of in
+    c .truth .ensures ∙ ap truth (toZ-ofZ w64 (value .result) (record { sfits = value .ok }) ∙ value .ensures)
+    ∙ sym (simp (c .before .before .if1 .left))
+
+pub is-permitted-spec : {M : Type 1} → statement M
+is-permitted-spec = tie.close (tie.spec returns value-of-requires truth-requires returns-2)

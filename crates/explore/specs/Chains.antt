@@ -1,0 +1,56 @@
+-- Keys in rows, found again by chains: `heads` has one more than the last row of each bucket, `links` one more than the row before it in the
+-- same bucket, and 0 stands for none.
+use Prim.Native.Nat.{ℕ, _+_, _-_, _*_, _%_, _≤_, _<_}
+use mathlib.Core.Path.{_≡_}
+use mathlib.Core.Bool.{Bool, true, false}
+use mathlib.Core.List.{List, [], _∷_}
+use lib.ListN.{getD, length, take, drop}
+
+-- a test says whether a property holds
+abbrev pub Says : Bool → Type 0 → Type 0
+Says true P = P
+Says false P = P → ⊥
+
+-- how many numbers a key has
+abbrev pub keySize : ℕ
+keySize = 16
+
+abbrev pub rowAt : List ℕ → ℕ → List ℕ
+rowAt keys i = take keySize (drop (i * keySize) keys)
+
+-- Which bucket a key belongs to. No law depends on how the numbers are mixed.
+abbrev pub mixOf : ℕ → ℕ → ℕ
+mixOf h x = h % 4294967296 * 2654435761 + x
+
+unfoldable pub hashFrom : ℕ → List ℕ → ℕ
+hashFrom h [] = h
+hashFrom h (x ∷ xs) = hashFrom (mixOf h x) xs
+
+unfoldable pub bucketOf : ℕ → List ℕ → ℕ
+bucketOf m key = hashFrom 0 key % m
+
+-- the chains of n rows, where b gives each row's bucket
+pub record Chained (heads links : List ℕ) (b : ℕ → ℕ) (n : ℕ) : Type 0 where
+  pub head-le : (k : ℕ) → getD heads k 0 ≤ n
+  pub link-le : (j : ℕ) → j < n → getD links j 0 ≤ j
+  pub head-in : (k : ℕ) → 0 < getD heads k 0 → b (getD heads k 0 - 1) ≡ k
+  pub link-in : (j : ℕ) → j < n → 0 < getD links j 0 → b (getD links j 0 - 1) ≡ b j
+  pub head-all : (i : ℕ) → i < n → i < getD heads (b i) 0
+  pub link-all : (i j : ℕ) → i < j → j < n → b i ≡ b j → i < getD links j 0
+
+-- the tables hold n keys, in chains
+pub record Tables (heads links keys : List ℕ) (n : ℕ) : Type 0 where
+  pub buckets : 0 < length heads
+  pub links-room : n ≤ length links
+  pub keys-room : n * keySize ≤ length keys
+  pub chained : Chained heads links (λ i. bucketOf (length heads) (rowAt keys i)) n
+
+-- r is one more than a row that holds the key, or 0 where no row does
+pub record Finds (keys : List ℕ) (n : ℕ) (key : List ℕ) (r : ℕ) : Type 0 where
+  pub here : 0 < r → (r ≤ n) × (rowAt keys (r - 1) ≡ key)
+  pub nowhere : r ≡ 0 → (i : ℕ) → i < n → rowAt keys i ≡ key → ⊥
+
+-- row n holds the key, and the rows before it hold what they held
+pub record Inserts (keys keys′ : List ℕ) (n : ℕ) (key : List ℕ) : Type 0 where
+  pub new : rowAt keys′ n ≡ key
+  pub old : (i : ℕ) → i < n → rowAt keys′ i ≡ rowAt keys i

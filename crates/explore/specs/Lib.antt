@@ -1,0 +1,6 @@
+pub mod Chains
+pub mod Key
+pub mod Step
+pub mod Marking
+pub mod Search
+pub mod Rows

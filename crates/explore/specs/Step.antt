@@ -1,0 +1,163 @@
+-- One more letter after the record of a key, over stored nodes: whether the longer record is lawful, and its key. "Lawful", "letter", "first"
+-- and "until" are document 01's terms. These functions can be run; the crate's laws say that they agree with `lawful` and `keyOf`.
+use Prim.Native.Nat.{ℕ, zero, suc, _+_, _-_, _*_, _/_, _%_, _≤_, _<_, min}
+use mathlib.Core.Path.{_≡_}
+use mathlib.Core.Bool.{Bool, true, false, cond, not, _||_}
+use mathlib.Core.List.{List, [], _∷_, _++_, map}
+use lib.Dec.{leb, ltb, eqb}
+use lib.IntN.{ℤ}
+use lib.ListN.{length, getD, take, drop}
+use Rattle.meaning.specs.Value.{Value, truth, Comparison, less, atMost, equal, atLeast, greater, different}
+use Rattle.meaning.specs.Arithmetic.{Arithmetic}
+use Rattle.meaning.specs.Expression.{Sign, comparison, implies, holds}
+use Rattle.nodes.specs.Evaluate.{Nodes, stored, View, view, nodeValue}
+use Rattle.explore.specs.Chains.{keySize}
+use Rattle.explore.specs.Key.{letterRoom, firstRoom, encoded, raised, lowered, digit, sizeIn, lettersIn, firstsIn, marksIn}
+use Rattle.explore.specs.declared.judge.Judged.{Judged}
+
+-- A stored sheet: its nodes; for each constraint its relation and the last nodes of its sides; the node of each `first`; the values of every
+-- letter, letter after letter; how many streams there are; D; and D+B.
+pub record Store : Type 0 where
+  pub nodes : Nodes
+  pub relations : List ℕ
+  pub lefts : List ℕ
+  pub rights : List ℕ
+  pub firstNodes : List ℕ
+  pub letterValues : List ℤ
+  pub streams : ℕ
+  pub ahead : ℕ
+  pub width : ℕ
+
+abbrev pub storeOf : (kinds : List ℕ) (values : List ℤ) (starts relations lefts rights firstNodes : List ℕ) (letterValues : List ℤ) (streams ahead width : ℕ) → Store
+storeOf kinds values starts relations lefts rights firstNodes letterValues streams ahead width =
+    record {
+      nodes = stored kinds values starts;
+      relations = relations;
+      lefts = lefts;
+      rights = rights;
+      firstNodes = firstNodes;
+      letterValues = letterValues;
+      streams = streams;
+      ahead = ahead;
+      width = width;
+    }
+
+-- ---- constraints, judged at one time
+
+-- The sign with a relation's number; a number that is no sign's plays no part.
+abbrev pub signs : List Sign
+signs = comparison less ∷ comparison atMost ∷ comparison equal ∷ comparison atLeast ∷ comparison greater ∷ comparison different ∷ implies ∷ []
+
+abbrev pub signAt : ℕ → Sign
+signAt k = getD signs k implies
+
+abbrev pub unlawful : Judged
+unlawful = record { ok = false; marks = 0 }
+
+abbrev pub marked : ℕ → Judged
+marked m = record { ok = true; marks = m }
+
+abbrev pub odd : ℕ → Bool
+odd m = eqb (m % 2) 1
+
+-- the answer for what comes later, with a digit before its marks
+abbrev pub withDigit : Bool → Judged → Judged
+withDigit b r = cond (r .ok) (marked (digit b + 2 * r .marks)) r
+
+-- `value` has the value of a node. The next n constraints from the one numbered j on are judged; `marks` are those of their untils so far. The
+-- answer has the marks afterwards.
+module _ (relations lefts rights : List ℕ) (value : ℕ → Value) where
+  -- An until is permitted if its left is not 0, or it is done.
+  abbrev pub untilDone : ℕ → ℕ → Bool
+  untilDone j marks = odd marks || truth (value (getD rights j 0))
+
+  abbrev pub untilPermitted : ℕ → ℕ → Bool
+  untilPermitted j marks = untilDone j marks || truth (value (getD lefts j 0))
+
+  abbrev pub signHolds : ℕ → Bool
+  signHolds j = holds (signAt (getD relations j 0)) (value (getD lefts j 0)) (value (getD rights j 0))
+
+  unfoldable pub judgedFrom : ℕ → ℕ → ℕ → Judged
+  judgedFrom j zero marks = marked 0
+  judgedFrom j (suc n) marks =
+      cond (eqb (getD relations j 0) 7)
+      (cond (untilPermitted j marks) (withDigit (untilDone j marks) (judgedFrom (suc j) n (marks / 2))) unlawful)
+      (cond (signHolds j) (judgedFrom (suc j) n marks) unlawful)
+
+-- ---- one more letter
+
+-- The values of a letter's streams, and of some letters' one after the other, from the values of every letter.
+module _ (streams : ℕ) (letterValues : List ℤ) where
+  abbrev pub letterAt : ℕ → List ℤ
+  letterAt a = take streams (drop (a * streams) letterValues)
+
+  unfoldable pub windowOf : List ℕ → List ℤ
+  windowOf [] = []
+  windowOf (a ∷ l) = letterAt a ++ windowOf l
+
+module _ (K : Store) where
+  -- The letters of a key and one more.
+  abbrev pub lettersAfter : List ℕ → ℕ → List ℕ
+  lettersAfter key a = lettersIn (K .width) key ++ (a ∷ [])
+
+  -- What the nodes' values are taken from: the key's letters and the new one, and the values of the firsts. A record that is not cut is whole.
+  abbrev pub viewAfter : List ℕ → ℕ → View
+  viewAfter key a =
+      view (windowOf (K .streams) (K .letterValues) (lettersAfter key a)) (K .streams)
+      (map lowered (firstsIn (length (K .firstNodes)) key)) (leb (sizeIn key) (K .width))
+
+module _ (A : Arithmetic) (K : Store) where
+  abbrev pub valueAt : View → ℕ → ℕ → Value
+  valueAt W place node = nodeValue A (K .nodes) W node place .value
+
+  -- The time newly judged is D letters back; there is none before D letters are there. `known` is how many letters of the record are there.
+  abbrev pub judgedIn : View → ℕ → ℕ → Judged
+  judgedIn W known marks =
+      cond (leb (K .ahead) known)
+      (judgedFrom (K .relations) (K .lefts) (K .rights) (valueAt W (known - K .ahead)) 0 (length (K .relations)) marks)
+      (marked marks)
+
+  -- The firsts have values from the cut on, and keep them.
+  abbrev pub firstsFrom : View → ℕ → List ℕ → List ℕ
+  firstsFrom W size numbers =
+      cond (leb size (K .width)) (cond (ltb size (K .width)) [] (map (λ node. raised (valueAt W 0 node)) (K .firstNodes))) numbers
+
+  -- `letters` are those of the key and the new one. The longer record's key holds the last D+B of them.
+  abbrev pub keyFrom : View → ℕ → List ℕ → ℕ → List ℕ → List ℕ
+  keyFrom W size letters marks numbers =
+      encoded (length letters) (drop (length letters - K .width) letters) (firstsFrom W size numbers) (judgedIn W (length letters - 1) marks .marks)
+
+  unfoldable pub judgedAfter : List ℕ → ℕ → Judged
+  judgedAfter key a = judgedIn (viewAfter K key a) (length (lettersAfter K key a) - 1) (marksIn key)
+
+  unfoldable pub keyAfter : List ℕ → ℕ → List ℕ
+  keyAfter key a = keyFrom (viewAfter K key a) (sizeIn key) (lettersAfter K key a) (marksIn key) (firstsIn (length (K .firstNodes)) key)
+
+-- ---- what is asked of a stored sheet and of keys
+
+-- Document 01's bounds, as far as the sizes of tables depend on them.
+pub record IsReady (K : Store) : Type 0 where
+  pub few-letters : K .width ≤ letterRoom
+  pub few-streams : K .streams ≤ 8
+  pub lefts-long : length (K .lefts) ≡ length (K .relations)
+  pub rights-long : length (K .rights) ≡ length (K .relations)
+  pub few-constraints : length (K .relations) ≤ 32
+  pub few-firsts : length (K .firstNodes) ≤ firstRoom
+
+-- the letter's values are there
+pub record HasValues (K : Store) (a : ℕ) : Type 0 where
+  pub inside : a * K .streams + K .streams ≤ length (K .letterValues)
+
+pub record IsKey (K : Store) (key : List ℕ) : Type 0 where
+  pub long : length key ≡ keySize
+  pub letters : (p : ℕ) → p < min (sizeIn key) (K .width) → HasValues K (getD key (suc p) 0)
+
+-- The answer and the key for these letters, values, marks and numbers of firsts.
+pub record Finished (A : Arithmetic) (K : Store) (W : View) (size : ℕ) (letters : List ℕ) (marks : ℕ) (numbers : List ℕ) (ok : Bool) (fresh : List ℕ) : Type 0 where
+  pub answer : ok ≡ judgedIn A K W (length letters - 1) marks .ok
+  pub new : ok ≡ true → fresh ≡ keyFrom A K W size letters marks numbers
+
+-- The answer and the key that one more letter leads to.
+pub record Extended (A : Arithmetic) (K : Store) (key : List ℕ) (a : ℕ) (ok : Bool) (fresh : List ℕ) : Type 0 where
+  pub answer : ok ≡ judgedAfter A K key a .ok
+  pub new : ok ≡ true → fresh ≡ keyAfter A K key a

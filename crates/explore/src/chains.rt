@@ -1,0 +1,103 @@
+// Keys in rows, found again by chains of rows in the same bucket.
+ghost use mathlib.Core.Path.{_≡_};
+ghost use Prim.Native.Nat.{_+_, _*_, _<_, _≤_};
+ghost use lib.ListN.{length, replicate};
+ghost use lib.Seq.{paste};
+ghost use Rattle.explore.specs.Chains.{Says, keySize, mixOf, hashFrom, bucketOf, Tables, Finds, Inserts};
+
+// Whether two keys are equal.
+fn same(a: &[u32], b: &[u32]) -> bool
+    requires { ⌜ length (now a) ≡ length (now b) ⌝ }
+    ensures { λ r. ⌜ Says r (now (a .entry) ≡ now (b .entry)) ⌝ }
+{
+    let mut i = 0;
+    while i < a.len() {
+        if a[i] != b[i] {
+            return false;
+        }
+        i += 1;
+    }
+    true
+}
+
+fn mix(h: u64, x: u32) -> u64
+    ensures { λ r. ⌜ r ≡ mixOf h x ⌝ }
+{
+    h % 4294967296 * 2654435761 + x as u64
+}
+
+fn hash(key: &[u32]) -> u64
+    ensures { λ r. ⌜ r ≡ hashFrom 0 (now (key .entry)) ⌝ }
+{
+    let mut h = 0;
+    let mut i = 0;
+    while i < key.len() {
+        h = mix(h, key[i]);
+        i += 1;
+    }
+    h
+}
+
+fn bucket(key: &[u32], m: usize) -> usize
+    requires { ⌜ 0 < m ⌝ }
+    ensures { λ r. ⌜ r ≡ bucketOf m (now (key .entry)) ⌝ }
+    ensures { λ r. ⌜ r < m ⌝ }
+{
+    hash(key) as usize % m
+}
+
+// One more than the row that holds the key, or 0.
+pub fn find(heads: &[u32], links: &[u32], keys: &[u32], n: usize, key: &[u32]) -> usize
+    requires { ⌜ Tables (now heads) (now links) (now keys) n ⌝ }
+    requires { ⌜ length (now key) ≡ keySize ⌝ }
+    ensures { λ r. ⌜ Finds (now (keys .entry)) n (now (key .entry)) r ⌝ }
+{
+    let h = bucket(key, heads.len());
+    let mut j = heads[h] as usize;
+    while j != 0 {
+        let i = j - 1;
+        let at = i * 16;
+        let end = at + 16;
+        if same(&keys[at..end], key) {
+            return j;
+        }
+        j = links[i] as usize;
+    }
+    0
+}
+
+// Copies a key into the rows from a place on.
+pub fn put(keys: &mut [u32], at: usize, key: &[u32])
+    requires { ⌜ at + length (now key) ≤ length (now keys) ⌝ }
+    ensures { λ r. ⌜ now (keys .exit) ≡ paste (now (keys .entry)) at (now (key .entry)) (length (now (key .entry))) ⌝ }
+{
+    let mut i = 0;
+    while i < key.len() {
+        keys[at + i] = key[i];
+        i += 1;
+    }
+}
+
+// Stores the key as row n.
+pub fn insert(heads: &mut [u32], links: &mut [u32], keys: &mut [u32], n: usize, key: &[u32])
+    requires { ⌜ Tables (now heads) (now links) (now keys) n ⌝ }
+    requires { ⌜ (length (now key) ≡ keySize) × (n < 65535) × (n < length (now links)) × (n * keySize + keySize ≤ length (now keys)) ⌝ }
+    ensures { λ r. ⌜ Tables (now (heads .exit)) (now (links .exit)) (now (keys .exit)) (n + 1) ⌝ }
+    ensures { λ r. ⌜ Inserts (now (keys .entry)) (now (keys .exit)) n (now (key .entry)) ⌝ }
+{
+    let h = bucket(key, heads.len());
+    put(keys, n * 16, key);
+    links[n] = heads[h];
+    heads[h] = (n + 1) as u32;
+}
+
+// Empties every chain.
+pub fn clear(heads: &mut [u32])
+    ensures { λ r. ⌜ now (heads .exit) ≡ replicate (length (now (heads .entry))) 0 ⌝ }
+{
+    let mut i = 0;
+    while i < heads.len() {
+        heads[i] = 0;
+        i += 1;
+    }
+}

@@ -1,0 +1,151 @@
+// Reading a key, and writing the key of a record with one more letter.
+use crate::chains::put;
+use crate::judge::value_of;
+use arithmetic::in_bound;
+ghost use mathlib.Core.Path.{_≡_};
+ghost use mathlib.Core.List.{[], _∷_, _++_, map};
+ghost use Prim.Native.Nat.{ℕ, _+_, _*_, _<_, _≤_, min};
+ghost use lib.ListN.{length, getD, take, drop};
+ghost use lib.Seq.{paste};
+ghost use Rattle.meaning.specs.Arithmetic.{cutTowardZero};
+ghost use Rattle.nodes.specs.Evaluate.{stored, view, nodeValue};
+ghost use Rattle.explore.specs.Chains.{keySize};
+ghost use Rattle.explore.specs.Key.{padded, encoded, raised, lowered};
+ghost use Rattle.explore.specs.Step.{windowOf};
+
+// The smaller of two numbers.
+pub fn least(a: usize, b: usize) -> usize
+    ensures { λ r. ⌜ r ≡ min a b ⌝ }
+{
+    if a < b { a } else { b }
+}
+
+// A value within the magnitude bound as a natural number, and back.
+fn raised(z: i64) -> u32
+    ensures { λ r. ⌜ r ≡ raised z ⌝ }
+{
+    if in_bound(z) {
+        return (z + 1000000000) as u32;
+    }
+    0
+}
+
+fn lowered(x: u32) -> i64
+    ensures { λ r. ⌜ r ≡ lowered x ⌝ }
+{
+    x as i64 - 1000000000
+}
+
+// The number at a place, or 0 beyond the end.
+fn number_at(from: &[u32], i: usize) -> u32
+    ensures { λ r. ⌜ r ≡ getD (now (from .entry)) i 0 ⌝ }
+{
+    if i < from.len() { from[i] } else { 0 }
+}
+
+// Copies numbers into a part of `room` places, and zeros after them.
+fn put_padded(to: &mut [u32], at: usize, from: &[u32], room: usize)
+    requires { ⌜ at + room ≤ length (now to) ⌝ }
+    ensures { λ r. ⌜ now (to .exit) ≡ paste (now (to .entry)) at (padded room (now (from .entry))) room ⌝ }
+{
+    let mut i = 0;
+    while i < room {
+        to[at + i] = number_at(from, i);
+        i += 1;
+    }
+}
+
+// Writes a key.
+pub fn write_key(key: &mut [u32], size: u32, letters: &[u32], firsts: &[u32], marks: u32)
+    requires { ⌜ length (now key) ≡ keySize ⌝ }
+    ensures { λ r. ⌜ now (key .exit) ≡ encoded size (now (letters .entry)) (now (firsts .entry)) marks ⌝ }
+{
+    put_padded(key, 1, letters, 6);
+    put_padded(key, 7, firsts, 8);
+    key[0] = size;
+    key[15] = marks;
+}
+
+// Copies values into a window from a place on.
+fn copy_values(to: &mut [i64], at: usize, from: &[i64])
+    requires { ⌜ at + length (now from) ≤ length (now to) ⌝ }
+    ensures { λ r. ⌜ now (to .exit) ≡ paste (now (to .entry)) at (now (from .entry)) (length (now (from .entry))) ⌝ }
+{
+    let mut i = 0;
+    while i < from.len() {
+        to[at + i] = from[i];
+        i += 1;
+    }
+}
+
+// The values of the letters, one letter after the other.
+pub fn fill_window(window: &mut [i64], letter_values: &[i64], streams: usize, letters: &[u32])
+    requires { ⌜ length (now letters) * streams ≤ length (now window) ⌝ }
+    requires { ⌜ ((p : ℕ) → p < length (now letters) → getD (now letters) p 0 * streams + streams ≤ length (now «letter_values»)) ⌝ }
+    ensures { λ r. ⌜ take (length (now (letters .entry)) * streams) (now (window .exit)) ≡ windowOf streams (now («letter_values» .entry)) (now (letters .entry)) ⌝ }
+{
+    let mut p = 0;
+    let mut at = 0;
+    while p < letters.len() {
+        let from = letters[p] as usize * streams;
+        let end = from + streams;
+        copy_values(window, at, &letter_values[from..end]);
+        at += streams;
+        p += 1;
+    }
+}
+
+// The letters of a key and one letter more.
+pub fn recent_letters(recent: &mut [u32], key: &[u32], held: usize, letter: u32)
+    requires { ⌜ (held + 1 ≤ length (now key)) × (held < length (now recent)) ⌝ }
+    ensures { λ r. ⌜ take (held + 1) (now (recent .exit)) ≡ take held (drop 1 (now (key .entry))) ++ (letter ∷ []) ⌝ }
+{
+    let end = held + 1;
+    put(recent, 0, &key[1..end]);
+    recent[held] = letter;
+}
+
+// The values of the firsts that a key holds.
+pub fn lower_all(firsts: &mut [i64], numbers: &[u32])
+    requires { ⌜ length (now numbers) ≤ length (now firsts) ⌝ }
+    ensures { λ r. ⌜ take (length (now (numbers .entry))) (now (firsts .exit)) ≡ map lowered (now (numbers .entry)) ⌝ }
+{
+    let mut i = 0;
+    while i < numbers.len() {
+        firsts[i] = lowered(numbers[i]);
+        i += 1;
+    }
+}
+
+// The values of the firsts at the cut, as the key holds them: every `first` node has its value in a whole record.
+pub fn raise_all(
+    kinds: &[u8],
+    values: &[i64],
+    starts: &[u16],
+    first_nodes: &[u16],
+    window: &[i64],
+    streams: usize,
+    firsts: &[i64],
+    whole: bool,
+    numbers: &mut [u32],
+)
+    requires { ⌜ length (now «first_nodes») ≤ length (now numbers) ⌝ }
+    ensures { λ r. ⌜ take (length (now («first_nodes» .entry))) (now (numbers .exit)) ≡ map (λ node. raised (nodeValue cutTowardZero (stored (now (kinds .entry)) (now (values .entry)) (now (starts .entry))) (view (now (window .entry)) streams (now (firsts .entry)) whole) node 0 .value)) (now («first_nodes» .entry)) ⌝ }
+{
+    let mut i = 0;
+    while i < first_nodes.len() {
+        let node = first_nodes[i] as usize;
+        numbers[i] = raised(value_of(
+            kinds,
+            values,
+            starts,
+            node,
+            window,
+            streams,
+            firsts,
+            0,
+            whole,
+        ));
+        i += 1;
+    }
+}
