@@ -1,8 +1,8 @@
 """Compares the exploration core with the enumerator.
 
-    python3 tests/compare.py COUNT [SEED]
+    python3 tests/explore/compare.py COUNT [SEED]
 
-Writes a program over a copy of the core's sources into tmp/run, with the stored
+Writes a program over a copy of the core's sources into target/explore, with the stored
 sheets of vectors/sheets.jsonl as input, runs it with `rt try`, and compares the
 number of situations, the entries and the flags.
 """
@@ -15,9 +15,8 @@ import struct
 import subprocess
 import sys
 
-HERE = pathlib.Path(__file__).resolve().parent.parent
-MAIN = pathlib.Path("/work/main")
-sys.path.insert(0, str(MAIN / "enumerator"))
+ROOT = pathlib.Path(__file__).resolve().parents[2]
+sys.path.insert(0, str(ROOT / "enumerator"))
 from reading import read  # noqa: E402
 from situations import explore, judge_of  # noqa: E402
 
@@ -95,7 +94,7 @@ def expected(graph, letters):
 
 
 def sheets(count, seed):
-    vectors = [json.loads(line) for line in open(MAIN / "vectors" / "sheets.jsonl")]
+    vectors = [json.loads(line) for line in open(ROOT / "vectors" / "sheets.jsonl")]
     vectors = [vector for vector in vectors if vector.get("situations", 0) * vector.get("letters", 0) in range(1, 16385)]
     chosen = vectors[:8] + random.Random(seed).sample(vectors[8:], min(count, len(vectors) - 8))
     for vector in chosen:
@@ -108,20 +107,20 @@ def sheets(count, seed):
 def main():
     count = int(sys.argv[1])
     cases = list(sheets(count, int(sys.argv[2]) if len(sys.argv) > 2 else 1))
-    run = HERE / "tmp" / "run"
+    run = ROOT / "target" / "explore"
     shutil.rmtree(run, ignore_errors=True)
     crate = run / "crates" / "explore_try"
     crate.mkdir(parents=True)
     for name in ("text", "meaning", "sheet", "nodes", "arithmetic", "evaluate"):
-        shutil.copytree(HERE / "crates" / name, run / "crates" / name)
-    shutil.copytree(HERE / "crates" / "explore" / "src", crate / "src")
+        shutil.copytree(ROOT / "crates" / name, run / "crates" / name)
+    shutil.copytree(ROOT / "crates" / "explore" / "src", crate / "src")
     core = (crate / "src" / "lib.rt").read_text()
     (crate / "src" / "lib.rt").unlink()
-    (crate / "src" / "main.rt").write_text(core + (HERE / "tests" / "main.txt").read_text())
+    (crate / "src" / "main.rt").write_text(core + (ROOT / "tests" / "explore" / "main.txt").read_text())
     for source in (crate / "src").glob("*.rt"):
         source.write_text(without_contracts(source.read_text()))
-    (run / "crates.txt").write_text((HERE / "crates.txt").read_text().split("outcome:")[0].replace("automaton:\n", "")
-                                    + "explore_try: meaning nodes arithmetic evaluate io libc\n")
+    (run / "crates.txt").write_text("text:\nmeaning:\nsheet: text meaning\nnodes: meaning sheet\narithmetic: meaning sheet nodes\n"
+                                    "evaluate: meaning nodes arithmetic\nexplore_try: meaning nodes arithmetic evaluate io libc\n")
     data = b"".join(struct.pack("<q", number) for _, (numbers, _) in cases for number in numbers)
     assert len(data) < 4000000, len(data)
     (crate / "stdin").write_bytes(data)
