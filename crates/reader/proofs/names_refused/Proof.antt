@@ -1,0 +1,89 @@
+-- `reader::names_refused` meets its contract: no name before the loop's place is reserved or stands again, so that the rest decides.
+use Prim.Native.Nat.{_+_, _≤_, _<_, _-_}
+use mathlib.Core.Path.{_≡_, refl, sym, ap, _∙_}
+use native.Mathlib.Omega.{arith}
+use borrow.Author.Needs.{needs}
+use borrow.Author.Tests.{not-true, not-false}
+use lib.ListN.{length, drop}
+use Rattle.text.specs.Bytes.{tokens}
+use Rattle.text.specs.Token.{isOneOf}
+use Rattle.scan.specs.Place.{between}
+use Rattle.scan.proofs.Tokens.{token-within, token-empty, token-after, token-tokens}
+use Rattle.reader.specs.Names.{namesRefused}
+use Rattle.reader.proofs.Lines.{between-all}
+use Rattle.reader.proofs.Names.{names-none, names-reserved, names-twice, names-later}
+use Rattle.reader.proofs.names_refused.Statement.{statement}
+use Rattle.reader.proofs.names_refused.Tie as tie
+
+abbrev Inv-loop : tie.InvT-loop
+Inv-loop line at₀ at = (at ≤ length line) × (namesRefused (tokens line) ≡ namesRefused (tokens (drop at line)))
+
+abbrev μ-loop : tie.MeasureT-loop
+μ-loop line at₀ at = length line - at
+
+loop-holds : tie.Need-loop-holds Inv-loop μ-loop
+loop-holds c = (omega arith, refl)
+
+next-token-requires : tie.Need-next-token-requires Inv-loop μ-loop
+next-token-requires c κs = search needs
+
+returns : tie.Need-returns Inv-loop μ-loop
+returns c = names-none (between (c .before .before .before .before .args .line .now) (c .before .next-token .result .start) (c .before .next-token .result .end)) (tokens (drop (c .before .next-token .result .end) (c .before .before .before .before .args .line .now))) (token-empty (c .before .next-token .ensures) (c .if1 .taken)) ∙ sym (c .before .before .loop .inv .1)
+
+sub-name : tie.Need-sub-name Inv-loop μ-loop
+sub-name c = let w = token-within (c .before .next-token .ensures) in let a = w .0 in let b = w .1 in omega arith
+
+part-name-start : tie.Need-part-name-start Inv-loop μ-loop
+part-name-start c = let w = token-within (c .before .next-token .ensures) in let a = w .0 in let b = w .1 in omega arith
+
+part-name-end : tie.Need-part-name-end Inv-loop μ-loop
+part-name-end c = let w = token-within (c .before .next-token .ensures) in let a = w .0 in let b = w .1 in omega arith
+
+is-reserved-requires : tie.Need-is-reserved-requires Inv-loop μ-loop
+is-reserved-requires c κs = search needs
+
+returns-2 : tie.Need-returns-2 Inv-loop μ-loop
+returns-2 c = names-reserved (between (c .before .before .before .before .before .before .before .args .line .now) (c .before .before .before .before .next-token .result .start) (c .before .before .before .before .next-token .result .end)) (tokens (drop (c .before .before .before .before .next-token .result .end) (c .before .before .before .before .before .before .before .args .line .now))) (token-tokens (c .before .before .before .before .next-token .ensures) (c .before .before .before .if1 .left)) (sym (c .before .is-reserved .ensures) ∙ c .if2 .taken) ∙ sym (c .before .before .before .before .before .loop .inv .1)
+
+sub-stands-in : tie.Need-sub-stands-in Inv-loop μ-loop
+sub-stands-in c = let w = token-within (c .before .before .before .before .next-token .ensures) in let a = w .0 in let b = w .1 in omega arith
+
+part-stands-in-start : tie.Need-part-stands-in-start Inv-loop μ-loop
+part-stands-in-start c = let w = token-within (c .before .before .before .before .next-token .ensures) in let a = w .0 in let b = w .1 in omega arith
+
+part-stands-in-end : tie.Need-part-stands-in-end Inv-loop μ-loop
+part-stands-in-end c = let w = token-within (c .before .before .before .before .next-token .ensures) in let a = w .0 in let b = w .1 in omega arith
+
+stands-in-requires : tie.Need-stands-in-requires Inv-loop μ-loop
+stands-in-requires c κs = search needs
+
+returns-3 : tie.Need-returns-3 Inv-loop μ-loop
+returns-3 c = names-twice (between (c .before .before .before .before .before .before .before .before .before .before .args .line .now) (c .before .before .before .before .before .before .before .next-token .result .start) (c .before .before .before .before .before .before .before .next-token .result .end)) (tokens (drop (c .before .before .before .before .before .before .before .next-token .result .end) (c .before .before .before .before .before .before .before .before .before .before .args .line .now))) (token-tokens (c .before .before .before .before .before .before .before .next-token .ensures) (c .before .before .before .before .before .before .if1 .left)) (sym (c .before .stands-in .ensures ∙ ap (λ l. isOneOf (tokens l) (between (c .before .before .before .before .before .before .before .before .before .before .args .line .now) (c .before .before .before .before .before .before .before .next-token .result .start) (c .before .before .before .before .before .before .before .next-token .result .end))) (between-all (c .before .before .before .before .before .before .before .before .before .before .args .line .now) (c .before .before .before .before .before .before .before .next-token .result .end) (token-within (c .before .before .before .before .before .before .before .next-token .ensures) .1))) ∙ c .if3 .taken) ∙ sym (c .before .before .before .before .before .before .before .before .loop .inv .1)
+
+loop-less : tie.Need-loop-less Inv-loop μ-loop
+loop-less c = let a = token-after (c .before .before .before .before .before .before .before .next-token .ensures) (c .before .before .before .before .before .before .if1 .left) in let w = token-within (c .before .before .before .before .before .before .before .next-token .ensures) in let b = w .1 in omega arith
+
+loop-again : tie.Need-loop-again Inv-loop μ-loop
+loop-again c = (token-within (c .before .before .before .before .before .before .before .next-token .ensures) .1, c .before .before .before .before .before .before .before .before .loop .inv .1 ∙ names-later (between (c .before .before .before .before .before .before .before .before .before .before .args .line .now) (c .before .before .before .before .before .before .before .next-token .result .start) (c .before .before .before .before .before .before .before .next-token .result .end)) (tokens (drop (c .before .before .before .before .before .before .before .next-token .result .end) (c .before .before .before .before .before .before .before .before .before .before .args .line .now))) (token-tokens (c .before .before .before .before .before .before .before .next-token .ensures) (c .before .before .before .before .before .before .if1 .left)) (sym (c .before .before .before .before .is-reserved .ensures) ∙ c .before .before .before .if2 .left) (sym (c .before .stands-in .ensures ∙ ap (λ l. isOneOf (tokens l) (between (c .before .before .before .before .before .before .before .before .before .before .args .line .now) (c .before .before .before .before .before .before .before .next-token .result .start) (c .before .before .before .before .before .before .before .next-token .result .end))) (between-all (c .before .before .before .before .before .before .before .before .before .before .args .line .now) (c .before .before .before .before .before .before .before .next-token .result .end) (token-within (c .before .before .before .before .before .before .before .next-token .ensures) .1))) ∙ c .if3 .left))
+
+pub names-refused-spec : {M : Type 1} → statement M
+names-refused-spec =
+    tie.close
+    (tie.spec
+    Inv-loop
+    μ-loop
+    loop-holds
+    next-token-requires
+    returns
+    sub-name
+    part-name-start
+    part-name-end
+    is-reserved-requires
+    returns-2
+    sub-stands-in
+    part-stands-in-start
+    part-stands-in-end
+    stands-in-requires
+    returns-3
+    loop-less
+    loop-again)

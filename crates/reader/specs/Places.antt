@@ -1,0 +1,30 @@
+-- Where the header lines of a sheet stand in its bytes, and what is refused of its constraint lines (document 01, "The sheet").
+use Prim.Native.Nat.{ℕ, _≤_}
+use mathlib.Core.Path.{_≡_}
+use mathlib.Core.Bool.{Bool, _||_}
+use mathlib.Core.List.{List, []}
+use lib.Dec.{leb, ltb}
+use lib.ListN.{length, drop, getD}
+use Rattle.text.specs.Bytes.{lines}
+use Rattle.sheet.specs.Refusal.{constraintBound, tokenBound, tokenCount}
+use Rattle.sheet.specs.Reading.{anyOf, tooDeepFrom}
+use Rattle.scan.specs.Place.{between}
+use Rattle.reader.specs.declared.Header.{Header}
+
+-- The places are those of the first three lines, a missing line without bytes, and of the lines after them.
+pub record HeaderOf (text : List ℕ) (h : Header) : Type 0 where
+  pub names : between text 0 (h .«names_end») ≡ getD (lines text) 0 []
+  pub namesWithin : h .«names_end» ≤ length text
+  pub lows : between text (h .«lows_start») (h .«lows_end») ≡ getD (lines text) 1 []
+  pub lowsOrdered : h .«lows_start» ≤ h .«lows_end»
+  pub lowsWithin : h .«lows_end» ≤ length text
+  pub highs : between text (h .«highs_start») (h .«highs_end») ≡ getD (lines text) 2 []
+  pub highsOrdered : h .«highs_start» ≤ h .«highs_end»
+  pub highsWithin : h .«highs_end» ≤ length text
+  pub constraints : lines (drop (h .constraints) text) ≡ drop 3 (lines text)
+  pub constraintsWithin : h .constraints ≤ length text
+  pub whole : h .whole ≡ leb 3 (length (lines text))
+
+-- What refusal 2 says of the constraint lines.
+unfoldable pub constraintLinesRefused : List (List ℕ) → Bool
+constraintLinesRefused ls = ltb constraintBound (length ls) || ltb tokenBound (tokenCount ls) || anyOf (tooDeepFrom 0 0) ls
