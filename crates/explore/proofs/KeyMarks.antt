@@ -69,7 +69,7 @@ everyMark-ones (until a b ∷ cs) k =
 
 -- ---- keys
 
-encoded-marks : (size : ℕ) (letters firsts : List ℕ) (m : ℕ) → marksIn (encoded size letters firsts m) ≡ m
+pub encoded-marks : (size : ℕ) (letters firsts : List ℕ) (m : ℕ) → marksIn (encoded size letters firsts m) ≡ m
 unfolding encoded
 encoded-marks size letters firsts m =
     let p = length-padded letterRoom letters in
@@ -80,7 +80,7 @@ encoded-marks size letters firsts m =
     ∙ getD-append-add (padded firstRoom firsts) (m ∷ []) 0 0
 
 module _ (A : Arithmetic) (s : Sheet) where
-  key-marks : (r : List ℕ) → marksIn (keyOf A s r) ≡ marksNumber (untilMarks A (s .constraints) (recordOf (s .streams) r))
+  pub key-marks : (r : List ℕ) → marksIn (keyOf A s r) ≡ marksNumber (untilMarks A (s .constraints) (recordOf (s .streams) r))
   unfolding keyOf
   key-marks r = encoded-marks _ _ _ _
 

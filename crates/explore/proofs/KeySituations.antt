@@ -28,7 +28,7 @@ use Rattle.explore.proofs.KeyNumbers.{lowered-raised}
 
 -- ---- the parts of a key
 
-padded-take : (k : ℕ) (l : List ℕ) → length l ≤ k → take (length l) (padded k l) ≡ l
+pub padded-take : (k : ℕ) (l : List ℕ) → length l ≤ k → take (length l) (padded k l) ≡ l
 padded-take k l h = take-take (length l) k (l ++ replicate k 0) h ∙ take-append-seam l (replicate k 0)
 
 padded-injective : (k : ℕ) (l m : List ℕ) → length l ≡ length m → length l ≤ k → padded k l ≡ padded k m → l ≡ m
@@ -65,7 +65,7 @@ abbrev pub AllBounded : List Value → Type 0
 AllBounded [] = Unit
 AllBounded (v ∷ l) = (inBound v ≡ true) × AllBounded l
 
-lowered-all : (l : List Value) → AllBounded l → map lowered (map raised l) ≡ l
+pub lowered-all : (l : List Value) → AllBounded l → map lowered (map raised l) ≡ l
 lowered-all [] h = refl
 lowered-all (v ∷ l) h = ap₂ _∷_ (lowered-raised v (leb-true (natAbs v) 1000000000 (h .0)) (h .0)) (lowered-all l (h .1))
 
@@ -78,12 +78,12 @@ numbers-back ss (a ∷ r) h = ap₂ _∷_ (letterNumber-letterOf ss a (h .0)) (n
 record-injective : (ss : List Stream) (r t : List ℕ) → AllBelow (letterCount ss) r → AllBelow (letterCount ss) t → recordOf ss r ≡ recordOf ss t → r ≡ t
 record-injective ss r t h k e = sym (numbers-back ss r h) ∙ ap (map (letterNumber ss)) e ∙ numbers-back ss t k
 
-drop-below : (k n : ℕ) (r : List ℕ) → AllBelow k r → AllBelow k (drop n r)
+pub drop-below : (k n : ℕ) (r : List ℕ) → AllBelow k r → AllBelow k (drop n r)
 drop-below k zero r h = h
 drop-below k (suc n) [] h = h
 drop-below k (suc n) (a ∷ r) h = drop-below k n r (h .1)
 
-drop-record : (ss : List Stream) (n : ℕ) (r : List ℕ) → drop n (recordOf ss r) ≡ recordOf ss (drop n r)
+pub drop-record : (ss : List Stream) (n : ℕ) (r : List ℕ) → drop n (recordOf ss r) ≡ recordOf ss (drop n r)
 drop-record ss zero r = refl
 drop-record ss (suc n) [] = refl
 drop-record ss (suc n) (a ∷ r) = drop-record ss n r
@@ -103,7 +103,7 @@ module _ (A : Arithmetic) (s : Sheet) where
   abbrev marks : List ℕ → List Bool
   marks r = untilMarks A (s .constraints) (records r)
 
-  record-long : (r : List ℕ) → length (records r) ≡ length r
+  pub record-long : (r : List ℕ) → length (records r) ≡ length r
   record-long r = length-map r (letterOf (s .streams))
 
   pub key-whole : (r : List ℕ) → length r ≤ w → keyOf A s r ≡ encoded (length r) r [] (marksNumber (marks r))
@@ -141,7 +141,7 @@ module _ (A : Arithmetic) (s : Sheet) where
           let letters = record-injective (s .streams) (drop (length r - w) r) (drop (length t - w) t) (drop-below _ (length r - w) r hr) (drop-below _ (length t - w) t ht) (c .0) in
           key-cut r (omega arith) ∙ (λ i. encoded (suc w) (letters i) (map raised (c .1 i)) (marksNumber (c .2 i))) ∙ sym (key-cut t (omega arith))
 
-  firsts-long : (r : List ℕ) → length (map raised (values r)) ≡ length (allFirsts (s .constraints))
+  pub firsts-long : (r : List ℕ) → length (map raised (values r)) ≡ length (allFirsts (s .constraints))
   unfolding firstValues
   firsts-long r = length-map (values r) raised ∙ length-map (allFirsts (s .constraints)) _
 

@@ -9,3 +9,9 @@ pub mod KeySituations
 pub mod KeyMarks
 pub mod GraphLaws
 pub mod JudgeMeaning
+pub mod StoredFirsts
+pub mod KeyDecoding
+pub mod StoredSides
+pub mod KeyStep
+pub mod StoredFirstNodes
+pub mod StoredKeys

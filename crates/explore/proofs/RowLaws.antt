@@ -66,12 +66,12 @@ module _ {X : Type 0} (f : ℕ → X) where
 
 -- ---- letters in range
 
-below-letters : (ss : List Stream) (r : List ℕ) → AllBelow (letterCount ss) r → OfLetters ss (recordOf ss r)
+pub below-letters : (ss : List Stream) (r : List ℕ) → AllBelow (letterCount ss) r → OfLetters ss (recordOf ss r)
 below-letters ss [] h l m = absurd (List·Memᴰ·not-nil m)
 below-letters ss (a ∷ r) h l (List·Memᴰ·head e) = subst (IsLetter ss) (sym e) (letterOf-letter ss a (h .0))
 below-letters ss (a ∷ r) h l (List·Memᴰ·tail m) = below-letters ss r (h .1) l m
 
-below-snoc : (k : ℕ) (r : List ℕ) (a : ℕ) → AllBelow k r → a < k → AllBelow k (r ++ (a ∷ []))
+pub below-snoc : (k : ℕ) (r : List ℕ) (a : ℕ) → AllBelow k r → a < k → AllBelow k (r ++ (a ∷ []))
 below-snoc k [] a h l = (l, tt)
 below-snoc k (b ∷ r) a h l = (h .0, below-snoc k r a (h .1) l)
 

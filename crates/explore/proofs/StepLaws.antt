@@ -100,7 +100,7 @@ unfolding encoded
 encoded-letter size letters firsts marks p h =
     List·getD-append (padded letterRoom letters) (padded firstRoom firsts ++ (marks ∷ [])) 0 p (omega (arith, length-padded letterRoom letters)) ∙ getD-padded letterRoom letters p h
 
-encoded-size : (size : ℕ) (letters firsts : List ℕ) (marks : ℕ) → sizeIn (encoded size letters firsts marks) ≡ size
+pub encoded-size : (size : ℕ) (letters firsts : List ℕ) (marks : ℕ) → sizeIn (encoded size letters firsts marks) ≡ size
 unfolding encoded
 encoded-size size letters firsts marks = refl
 

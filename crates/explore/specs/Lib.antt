@@ -4,3 +4,4 @@ pub mod Step
 pub mod Marking
 pub mod Search
 pub mod Rows
+pub mod StoredSheet

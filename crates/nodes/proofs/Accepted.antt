@@ -47,7 +47,7 @@ module _ {A : Arithmetic} (lawful : LawfulArithmetic A) (ss : List Stream) where
   AllInBounds e = All (λ f. InBounds (interval A ss f)) (subexpressions e)
 
   module _ (w : Streams) (ranged : (k i : ℕ) → k < length ss → Within (rangeOf ss k) (w k i)) where
-    whole-met : (e : Expression) (i : ℕ) → NamesBelow (length ss) e → AllInBounds e → Met A w e i
+    pub whole-met : (e : Expression) (i : ℕ) → NamesBelow (length ss) e → AllInBounds e → Met A w e i
     unfolding subexpressions interval
     whole-met (integer z) i n b = inBounds-small {I = record { low = z; high = z }} (b .0) (record { above = ≤ℤ-refl z; below = ≤ℤ-refl z })
     whole-met (name k) i n b = inBounds-small {I = rangeOf ss k} (b .0) (ranged k i n)
@@ -127,6 +127,19 @@ module _ {A : Arithmetic} (lawful : LawfulArithmetic A) (ss : List Stream) where
         let p = All-append (λ f. InBounds (interval A ss f)) (subexpressions x) (subexpressions y) .0 (b .1) in
         window-met y (f + length (firsts x)) i (n .1) (p .1) (omega arith) (omega arith) (firstsWithin-append stored f (firsts x) (firsts y) s .1)
 
+-- The course that stays at the last of `count` letters. Its values at their places are those of w.
+module _ (w : Streams) (count : ℕ) where
+  pub lasting : Streams
+  lasting k i = w k (min i (count - 1))
+
+  pub lasting-same : (k i : ℕ) → i < count → lasting k i ≡ w k i
+  unfolding lasting
+  lasting-same k i h = let e : min i (count - 1) ≡ i = omega arith in ap (w k) e
+
+  pub lasting-ranged : (ss : List Stream) → ((k i : ℕ) → k < length ss → i < count → Within (rangeOf ss k) (w k i)) → 0 < count → (k i : ℕ) → k < length ss → Within (rangeOf ss k) (lasting k i)
+  unfolding lasting
+  lasting-ranged ss ranged h k i b = ranged k (min i (count - 1)) b (omega arith)
+
 -- ---- the sides of an accepted sheet's constraints
 
 -- A side of a constraint, the place of its last node, and the number of its first `first`. The defaults beyond the lists are never asked for.
@@ -172,27 +185,15 @@ pub record Letters (ss : List Stream) (W : View) (w : Streams) : Type 0 where
   pub ranged : (k i : ℕ) → k < length ss → i < places W → Within (rangeOf ss k) (w k i)
 
 module _ {A : Arithmetic} (lawful : LawfulArithmetic A) (s : Sheet) (accepted : Accepted A s) (W : View) (w : Streams) (letters : Letters (s .streams) W w) (c₀ : Constraint) (t₀ : StoredConstraint) where
-  -- The course that stays at the window's last letter. Its values at the places looked at are those of w.
-  lasting : Streams
-  lasting k i = w k (min i (places W - 1))
-
-  lasting-same : (k i : ℕ) → i < places W → lasting k i ≡ w k i
-  unfolding lasting
-  lasting-same k i h = let e : min i (places W - 1) ≡ i = omega arith in ap (w k) e
-
-  lasting-ranged : 0 < places W → (k i : ℕ) → k < length (s .streams) → Within (rangeOf (s .streams) k) (lasting k i)
-  unfolding lasting
-  lasting-ranged h k i b = letters .ranged k (min i (places W - 1)) b (omega arith)
-
   -- In a whole record a side has its value, wherever the record has the letters that the side looks at.
   pub accepted-value : {e : Expression} {i f : ℕ} → IsSide (s .constraints) c₀ t₀ e i f → W .whole ≡ true → (p : ℕ) → p + reach e < places W
       → nodeValue A (nodesOf (allNodes 0 0 (s .constraints))) W i p ≡ someValue (value A w e p)
   accepted-value {e} {i} {f} side whole p r =
       let k = known c₀ t₀ accepted side in
       let n = subst (λ m. NamesBelow m e) (sym (letters .count)) (k .names) in
-      nodeValue-value A (allNodes 0 0 (s .constraints)) W lasting (λ k q b h. letters .shows k q b h ∙ sym (lasting-same k q h)) p e (k .stored) (k .inside) whole n r
-      (whole-met lawful (s .streams) lasting (lasting-ranged (omega arith)) e p (k .names) (k .bounds))
-      ∙ ap someValue (value-near A lasting w (places W) lasting-same e p r)
+      nodeValue-value A (allNodes 0 0 (s .constraints)) W (lasting w (places W)) (λ k q b h. letters .shows k q b h ∙ sym (lasting-same w (places W) k q h)) p e (k .stored) (k .inside) whole n r
+      (whole-met lawful (s .streams) (lasting w (places W)) (lasting-ranged w (places W) (s .streams) (letters .ranged) (omega arith)) e p (k .names) (k .bounds))
+      ∙ ap someValue (value-near A (lasting w (places W)) w (places W) (lasting-same w (places W)) e p r)
 
   -- In a window with stored first values a side has its value there, from the place `back` on.
   pub accepted-windowValue : {e : Expression} {i f : ℕ} → IsSide (s .constraints) c₀ t₀ e i f → W .whole ≡ false → (p : ℕ) → back e ≤ p → p + reach e < places W

@@ -1,0 +1,140 @@
+-- What the key of a record says: its letters, the values of its firsts where it is cut; and what one more letter's values are taken from. From
+-- the parts of a key, one by one.
+use Prim.Native.Nat.{ℕ, suc, _+_, _-_, _≤_, _<_, min}
+use native.Mathlib.Omega.{arith}
+use mathlib.Core.Path.{_≡_, refl, sym, _∙_, ap, ap₂}
+use mathlib.Core.Bool.{true, false}
+use mathlib.Core.List.{List, [], _∷_, _++_, map}
+use lib.Dec.{leb}
+use lib.IntN.{ℤ}
+use lib.ListN.{length, take, drop, length-append, length-drop}
+use lib.Seq.{take-take, take-at, drop-at}
+use borrow.Author.Tests.{le-leb, lt-leb}
+use Rattle.automaton.specs.Words.{AllBelow}
+use Rattle.meaning.specs.Arithmetic.{Arithmetic, LawfulArithmetic}
+use Rattle.meaning.specs.Expression.{Expression, integer, name, first, next, negation, binary, conditional, fby, Constraint, leftSide, rightSide, Sheet}
+use Rattle.meaning.specs.Letter.{letterCount, recordOf}
+use Rattle.meaning.specs.Window.{firsts, allFirsts}
+use Rattle.meaning.specs.Situation.{firstValues}
+use Rattle.meaning.proofs.Facts.{length-snoc}
+use Rattle.sheet.specs.Accepted.{Accepted}
+use Rattle.nodes.specs.Evaluate.{view}
+use Rattle.nodes.proofs.Record.{flat}
+use Rattle.explore.specs.Key.{letterRoom, firstRoom, padded, encoded, raised, lowered, sizeIn, lettersIn, firstsIn, width, keyOf}
+use Rattle.explore.specs.Step.{windowOf, lettersAfter, viewAfter}
+use Rattle.explore.specs.Rows.{letterNumbers}
+use Rattle.explore.specs.StoredSheet.{firstPlaces, allFirstPlaces, storedSheet, HasLetters}
+use Rattle.explore.proofs.KeyLists.{length-padded}
+use Rattle.explore.proofs.KeySituations.{padded-take, lowered-all, drop-below, firsts-long, key-cut}
+use Rattle.explore.proofs.RowLaws.{below-snoc}
+use Rattle.explore.proofs.StoredFirsts.{firsts-bounded}
+use Rattle.explore.proofs.StepLaws.{encoded-size}
+
+-- ---- the parts of a key
+
+encoded-letters : (size : ℕ) (letters firsts : List ℕ) (marks m : ℕ) → m ≡ length letters → length letters ≤ letterRoom → take m (drop 1 (encoded size letters firsts marks)) ≡ letters
+unfolding encoded
+encoded-letters size letters firsts marks m e h =
+    let rest = padded firstRoom firsts ++ (marks ∷ []) in
+    ap (λ n. take n (padded letterRoom letters ++ rest)) e
+    ∙ sym (take-take (length letters) letterRoom (padded letterRoom letters ++ rest) h)
+    ∙ ap (take (length letters)) (take-at (padded letterRoom letters) rest letterRoom (length-padded letterRoom letters))
+    ∙ padded-take letterRoom letters h
+
+encoded-firsts : (size : ℕ) (letters firsts : List ℕ) (marks m : ℕ) → m ≡ length firsts → length firsts ≤ firstRoom → firstsIn m (encoded size letters firsts marks) ≡ firsts
+unfolding encoded
+encoded-firsts size letters firsts marks m e h =
+    let rest = padded firstRoom firsts ++ (marks ∷ []) in
+    ap (λ n. take n (drop letterRoom (padded letterRoom letters ++ rest))) e
+    ∙ ap (take (length firsts)) (drop-at (padded letterRoom letters) rest letterRoom (length-padded letterRoom letters))
+    ∙ sym (take-take (length firsts) firstRoom rest h)
+    ∙ ap (take (length firsts)) (take-at (padded firstRoom firsts) (marks ∷ []) firstRoom (length-padded firstRoom firsts))
+    ∙ padded-take firstRoom firsts h
+
+-- ---- the firsts of a stored sheet
+
+places-long : (n : ℕ) (e : Expression) → length (firstPlaces n e) ≡ length (firsts e)
+unfolding firstPlaces firsts
+places-long n (integer z) = refl
+places-long n (name k) = refl
+places-long n (first e) = ap suc (places-long n e)
+places-long n (next e) = places-long n e
+places-long n (negation e) = places-long n e
+places-long n (binary o a b) = length-append (firstPlaces n a) _ ∙ ap₂ _+_ (places-long n a) (places-long _ b) ∙ sym (length-append (firsts a) (firsts b))
+places-long n (conditional c a b) =
+    length-append (firstPlaces n c) _ ∙ ap₂ _+_ (places-long n c) (length-append (firstPlaces _ a) _ ∙ ap₂ _+_ (places-long _ a) (places-long _ b) ∙ sym (length-append (firsts a) (firsts b)))
+    ∙ sym (length-append (firsts c) (firsts a ++ firsts b))
+places-long n (fby a b) = length-append (firstPlaces n a) _ ∙ ap₂ _+_ (places-long n a) (places-long _ b) ∙ sym (length-append (firsts a) (firsts b))
+
+pub allPlaces-long : (n : ℕ) (cs : List Constraint) → length (allFirstPlaces n cs) ≡ length (allFirsts cs)
+unfolding allFirstPlaces
+allPlaces-long n [] = refl
+allPlaces-long n (c ∷ cs) =
+    length-append (firstPlaces n (leftSide c) ++ _) _
+    ∙ ap₂ _+_ (length-append (firstPlaces n (leftSide c)) _ ∙ ap₂ _+_ (places-long n (leftSide c)) (places-long _ (rightSide c)) ∙ sym (length-append (firsts (leftSide c)) (firsts (rightSide c)))) (allPlaces-long _ cs)
+    ∙ sym (length-append (firsts (leftSide c) ++ firsts (rightSide c)) (allFirsts cs))
+
+-- ---- the letters of a window
+
+module _ (s : Sheet) (values : List ℤ) (has : HasLetters s values) where
+  window-flat : (l : List ℕ) → AllBelow (letterCount (s .streams)) l → windowOf (length (s .streams)) values l ≡ flat (recordOf (s .streams) l)
+  unfolding windowOf
+  window-flat [] h = refl
+  window-flat (a ∷ l) h = ap₂ _++_ (has .letter a (h .0)) (window-flat l (h .1))
+
+-- ---- the key of a record, and one more letter
+
+module _ {A : Arithmetic} (lawful : LawfulArithmetic A) (s : Sheet) (accepted : Accepted A s) (values : List ℤ) (has : HasLetters s values) where
+  abbrev w : ℕ
+  w = width A s
+
+  abbrev recent : List ℕ → List ℕ
+  recent r = drop (length r - w) r
+
+  recent-long : (r : List ℕ) → length (recent r) ≡ min (length r) w
+  recent-long r = omega (arith, length-drop (length r - w) r)
+
+  pub key-size : (r : List ℕ) → sizeIn (keyOf A s r) ≡ min (length r) (suc w)
+  unfolding keyOf
+  key-size r = encoded-size _ _ _ _
+
+  pub key-letters : (r : List ℕ) → lettersIn w (keyOf A s r) ≡ recent r
+  unfolding keyOf
+  key-letters r = encoded-letters (min (length r) (suc w)) (recent r) _ _ _ (ap (λ n. min n w) (encoded-size (min (length r) (suc w)) (recent r) _ _) ∙ omega (arith, recent-long r)) (omega (arith, recent-long r, accepted .window))
+
+  pub key-firsts : (r : List ℕ) → w < length r → firstsIn (length (allFirstPlaces 0 (s .constraints))) (keyOf A s r) ≡ map raised (firstValues A (s .constraints) (recordOf (s .streams) r))
+  key-firsts r h =
+      let long = firsts-long A s r in
+      ap (firstsIn (length (allFirstPlaces 0 (s .constraints)))) (key-cut A s r h)
+      ∙ encoded-firsts (suc w) (recent r) (map raised (firstValues A (s .constraints) (recordOf (s .streams) r))) _ _ (allPlaces-long 0 (s .constraints) ∙ sym long) (omega (arith, long, accepted .firsts))
+
+  module _ (r : List ℕ) (a : ℕ) (below : AllBelow (letterNumbers A s) r) (here : a < letterNumbers A s) where
+    pub after-letters : lettersAfter (storedSheet s values) (keyOf A s r) a ≡ recent r ++ (a ∷ [])
+    after-letters = ap (_++ (a ∷ [])) (key-letters r)
+
+    -- As many letters of the record are there as it has, up to D+B.
+    pub after-known : length (lettersAfter (storedSheet s values) (keyOf A s r) a) - 1 ≡ min (length r) w
+    after-known = omega (arith, ap length after-letters, length-snoc (recent r) a, recent-long r)
+
+    after-window : windowOf (length (s .streams)) values (lettersAfter (storedSheet s values) (keyOf A s r) a) ≡ flat (recordOf (s .streams) (recent r ++ (a ∷ [])))
+    after-window = ap (windowOf (length (s .streams)) values) after-letters ∙ window-flat s values has (recent r ++ (a ∷ [])) (below-snoc (letterNumbers A s) (recent r) a (drop-below (letterNumbers A s) (length r - w) r below) here)
+
+    -- A whole record's letters are all there, and the firsts are evaluated.
+    pub view-whole : length r ≤ w
+        → viewAfter (storedSheet s values) (keyOf A s r) a
+        ≡ view (flat (recordOf (s .streams) (r ++ (a ∷ [])))) (length (s .streams)) (map lowered (firstsIn (length (allFirstPlaces 0 (s .constraints))) (keyOf A s r))) true
+    view-whole h =
+        let none : length r - w ≡ 0 = omega arith in
+        let size : leb (sizeIn (keyOf A s r)) w ≡ true = le-leb (sizeIn (keyOf A s r)) w (omega (arith, key-size r)) in
+        let all : recent r ≡ r = ap (λ n. drop n r) none in
+        (λ i. view ((after-window ∙ ap (λ l. flat (recordOf (s .streams) (l ++ (a ∷ [])))) all) i) (length (s .streams)) (map lowered (firstsIn (length (allFirstPlaces 0 (s .constraints))) (keyOf A s r))) (size i))
+
+    -- Of a cut record the last letters and the values of the firsts are there.
+    pub view-cut : w < length r
+        → viewAfter (storedSheet s values) (keyOf A s r) a
+        ≡ view (flat (recordOf (s .streams) (recent r ++ (a ∷ [])))) (length (s .streams)) (firstValues A (s .constraints) (recordOf (s .streams) r)) false
+    view-cut h =
+        let size : leb (sizeIn (keyOf A s r)) w ≡ false = lt-leb (sizeIn (keyOf A s r)) w (omega (arith, key-size r)) in
+        let firsts : map lowered (firstsIn (length (allFirstPlaces 0 (s .constraints))) (keyOf A s r)) ≡ firstValues A (s .constraints) (recordOf (s .streams) r) =
+        ap (map lowered) (key-firsts r h) ∙ lowered-all (firstValues A (s .constraints) (recordOf (s .streams) r)) (firsts-bounded s accepted lawful r below h) in
+        (λ i. view (after-window i) (length (s .streams)) (firsts i) (size i))
