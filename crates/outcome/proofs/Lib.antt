@@ -6,3 +6,4 @@ pub mod StateCount
 pub mod CompileTotal
 pub mod NormalForm
 pub mod NoRows
+pub mod AcceptedCompile
