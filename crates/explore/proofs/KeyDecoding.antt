@@ -23,7 +23,8 @@ use Rattle.nodes.proofs.Record.{flat}
 use Rattle.explore.specs.Key.{letterRoom, firstRoom, padded, encoded, raised, lowered, sizeIn, lettersIn, firstsIn, width, keyOf}
 use Rattle.explore.specs.Step.{windowOf, lettersAfter, viewAfter}
 use Rattle.explore.specs.Rows.{letterNumbers}
-use Rattle.explore.specs.StoredSheet.{firstPlaces, allFirstPlaces, storedSheet, HasLetters}
+use Rattle.nodes.specs.FirstPlaces.{firstPlaces, allFirstPlaces}
+use Rattle.explore.specs.StoredSheet.{storedSheet, HasLetters}
 use Rattle.explore.proofs.KeyLists.{length-padded}
 use Rattle.explore.proofs.KeySituations.{padded-take, lowered-all, drop-below, firsts-long, key-cut}
 use Rattle.explore.proofs.RowLaws.{below-snoc}

@@ -23,7 +23,7 @@ use Rattle.nodes.proofs.Postfix.{StoredAt, storedInteger, storedName, storedFir
 use Rattle.nodes.proofs.Meaning.{nodeValue-value}
 use Rattle.nodes.proofs.Accepted.{lasting-same, whole-met}
 use Rattle.nodes.proofs.Record.{flat, record-places, record-letters}
-use Rattle.explore.specs.StoredSheet.{firstPlaces, allFirstPlaces}
+use Rattle.nodes.specs.FirstPlaces.{firstPlaces, allFirstPlaces}
 use Rattle.explore.proofs.StoredFirsts.{Fine, firsts-fine, endless, endless-ranged}
 
 -- ---- what holds of the node of each first

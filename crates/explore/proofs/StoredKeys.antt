@@ -26,7 +26,8 @@ use Rattle.explore.specs.Key.{encoded, raised, marksNumber, sizeIn, firs
 use Rattle.explore.specs.Step.{Store, unlawful, marked, viewAfter, lettersAfter, firstsFrom, judgedAfter, keyAfter}
 use Rattle.explore.specs.Search.{everyMark, Searched}
 use Rattle.explore.specs.Rows.{isLawful, letterNumbers, ExploreOutcome}
-use Rattle.explore.specs.StoredSheet.{allFirstPlaces, storedSheet, HasLetters, IsStored}
+use Rattle.nodes.specs.FirstPlaces.{allFirstPlaces}
+use Rattle.explore.specs.StoredSheet.{storedSheet, HasLetters, IsStored}
 use Rattle.explore.proofs.KeySituations.{key-whole, key-cut, key-situation, situation-key}
 use Rattle.explore.proofs.KeyMarks.{ones, everyMark-ones, key-flag, key-empty}
 use Rattle.explore.proofs.KeyDecoding.{key-size, key-firsts, after-letters, view-whole}

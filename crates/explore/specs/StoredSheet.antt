@@ -2,36 +2,16 @@
 -- document 01's term.
 use Prim.Native.Nat.{ℕ, _+_, _<_}
 use mathlib.Core.Path.{_≡_}
-use mathlib.Core.List.{List, [], _∷_, _++_, map}
+use mathlib.Core.List.{List, map}
 use lib.IntN.{ℤ}
 use lib.ListN.{length}
-use Rattle.meaning.specs.Expression.{Expression, integer, name, first, next, negation, binary, conditional, fby, Constraint, leftSide, rightSide, Sheet}
-use Rattle.meaning.specs.Interval.{subexpressions}
+use Rattle.meaning.specs.Expression.{Sheet}
 use Rattle.meaning.specs.Letter.{letterCount, letterOf}
 use Rattle.meaning.specs.Window.{B, D}
 use Rattle.nodes.specs.Postfix.{StoredConstraint, allNodes, storedConstraints}
+use Rattle.nodes.specs.FirstPlaces.{allFirstPlaces}
 use Rattle.nodes.specs.Evaluate.{nodesOf}
 use Rattle.explore.specs.Step.{Store, letterAt}
-
--- The places of the nodes of an expression's firsts, by their numbers, where the expression's nodes stand from n on: a node stands behind those
--- of its parts, and there is one node for each subexpression.
-unfoldable pub firstPlaces : ℕ → Expression → List ℕ
-firstPlaces n (integer z) = []
-firstPlaces n (name k) = []
-firstPlaces n (first e) = (n + length (subexpressions e)) ∷ firstPlaces n e
-firstPlaces n (next e) = firstPlaces n e
-firstPlaces n (negation e) = firstPlaces n e
-firstPlaces n (binary o a b) = firstPlaces n a ++ firstPlaces (n + length (subexpressions a)) b
-firstPlaces n (conditional c a b) =
-    firstPlaces n c ++ (firstPlaces (n + length (subexpressions c)) a ++ firstPlaces (n + length (subexpressions c) + length (subexpressions a)) b)
-firstPlaces n (fby a b) = firstPlaces n a ++ firstPlaces (n + length (subexpressions a)) b
-
--- Those of all constraints, left side before right side, line after line.
-unfoldable pub allFirstPlaces : ℕ → List Constraint → List ℕ
-allFirstPlaces n [] = []
-allFirstPlaces n (c ∷ cs) =
-    (firstPlaces n (leftSide c) ++ firstPlaces (n + length (subexpressions (leftSide c))) (rightSide c))
-    ++ allFirstPlaces (n + length (subexpressions (leftSide c)) + length (subexpressions (rightSide c))) cs
 
 -- The stored sheet with these values of its letters.
 abbrev pub storedSheet : Sheet → List ℤ → Store
