@@ -12,9 +12,8 @@ use lib.Seq.{take-take, take-at, drop-at}
 use borrow.Author.Tests.{le-leb, lt-leb}
 use Rattle.automaton.specs.Words.{AllBelow}
 use Rattle.meaning.specs.Arithmetic.{Arithmetic, LawfulArithmetic}
-use Rattle.meaning.specs.Expression.{Expression, integer, name, first, next, negation, binary, conditional, fby, Constraint, leftSide, rightSide, Sheet}
+use Rattle.meaning.specs.Expression.{Sheet}
 use Rattle.meaning.specs.Letter.{letterCount, recordOf}
-use Rattle.meaning.specs.Window.{firsts, allFirsts}
 use Rattle.meaning.specs.Situation.{firstValues}
 use Rattle.meaning.proofs.Facts.{length-snoc}
 use Rattle.sheet.specs.Accepted.{Accepted}
@@ -23,7 +22,8 @@ use Rattle.nodes.proofs.Record.{flat}
 use Rattle.explore.specs.Key.{letterRoom, firstRoom, padded, encoded, raised, lowered, sizeIn, lettersIn, firstsIn, width, keyOf}
 use Rattle.explore.specs.Step.{windowOf, lettersAfter, viewAfter}
 use Rattle.explore.specs.Rows.{letterNumbers}
-use Rattle.nodes.specs.FirstPlaces.{firstPlaces, allFirstPlaces}
+use Rattle.nodes.specs.FirstPlaces.{allFirstPlaces}
+use Rattle.nodes.proofs.FirstPlaces.{allPlaces-long}
 use Rattle.explore.specs.StoredSheet.{storedSheet, HasLetters}
 use Rattle.explore.proofs.KeyLists.{length-padded}
 use Rattle.explore.proofs.KeySituations.{padded-take, lowered-all, drop-below, firsts-long, key-cut}
@@ -51,29 +51,6 @@ encoded-firsts size letters firsts marks m e h =
     ∙ sym (take-take (length firsts) firstRoom rest h)
     ∙ ap (take (length firsts)) (take-at (padded firstRoom firsts) (marks ∷ []) firstRoom (length-padded firstRoom firsts))
     ∙ padded-take firstRoom firsts h
-
--- ---- the firsts of a stored sheet
-
-places-long : (n : ℕ) (e : Expression) → length (firstPlaces n e) ≡ length (firsts e)
-unfolding firstPlaces firsts
-places-long n (integer z) = refl
-places-long n (name k) = refl
-places-long n (first e) = ap suc (places-long n e)
-places-long n (next e) = places-long n e
-places-long n (negation e) = places-long n e
-places-long n (binary o a b) = length-append (firstPlaces n a) _ ∙ ap₂ _+_ (places-long n a) (places-long _ b) ∙ sym (length-append (firsts a) (firsts b))
-places-long n (conditional c a b) =
-    length-append (firstPlaces n c) _ ∙ ap₂ _+_ (places-long n c) (length-append (firstPlaces _ a) _ ∙ ap₂ _+_ (places-long _ a) (places-long _ b) ∙ sym (length-append (firsts a) (firsts b)))
-    ∙ sym (length-append (firsts c) (firsts a ++ firsts b))
-places-long n (fby a b) = length-append (firstPlaces n a) _ ∙ ap₂ _+_ (places-long n a) (places-long _ b) ∙ sym (length-append (firsts a) (firsts b))
-
-pub allPlaces-long : (n : ℕ) (cs : List Constraint) → length (allFirstPlaces n cs) ≡ length (allFirsts cs)
-unfolding allFirstPlaces
-allPlaces-long n [] = refl
-allPlaces-long n (c ∷ cs) =
-    length-append (firstPlaces n (leftSide c) ++ _) _
-    ∙ ap₂ _+_ (length-append (firstPlaces n (leftSide c)) _ ∙ ap₂ _+_ (places-long n (leftSide c)) (places-long _ (rightSide c)) ∙ sym (length-append (firsts (leftSide c)) (firsts (rightSide c)))) (allPlaces-long _ cs)
-    ∙ sym (length-append (firsts (leftSide c) ++ firsts (rightSide c)) (allFirsts cs))
 
 -- ---- the letters of a window
 

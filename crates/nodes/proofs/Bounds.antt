@@ -177,7 +177,7 @@ counts-below (fby a b) =
     let m = length-append (firsts a) (firsts b) in
     (omega arith, omega arith, omega arith)
 
-largestOver-append : (xs ys : List Expression) → largestOver reach (xs ++ ys) ≡ max (largestOver reach xs) (largestOver reach ys)
+pub largestOver-append : (xs ys : List Expression) → largestOver reach (xs ++ ys) ≡ max (largestOver reach xs) (largestOver reach ys)
 largestOver-append [] ys = omega arith
 largestOver-append (x ∷ xs) ys = let h = largestOver-append xs ys in omega arith
 

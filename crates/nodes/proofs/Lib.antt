@@ -1,6 +1,7 @@
 pub mod Parts
 pub mod Evaluate
 pub mod Postfix
+pub mod FirstPlaces
 pub mod Meaning
 pub mod Accepted
 pub mod Record
