@@ -1,3 +1,4 @@
+pub mod TestLaws
 pub mod ChainLaws
 pub mod JudgeLaws
 pub mod KeyLists
@@ -15,3 +16,5 @@ pub mod StoredSides
 pub mod KeyStep
 pub mod StoredFirstNodes
 pub mod StoredKeys
+pub mod SizeLaws
+pub mod SheetSizes

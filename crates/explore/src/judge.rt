@@ -128,7 +128,7 @@ fn is_done(
     if marks % 2 == 1 {
         return true;
     }
-    truth(value_of(
+    let awaited = value_of(
         kinds,
         values,
         starts,
@@ -138,7 +138,8 @@ fn is_done(
         firsts,
         place,
         whole,
-    ))
+    );
+    truth(awaited)
 }
 
 // Whether an until that is done or not is permitted: its left side matters only where it is not done.

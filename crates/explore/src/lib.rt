@@ -3,11 +3,14 @@ mod chains;
 mod extend;
 mod judge;
 mod keys;
+mod sizes;
 
 use chains::clear;
 use chains::find;
 use chains::insert;
 use extend::extend;
+use sizes::is_lent;
+use sizes::is_ready;
 ghost use mathlib.Core.Path.{_≡_};
 ghost use Prim.Native.Nat.{_*_, _≤_, _<_};
 ghost use lib.Dec.{eqb};
@@ -17,9 +20,17 @@ ghost use Rattle.explore.specs.Chains.{keySize, rowAt, Tables};
 ghost use Rattle.explore.specs.Key.{digit};
 ghost use Rattle.explore.specs.Step.{storeOf, IsReady, HasValues, IsKey};
 ghost use Rattle.explore.specs.Search.{everyMark, Settled, Known, Followed, Searched, IsLent};
+ghost use Rattle.explore.specs.Exploration.{lent, ExploresStored};
 
 // The number of situations, or that there are more than the limit.
-pub struct Explored {
+struct Explored {
+    full: bool,
+    count: usize,
+}
+
+// The answer: whether the sheet and the tables have the sizes that the search depends on, and what it finds if so.
+pub struct Exploration {
+    pub ready: bool,
     pub full: bool,
     pub count: usize,
 }
@@ -247,4 +258,85 @@ fn explore(
         flags,
         every,
     )
+}
+
+// Explores a stored sheet in the lent tables, if the sheet keeps the bounds and the tables have room; otherwise the tables stay as they are.
+pub fn explore_stored(
+    kinds: &[u8],
+    values: &[i64],
+    starts: &[u16],
+    relations: &[u8],
+    lefts: &[u16],
+    rights: &[u16],
+    first_nodes: &[u16],
+    letter_values: &[i64],
+    streams: usize,
+    ahead: usize,
+    width: usize,
+    letters: usize,
+    limit: usize,
+    keys: &mut [u32],
+    heads: &mut [u32],
+    links: &mut [u32],
+    entries: &mut [u16],
+    flags: &mut [u8],
+) -> Exploration
+    ensures { λ r. ⌜ ExploresStored cutTowardZero (storeOf (now (kinds .entry)) (now (values .entry)) (now (starts .entry)) (now (relations .entry)) (now (lefts .entry)) (now (rights .entry)) (now («first_nodes» .entry)) (now («letter_values» .entry)) streams ahead width) letters limit (lent (now (keys .entry)) (now (heads .entry)) (now (links .entry)) (now (entries .entry)) (now (flags .entry))) (lent (now (keys .exit)) (now (heads .exit)) (now (links .exit)) (now (entries .exit)) (now (flags .exit))) (r .ready) (r .full) (r .count) ⌝ }
+{
+    if !is_ready(
+        relations.len(),
+        lefts.len(),
+        rights.len(),
+        first_nodes.len(),
+        streams,
+        width,
+    ) {
+        return Exploration {
+            ready: false,
+            full: false,
+            count: 0,
+        };
+    }
+    if !is_lent(
+        letters,
+        limit,
+        streams,
+        letter_values.len(),
+        keys.len(),
+        heads.len(),
+        links.len(),
+        entries.len(),
+        flags.len(),
+    ) {
+        return Exploration {
+            ready: false,
+            full: false,
+            count: 0,
+        };
+    }
+    let found = explore(
+        kinds,
+        values,
+        starts,
+        relations,
+        lefts,
+        rights,
+        first_nodes,
+        letter_values,
+        streams,
+        ahead,
+        width,
+        letters,
+        limit,
+        keys,
+        heads,
+        links,
+        entries,
+        flags,
+    );
+    Exploration {
+        ready: true,
+        full: found.full,
+        count: found.count,
+    }
 }

@@ -2,3 +2,4 @@ pub mod Above
 pub mod Counts
 pub mod Numbers
 pub mod Streams
+pub mod AllLetters

@@ -1,5 +1,5 @@
 -- Letters and their numbers, from the lists of the streams' lowest and highest values (document 01, "Letters, situations, table").
-use Prim.Native.Nat.{ℕ, suc, min}
+use Prim.Native.Nat.{ℕ, zero, suc, _*_, min}
 use mathlib.Core.Bool.{Bool, true, false, cond, _&&_}
 use mathlib.Core.List.{List, [], _∷_, _++_}
 use lib.Dec.{leb, ltb}
@@ -41,3 +41,16 @@ hasLetter ss n room = leb (letterCount ss) letterBound && (ltb n (letterCount ss
 -- The letter at the front of a list, the rest as it was; the list as it was where there is no such letter.
 unfoldable pub withLetter : List Stream → ℕ → List ℤ → List ℤ
 withLetter ss n out = cond (hasLetter ss n (length out)) (letterOf ss n ++ drop (length ss) out) out
+
+-- The values of the first n letters, letter after letter.
+unfoldable pub lettersBelow : List Stream → ℕ → List ℤ
+lettersBelow ss zero = []
+lettersBelow ss (suc n) = lettersBelow ss n ++ letterOf ss n
+
+-- The letters are at most as many as the bound, and a list of this length has room for the values of all of them.
+unfoldable pub hasRoom : List Stream → ℕ → Bool
+hasRoom ss room = leb (letterCount ss) letterBound && leb (letterCount ss * length ss) room
+
+-- All letters at the front of a list, letter after letter, the rest as it was; the list as it was where it has no room for them.
+unfoldable pub withLetters : List Stream → List ℤ → List ℤ
+withLetters ss out = cond (hasRoom ss (length out)) (lettersBelow ss (letterCount ss) ++ drop (letterCount ss * length ss) out) out

@@ -6,7 +6,7 @@ ghost use lib.Signed.{_≤ℤ_};
 ghost use mir.Syntax.{w64};
 ghost use mir.Val.{SFits};
 ghost use Rattle.meaning.specs.Letter.{size, letterCount};
-ghost use Rattle.letters.specs.Described.{ranged, described, cutCount, numberOf, hasLetter, withLetter};
+ghost use Rattle.letters.specs.Described.{ranged, described, cutCount, numberOf, hasLetter, withLetter, hasRoom, withLetters};
 
 // How far a value lies above a lower one; 1,024 where it is more. The sum and the difference are taken only where they do not wrap.
 fn distance(low: i64, high: i64) -> u32
@@ -131,4 +131,30 @@ pub fn letter_number(lows: &[i64], highs: &[i64], letter: &[i64]) -> u32
         i += 1;
     }
     number
+}
+
+// The values of all letters, written letter after letter to the front of `out`. Dividing the room by the count avoids a product that wraps.
+pub fn fill_letters(lows: &[i64], highs: &[i64], out: &mut [i64]) -> bool
+    ensures { λ r. ⌜ (r ≡ hasRoom (described (now (lows .entry)) (now (highs .entry))) (length (now (out .entry)))) × (now (out .exit) ≡ withLetters (described (now (lows .entry)) (now (highs .entry))) (now (out .entry))) ⌝ }
+{
+    let count = letter_count(lows, highs);
+    if 1024 < count {
+        return false;
+    }
+    if count == 0 {
+        return true;
+    }
+    let n = fewer(lows.len(), highs.len());
+    if out.len() / (count as usize) < n {
+        return false;
+    }
+    let mut number: u32 = 0;
+    let mut at = 0;
+    while number < count {
+        let end = at + n;
+        letter_values(lows, highs, number, &mut out[at..end]);
+        at = end;
+        number += 1;
+    }
+    true
 }

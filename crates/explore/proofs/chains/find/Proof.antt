@@ -2,12 +2,12 @@
 use Prim.Native.Nat.{ℕ, _≤_, _<_, _-_, _*_, _+_}
 use mathlib.Core.Path.{_≡_, refl, sym, ap, _∙_}
 use mathlib.Core.List.{List}
-use mathlib.Core.Bool.{Bool, true, false}
 use native.Mathlib.Omega.{arith}
 use lib.ListN.{length, getD, take, drop}
 use native.Mathlib.Nat.{not-suc-le-zero}
 use lib.Seq.{length-take-le}
-use Rattle.explore.specs.Chains.{Says, keySize, rowAt, bucketOf, Tables, Finds}
+use Rattle.explore.specs.Chains.{keySize, rowAt, bucketOf, Tables, Finds}
+use Rattle.explore.proofs.TestLaws.{says-yes, says-no}
 use Rattle.explore.proofs.ChainLaws.{Left, left-first, left-next, part-size, part-long}
 use borrow.Author.Needs.{needs}
 use Rattle.explore.proofs.chains.find.Statement.{statement}
@@ -16,12 +16,6 @@ use Rattle.explore.proofs.chains.find.Reads as reads
 use Rattle.explore.proofs.chains.find.Lts as lts
 use Rattle.explore.proofs.chains.bucket.Reads as bucket-reads
 use Rattle.explore.proofs.chains.same.Reads as same-reads
-
-says-no : {r : Bool} {P : Type 0} → r ≡ false → Says r P → P → ⊥
-says-no e h = rw e at h
-
-says-yes : {r : Bool} {P : Type 0} → r ≡ true → Says r P → P
-says-yes e h = rw e at h
 
 abbrev Inv-loop : tie.InvT-loop
 Inv-loop heads links keys n key h j₀ j = Left links keys n (length heads) key j

@@ -1,0 +1,99 @@
+-- The stored form of an accepted sheet keeps the bounds that the search depends on, and the table of its letters' values that `fill_letters` writes
+-- holds its letters. So what is left to show of a sheet's lists is that they are its stored form, and of the tables that they are long enough.
+use Prim.Native.Nat.{ℕ, _*_, _≤_, _<_}
+use native.Mathlib.Nat.{le-trans, mul-le-mul-left, mul-le-mul-right}
+use mathlib.Core.Path.{_≡_, sym, _∙_, ap₂, subst}
+use mathlib.Core.Bool.{Bool, true}
+use mathlib.Core.List.{List, map}
+use lib.IntN.{ℤ}
+use lib.ListN.{length, length-map}
+use Rattle.meaning.specs.Arithmetic.{Arithmetic, LawfulArithmetic}
+use Rattle.meaning.specs.Expression.{Constraint, Stream, Sheet}
+use Rattle.meaning.specs.Letter.{letterCount}
+use Rattle.sheet.specs.Accepted.{Accepted}
+use Rattle.nodes.specs.Bounds.{lowsOf, highsOf}
+use Rattle.nodes.specs.Postfix.{StoredConstraint, storedConstraints}
+use Rattle.letters.specs.Described.{described, hasRoom, withLetters}
+use Rattle.letters.proofs.AllLetters.{room-there, hasRoom-unnamed, withLetters-unnamed, withLetters-letter}
+use Rattle.explore.specs.Chains.{keySize}
+use Rattle.explore.specs.Step.{Store, IsReady}
+use Rattle.explore.specs.Search.{everyMark, Searched}
+use Rattle.explore.specs.Exploration.{Lent, IsExplorable, ExploresStored}
+use Rattle.explore.specs.Rows.{ExploreOutcome}
+use Rattle.explore.specs.StoredSheet.{storedSheet, HasLetters, IsStored}
+use Rattle.nodes.proofs.FirstPlaces.{allPlaces-long}
+use Rattle.explore.proofs.StoredSides.{constraints-long}
+use Rattle.explore.proofs.StoredKeys.{stored-outcome}
+use Rattle.explore.proofs.TestLaws.{says-holds}
+
+-- ---- the stored sheet
+
+part-long : (cs : List Constraint) (f : StoredConstraint → ℕ) → length (map f (storedConstraints 0 0 cs)) ≡ length cs
+part-long cs f = length-map (storedConstraints 0 0 cs) f ∙ constraints-long 0 0 cs
+
+pub accepted-ready : {A : Arithmetic} (s : Sheet) (values : List ℤ) → Accepted A s → IsReady (storedSheet s values)
+accepted-ready s values accepted =
+    let cs = s .constraints in
+    let relations = part-long cs (λ (t : StoredConstraint). t .relation) in
+    record {
+      few-letters = accepted .window;
+      few-streams = accepted .streamCount;
+      lefts-long = part-long cs (λ (t : StoredConstraint). t .left) ∙ sym relations;
+      rights-long = part-long cs (λ (t : StoredConstraint). t .right) ∙ sym relations;
+      few-constraints = subst (λ n. n ≤ 32) (sym relations) (accepted .constraintCount);
+      few-firsts = subst (λ n. n ≤ 8) (sym (allPlaces-long 0 cs)) (accepted .firsts);
+    }
+
+module _ {A : Arithmetic} (s : Sheet) (accepted : Accepted A s) where
+  abbrev ss : List Stream
+  ss = s .streams
+
+  -- The sheet can be explored in tables with room for as many rows as the limit.
+  pub accepted-explorable : (values : List ℤ) (limit : ℕ) (t : Lent) → letterCount ss * length ss ≤ length values → 0 < limit → limit ≤ 4096 → limit * keySize ≤ length (t .keys)
+      → limit ≤ length (t .heads) → limit ≤ length (t .links) → limit * letterCount ss ≤ length (t .entries) → limit ≤ length (t .flags) → IsExplorable (storedSheet s values) (letterCount ss) limit t
+  accepted-explorable values limit t letters some few keys heads links entries flags = (
+    accepted-ready s values accepted,
+    record {
+      few-letters = accepted .letters;
+      values = letters;
+      some-row = some;
+      few-rows = few;
+      keys-room = keys;
+      heads-room = heads;
+      links-room = links;
+      entries-room = entries;
+      flags-room = flags;
+    },
+  )
+
+  -- ---- the letters' values
+
+  -- A list of 8,192 numbers has room for the letters of every accepted sheet.
+  pub letters-fit : (room : ℕ) → 1024 * 8 ≤ room → letterCount ss * length ss ≤ room
+  letters-fit room h = le-trans (le-trans (mul-le-mul-right (length ss) (accepted .letters)) (mul-le-mul-left 1024 (accepted .streamCount))) h
+
+  module _ {lows highs : List ℤ} (out : List ℤ) (l : lows ≡ lowsOf ss) (h : highs ≡ highsOf ss) (fits : letterCount ss * length ss ≤ length out) where
+    sheet-room : hasRoom ss (length out) ≡ true
+    sheet-room = room-there ss (length out) (accepted .letters) fits
+
+    -- What `fill_letters` answers, and what it writes.
+    pub letters-room : hasRoom (described lows highs) (length out) ≡ true
+    letters-room = ap₂ (λ x y. hasRoom (described x y) (length out)) l h ∙ hasRoom-unnamed ss (length out) ∙ sheet-room
+
+    pub has-letters : {values : List ℤ} → values ≡ withLetters (described lows highs) out → HasLetters s values
+    has-letters e =
+        let same = e ∙ ap₂ (λ x y. withLetters (described x y) out) l h ∙ withLetters-unnamed ss out in
+        subst (HasLetters s) (sym same) (record { letter = withLetters-letter ss out sheet-room })
+
+-- ---- the exploration
+
+-- What `explore_stored` leaves for the stored form of an accepted sheet, in tables with room, is the exploration of the sheet.
+pub stored-explored : {A : Arithmetic} → LawfulArithmetic A → {s : Sheet} → Accepted A s → {K : Store} → IsStored s K → {letters limit count : ℕ} {before after : Lent} {ready full : Bool}
+    → letters ≡ letterCount (s .streams) → IsExplorable K letters limit before → ExploresStored A K letters limit before after ready full count
+    → (ready ≡ true) × ExploreOutcome A s full limit count (after .entries) (after .flags)
+stored-explored {A} lawful {s} accepted {K} stored {letters} {limit} {count} {before} {after} {ready} {full} same explorable found =
+    let yes = says-holds ready (found .answer) explorable in (
+      yes,
+      stored-outcome lawful accepted stored full
+          (subst (λ n. Searched A K n limit (everyMark 0 (K .relations)) (after .keys) (after .entries) (after .flags) full count) same (found .searched yes)),
+    )

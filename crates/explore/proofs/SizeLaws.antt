@@ -1,0 +1,78 @@
+-- The sizes of a stored sheet and of lent tables: the tests of their lengths say whether the sheet can be explored in the tables, and what
+-- `explore_stored` answers follows from what the search leaves.
+use Prim.Native.Nat.{ℕ, _*_, _≤_, _<_}
+use native.Mathlib.Omega.{arith}
+use native.Mathlib.Nat.{le-trans, mul-le-mul-left, mul-le-mul-right}
+use mathlib.Core.Path.{_≡_, refl}
+use mathlib.Core.Bool.{Bool, true, false}
+use lib.ListN.{length}
+use Rattle.meaning.specs.Arithmetic.{Arithmetic}
+use Rattle.explore.specs.Chains.{keySize}
+use Rattle.explore.specs.Key.{letterRoom, firstRoom}
+use Rattle.explore.specs.Step.{Store, IsReady}
+use Rattle.explore.specs.Search.{everyMark, Searched, IsLent}
+use Rattle.explore.specs.Exploration.{Lent, IsExplorable, ExploresStored}
+
+-- ---- sizes
+
+-- A product of numbers within the bounds is small.
+pub product-small : (a b : ℕ) → a ≤ 4096 → b ≤ 1024 → a * b ≤ 4096 * 1024
+product-small a b h k = le-trans (mul-le-mul-right b h) (mul-le-mul-left 4096 k)
+
+abbrev ReadySizes : Store → Type 0
+ReadySizes K =
+    (K .width ≤ letterRoom) × (K .streams ≤ 8) × (length (K .lefts) ≡ length (K .relations)) × (length (K .rights) ≡ length (K .relations)) × (length (K .relations) ≤ 32) × (length (K .firstNodes) ≤ firstRoom)
+
+pub sizes-ready : {K : Store} → ReadySizes K → IsReady K
+sizes-ready h = record { few-letters = h .0; few-streams = h .1; lefts-long = h .2; rights-long = h .3; few-constraints = h .4; few-firsts = h .5 }
+
+ready-sizes : {K : Store} → IsReady K → ReadySizes K
+ready-sizes r = (r .few-letters, r .few-streams, r .lefts-long, r .rights-long, r .few-constraints, r .few-firsts)
+
+abbrev LentSizes : Store → (letters limit : ℕ) → Lent → Type 0
+LentSizes K letters limit t =
+    (letters ≤ 1024) × (letters * K .streams ≤ length (K .letterValues)) × (0 < limit) × (limit ≤ 4096) × (limit * keySize ≤ length (t .keys)) × (limit ≤ length (t .heads)) × (limit ≤ length (t .links)) × (limit * letters ≤ length (t .entries)) × (limit ≤ length (t .flags))
+
+lent-sizes : {K : Store} {letters limit : ℕ} {t : Lent} → IsLent K letters limit (t .keys) (t .heads) (t .links) (t .entries) (t .flags) → LentSizes K letters limit t
+lent-sizes l = (l .few-letters, l .values, l .some-row, l .few-rows, l .keys-room, l .heads-room, l .links-room, l .entries-room, l .flags-room)
+
+module _ (K : Store) (letters limit : ℕ) (t : Lent) where
+  pub sizes-lent-tables : LentSizes K letters limit t → IsLent K letters limit (t .keys) (t .heads) (t .links) (t .entries) (t .flags)
+  sizes-lent-tables h =
+      record {
+        few-letters = h .0;
+        values = h .1;
+        some-row = h .2;
+        few-rows = h .3;
+        keys-room = h .4;
+        heads-room = h .5;
+        links-room = h .6;
+        entries-room = h .7;
+        flags-room = h .8;
+      }
+
+-- ---- what `explore_stored` answers
+
+module _ (A : Arithmetic) (K : Store) (letters limit : ℕ) (t : Lent) where
+  refusal : (IsExplorable K letters limit t → ⊥) → ExploresStored A K letters limit t t false false 0
+  refusal n =
+      record {
+        answer = n;
+        searched = λ e. let y : _≡_ {A = ℕ} 0 1 = cc in absurd (omega arith);
+        refused = λ e. record { not-full = refl; no-rows = refl; same = refl };
+      }
+
+  pub not-ready : (ReadySizes K → ⊥) → ExploresStored A K letters limit t t false false 0
+  not-ready n = refusal (λ h. n (ready-sizes (h .0)))
+
+  pub not-lent : (LentSizes K letters limit t → ⊥) → ExploresStored A K letters limit t t false false 0
+  not-lent n = refusal (λ h. n (lent-sizes (h .1)))
+
+  pub ready : {after : Lent} {full : Bool} {count : ℕ} → ReadySizes K → LentSizes K letters limit t
+      → Searched A K letters limit (everyMark 0 (K .relations)) (after .keys) (after .entries) (after .flags) full count → ExploresStored A K letters limit t after true full count
+  ready r l z =
+      record {
+        answer = (sizes-ready r, sizes-lent-tables K letters limit t l);
+        searched = λ e. z;
+        refused = λ e. let y : _≡_ {A = ℕ} 0 1 = cc in absurd (omega arith);
+      }
