@@ -139,7 +139,7 @@ fn is_done(
         place,
         whole,
     );
-    truth(awaited)
+    awaited != 0
 }
 
 // Whether an until that is done or not is permitted: its left side matters only where it is not done.

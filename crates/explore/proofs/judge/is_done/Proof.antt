@@ -1,11 +1,10 @@
--- `judge::is_done` meets its contract, by its test.
+-- `judge::is_done` meets its contract, by its test and since a value is true exactly if its bits are not 0.
 use Prim.Native.Nat.{_%_}
 use mathlib.Core.Path.{_∙_, sym, ap}
 use borrow.Author.Tests.{eq-eqb, ne-eqb}
-use mir.Syntax.{w64}
-use mir.ValLaws.{toZ-ofZ}
-use Rattle.meaning.specs.Value.{truth}
 use borrow.Author.Needs.{needs}
+use Rattle.meaning.specs.Value.{truth}
+use Rattle.arithmetic.proofs.Machine.{bits-not-zero}
 use Rattle.explore.proofs.judge.is_done.Statement.{statement}
 use Rattle.explore.proofs.judge.is_done.Tie as tie
 
@@ -15,14 +14,11 @@ returns c = sym (simp (eq-eqb (c .before .before .before .args .marks % 2) 1 (c 
 value-of-requires : tie.Need-value-of-requires
 value-of-requires c κs = search needs
 
-truth-requires : tie.Need-truth-requires
-truth-requires c κs = search needs
-
 returns-2 : tie.Need-returns-2
 returns-2 c =
-    let value = c .before .value-of in
-    c .truth .ensures ∙ ap truth (toZ-ofZ w64 (value .result) (record { sfits = value .ok }) ∙ value .ensures)
-    ∙ sym (simp (ne-eqb (c .before .before .before .before .before .args .marks % 2) 1 (c .before .before .if1 .left)))
+    let value = c .value-of in
+    bits-not-zero (value .result) (record { sfits = value .ok }) ∙ ap truth (value .ensures)
+    ∙ sym (simp (ne-eqb (c .before .before .before .before .args .marks % 2) 1 (c .before .if1 .left)))
 
 pub is-done-spec : {M : Type 1} → statement M
-is-done-spec = tie.close (tie.spec returns value-of-requires truth-requires returns-2)
+is-done-spec = tie.close (tie.spec returns value-of-requires returns-2)
