@@ -2,3 +2,16 @@ pub mod Lines
 pub mod Names
 pub mod Constraints
 pub mod Stored
+pub mod Streams
+pub mod Elements
+pub mod Unknown
+pub mod Room
+pub mod FirstNodes
+pub mod SheetExtent
+pub mod Counts
+pub mod Form
+pub mod TestSteps
+pub mod Tests
+pub mod Answers
+pub mod Held
+pub mod TextAnswer

@@ -1,4 +1,11 @@
+pub mod Stored
+pub mod Streams
+pub mod Constraints
+pub mod Unknown
+pub mod Extent
+pub mod FirstNodes
 pub mod Places
 pub mod Names
-pub mod Stored
-pub mod Constraints
+pub mod Tested
+pub mod Form
+pub mod Held

@@ -1,13 +1,66 @@
 -- The stored form of an answer: a refusal's number with a sheet of zeros, or 0 with the stored sheet (document 01, "Room beyond the used
 -- rows, and in a list beyond what is given, is zero").
-use Prim.Native.Nat.{ℕ}
+use Prim.Native.Nat.{ℕ, _-_}
 use mathlib.Core.List.{List, [], _++_, map}
 use lib.IntN.{ℤ, pos}
-use lib.ListN.{length, take, replicate}
-use Rattle.reader.specs.declared.Sheet.{Sheet}
+use lib.ListN.{length, replicate}
+use Rattle.meaning.specs.Expression.{Stream, Sheet}
+use Rattle.meaning.specs.Letter.{letterCount}
+use Rattle.meaning.specs.Window.{joinOver, allFirsts, allUntils, B, D}
+use Rattle.sheet.specs.Refusal.{Answer, refused, sheet}
+use Rattle.nodes.specs.Postfix.{StoredConstraint, allNodes, storedConstraints, kindsOf, valuesOf, startsOf}
+use Rattle.nodes.specs.FirstPlaces.{allFirstPlaces}
+use Rattle.nodes.specs.Bounds.{lowsOf, highsOf}
+use Rattle.reader.specs.declared.Sheet.{Sheet as StoredSheet}
 use Rattle.reader.specs.declared.Reading.{Reading}
 
-abbrev pub emptySheet : Sheet
+-- The list in room for n elements.
+abbrev pub padded : {X : Type 0} → ℕ → X → List X → List X
+padded n z l = l ++ replicate (n - length l) z
+
+-- Eight bytes for each name.
+abbrev pub nameBytes : List Stream → List ℕ
+nameBytes ss = joinOver (λ x. padded 8 0 (x .name)) ss
+
+abbrev pub nameLengths : List Stream → List ℕ
+nameLengths ss = map (λ x. length (x .name)) ss
+
+abbrev pub relationsOf : List StoredConstraint → List ℕ
+relationsOf ts = map (λ t. t .relation) ts
+
+abbrev pub leftsOf : List StoredConstraint → List ℕ
+leftsOf ts = map (λ t. t .left) ts
+
+abbrev pub rightsOf : List StoredConstraint → List ℕ
+rightsOf ts = map (λ t. t .right) ts
+
+unfoldable pub storedSheet : Sheet → StoredSheet
+storedSheet s =
+    let nodes = allNodes 0 0 (s .constraints) in
+    let constraints = storedConstraints 0 0 (s .constraints) in
+    record {
+      streams = length (s .streams);
+      names = padded 64 0 (nameBytes (s .streams));
+      lengths = padded 8 0 (nameLengths (s .streams));
+      lows = padded 8 (pos 0) (lowsOf (s .streams));
+      highs = padded 8 (pos 0) (highsOf (s .streams));
+      letters = letterCount (s .streams);
+      constraints = length (s .constraints);
+      relations = padded 32 0 (relationsOf constraints);
+      lefts = padded 32 0 (leftsOf constraints);
+      rights = padded 32 0 (rightsOf constraints);
+      nodes = length nodes;
+      kinds = padded 1024 0 (kindsOf nodes);
+      values = padded 1024 (pos 0) (valuesOf nodes);
+      starts = padded 1024 0 (startsOf nodes);
+      untils = length (allUntils (s .constraints));
+      firsts = length (allFirsts (s .constraints));
+      «first_nodes» = padded 8 0 (allFirstPlaces 0 (s .constraints));
+      ahead = D (s .constraints);
+      back = B (s .constraints);
+    }
+
+abbrev pub emptySheet : StoredSheet
 emptySheet =
     record {
       streams = 0;
@@ -33,3 +86,8 @@ emptySheet =
 
 abbrev pub refusedReading : ℕ → Reading
 refusedReading n = record { refusal = n; sheet = emptySheet }
+
+-- The number of the refusal, or 0 with the sheet.
+abbrev pub readingOf : Answer → Reading
+readingOf (refused n) = refusedReading n
+readingOf (sheet s) = record { refusal = 0; sheet = storedSheet s }

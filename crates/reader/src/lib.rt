@@ -1,11 +1,23 @@
 // Reads a sheet's bytes: gives the lowest refusal 1 to 7, or the stored sheet.
 ghost use mathlib.Core.Path.{_≡_};
 ghost use mathlib.Core.Bool.{false, cond, _||_};
-ghost use Prim.Native.Nat.{_+_, _<_, max};
-ghost use lib.ListN.{set};
+ghost use Prim.Native.Nat.{_+_, _*_, _<_, _≤_, max};
+ghost use lib.IntN.{pos, natAbs};
+ghost use lib.ListN.{length, set};
+ghost use lib.Seq.{sets};
 ghost use Rattle.parse.specs.Stored.{arrays};
 ghost use Rattle.reader.specs.Constraints.{state, counts, LinesFit, ConstraintsOutcome};
-ghost use Rattle.reader.specs.Stored.{refusedReading};
+ghost use Rattle.reader.specs.Stored.{refusedReading, readingOf};
+ghost use Rattle.reader.specs.Streams.{streamTables, noStreamTables, StreamsOutcome};
+ghost use Rattle.reader.specs.Unknown.{isUnknown, someUnknown};
+ghost use Rattle.reader.specs.Extent.{noExtent, withSummary, extentFrom};
+ghost use Rattle.reader.specs.FirstNodes.{withFirsts, FewFirsts};
+ghost use Rattle.nodes.specs.Evaluate.{stored};
+ghost use Rattle.meaning.specs.Arithmetic.{cutTowardZero};
+ghost use Rattle.sheet.specs.Reading.{answerTo, answerToForm};
+ghost use Rattle.reader.specs.Tested.{failedAs, testedAs};
+ghost use Rattle.reader.specs.Form.{formOfLines};
+ghost use Rattle.reader.specs.Held.{HeldSheet, HeldReading};
 ghost use lib.Dec.{eqb, ltb};
 ghost use lib.Signed.{ltZ};
 ghost use Rattle.text.specs.Token.{isOneOf};
@@ -59,6 +71,28 @@ struct Header {
     highs_end: usize,
     constraints: usize,
     whole: bool,
+}
+
+// Whether the header lines have the form, how many streams they give, and whether a range is refused.
+struct StreamsRead {
+    ok: bool,
+    count: usize,
+    faulty: bool,
+}
+
+// Whether every interval is within the bound; D and B.
+struct Extent {
+    ok: bool,
+    ahead: u32,
+    back: u32,
+}
+
+// A refusal 4 to 7 with zeros, or 0 with the number of letters, D and B.
+struct Tested {
+    refusal: u32,
+    letters: u32,
+    ahead: u32,
+    back: u32,
 }
 
 // Whether the constraint lines have the form, how many they are, what was stored of them, and whether an integer is beyond the bound.
@@ -267,6 +301,17 @@ fn refused(number: u32) -> Reading
     }
 }
 
+fn failed(number: u32) -> Tested
+    ensures { λ r. ⌜ r ≡ failedAs number ⌝ }
+{
+    Tested {
+        refusal: number,
+        letters: 0,
+        ahead: 0,
+        back: 0,
+    }
+}
+
 fn larger(a: u32, b: u32) -> u32
     ensures { λ r. ⌜ r ≡ max a b ⌝ }
 {
@@ -366,4 +411,394 @@ fn read_constraints(
         untils: untils,
         beyond: beyond,
     }
+}
+
+// Stores a stream's name.
+fn put_name(names: &mut [u8; 64], lengths: &mut [u8; 8], stream: usize, name: &[u8])
+    requires { ⌜ (stream < 8) × (length (now name) ≤ 8) ⌝ }
+    ensures { λ r. ⌜ (now (names .exit) ≡ sets (now (names .entry)) (stream * 8) (now (name .entry))) × (now (lengths .exit) ≡ set (now (lengths .entry)) stream (length (now (name .entry)))) ⌝ }
+{
+    let from = stream * 8;
+    let mut i = 0;
+    while i < name.len() {
+        names[from + i] = name[i];
+        i += 1;
+    }
+    lengths[stream] = name.len() as u8;
+}
+
+// Stores a stream's range.
+fn put_range(lows: &mut [i64; 8], highs: &mut [i64; 8], stream: usize, low: i64, high: i64)
+    requires { ⌜ stream < 8 ⌝ }
+    ensures { λ r. ⌜ (now (lows .exit) ≡ set (now (lows .entry)) stream low) × (now (highs .exit) ≡ set (now (highs .entry)) stream high) ⌝ }
+{
+    lows[stream] = low;
+    highs[stream] = high;
+}
+
+fn no_streams() -> StreamsRead
+    ensures { λ r. ⌜ r .ok ≡ false ⌝ }
+{
+    StreamsRead {
+        ok: false,
+        count: 0,
+        faulty: false,
+    }
+}
+
+// Reads the three header lines token by token and stores the streams.
+fn read_streams(
+    names_line: &[u8],
+    lows_line: &[u8],
+    highs_line: &[u8],
+    names: &mut [u8; 64],
+    lengths: &mut [u8; 8],
+    lows: &mut [i64; 8],
+    highs: &mut [i64; 8],
+) -> StreamsRead
+    requires { ⌜ length (tokens (now «names_line»)) ≤ 8 ⌝ }
+    requires { ⌜ streamTables (now names) (now lengths) (now lows) (now highs) ≡ noStreamTables ⌝ }
+    ensures { λ r. ⌜ StreamsOutcome (tokens (now («names_line» .entry))) (tokens (now («lows_line» .entry))) (tokens (now («highs_line» .entry))) r (streamTables (now (names .exit)) (now (lengths .exit)) (now (lows .exit)) (now (highs .exit))) ⌝ }
+{
+    let mut count: usize = 0;
+    let mut faulty = false;
+    let mut name_at = 0;
+    let mut low_at = 0;
+    let mut high_at = 0;
+    loop {
+        let name = scan::next_token(names_line, name_at);
+        let name_start = name.start;
+        let name_end = name.end;
+        let low = scan::next_token(lows_line, low_at);
+        let low_start = low.start;
+        let low_end = low.end;
+        let high = scan::next_token(highs_line, high_at);
+        let high_start = high.start;
+        let high_end = high.end;
+        if name_start == name_end {
+            if low_start != low_end {
+                return no_streams();
+            }
+            if high_start != high_end {
+                return no_streams();
+            }
+            return StreamsRead {
+                ok: true,
+                count: count,
+                faulty: faulty,
+            };
+        }
+        if !scan::is_name(&names_line[name_start..name_end]) {
+            return no_streams();
+        }
+        let lowest = scan::read_integer(&lows_line[low_start..low_end]);
+        if !lowest.ok {
+            return no_streams();
+        }
+        let highest = scan::read_integer(&highs_line[high_start..high_end]);
+        if !highest.ok {
+            return no_streams();
+        }
+        put_name(names, lengths, count, &names_line[name_start..name_end]);
+        put_range(lows, highs, count, lowest.value, highest.value);
+        faulty = either(
+            faulty,
+            range_faulty(lowest.beyond, highest.beyond, lowest.value, highest.value),
+        );
+        count += 1;
+        name_at = name_end;
+        low_at = low_end;
+        high_at = high_end;
+    }
+}
+
+// Whether a node is a name that is none of the streams.
+fn is_unknown(kind: u8, value: i64, streams: i64) -> bool
+    requires { ⌜ streams ≡ pos (natAbs streams) ⌝ }
+    ensures { λ r. ⌜ r ≡ isUnknown kind value (natAbs streams) ⌝ }
+{
+    if kind == 1 { streams <= value } else { false }
+}
+
+// "a name [..] unknown in a constraint": a node of a name whose number is not below the number of streams
+fn some_unknown(kinds: &[u8], values: &[i64], streams: usize) -> bool
+    requires { ⌜ (length (now values) ≡ length (now kinds)) × (streams ≤ 8) ⌝ }
+    ensures { λ r. ⌜ r ≡ someUnknown (now (kinds .entry)) (now (values .entry)) streams ⌝ }
+{
+    let bound = streams as i64;
+    let mut i = 0;
+    while i < kinds.len() {
+        if is_unknown(kinds[i], values[i], bound) {
+            return true;
+        }
+        i += 1;
+    }
+    false
+}
+
+// One side more.
+fn with_summary(before: Extent, summary: nodes::Summary) -> Extent
+    ensures { λ r. ⌜ r ≡ withSummary before summary ⌝ }
+{
+    let range = summary.range;
+    let ok = before.ok;
+    Extent {
+        ok: ok & range.ok,
+        ahead: larger(larger(summary.reach, summary.ahead), before.ahead),
+        back: larger(summary.back, before.back),
+    }
+}
+
+// The extent of all sides.
+fn extent_of(
+    kinds: &[u8],
+    values: &[i64],
+    starts: &[u16],
+    lows: &[i64],
+    highs: &[i64],
+    lefts: &[u16],
+    rights: &[u16],
+) -> Extent
+    requires { ⌜ length (now rights) ≡ length (now lefts) ⌝ }
+    ensures { λ r. ⌜ r ≡ extentFrom cutTowardZero (stored (now (kinds .entry)) (now (values .entry)) (now (starts .entry))) (now (lows .entry)) (now (highs .entry)) noExtent (now (lefts .entry)) (now (rights .entry)) ⌝ }
+{
+    let mut extent = Extent {
+        ok: true,
+        ahead: 0,
+        back: 0,
+    };
+    let mut i = 0;
+    while i < lefts.len() {
+        let left = lefts[i] as usize;
+        extent = with_summary(
+            extent,
+            bounds::summary(kinds, values, starts, lows, highs, left),
+        );
+        let right = rights[i] as usize;
+        extent = with_summary(
+            extent,
+            bounds::summary(kinds, values, starts, lows, highs, right),
+        );
+        i += 1;
+    }
+    extent
+}
+
+fn put_first(first_nodes: &mut [u16; 8], number: i64, place: usize)
+    requires { ⌜ (number ≡ pos (natAbs number)) × (natAbs number < 8) × (place < 1024) ⌝ }
+    ensures { λ r. ⌜ now («first_nodes» .exit) ≡ set (now («first_nodes» .entry)) (natAbs number) place ⌝ }
+{
+    let k = number as usize;
+    first_nodes[k] = place as u16;
+}
+
+// The place of the node of each `first`, by its number.
+fn find_firsts(kinds: &[u8], values: &[i64], first_nodes: &mut [u16; 8])
+    requires { ⌜ (length (now values) ≡ length (now kinds)) × (length (now kinds) ≤ 1024) × FewFirsts (now kinds) (now values) ⌝ }
+    ensures { λ r. ⌜ now («first_nodes» .exit) ≡ withFirsts 0 (now (kinds .entry)) (now (values .entry)) (now («first_nodes» .entry)) ⌝ }
+{
+    let mut i = 0;
+    while i < kinds.len() {
+        if kinds[i] == 2 {
+            put_first(first_nodes, values[i], i);
+        }
+        i += 1;
+    }
+}
+
+// What refusals 4 to 7 say of the streams and constraints that are stored, but for what the names of line 1 say alone.
+fn test_stored(
+    kinds: &[u8],
+    values: &[i64],
+    starts: &[u16],
+    lows: &[i64],
+    highs: &[i64],
+    lefts: &[u16],
+    rights: &[u16],
+    faulty: bool,
+    untils: usize,
+    firsts: usize,
+) -> Tested
+    requires { ⌜ (length (now values) ≡ length (now kinds)) × (length (now lows) ≤ 8) × (length (now rights) ≡ length (now lefts)) ⌝ }
+    ensures { λ r. ⌜ r ≡ testedAs (stored (now (kinds .entry)) (now (values .entry)) (now (starts .entry))) (now (lows .entry)) (now (highs .entry)) (now (lefts .entry)) (now (rights .entry)) faulty untils firsts ⌝ }
+{
+    if some_unknown(kinds, values, lows.len()) {
+        return failed(4);
+    }
+    if faulty {
+        return failed(5);
+    }
+    let extent = extent_of(kinds, values, starts, lows, highs, lefts, rights);
+    if !extent.ok {
+        return failed(6);
+    }
+    let letters = letters::letter_count(lows, highs);
+    let ahead = extent.ahead;
+    let back = extent.back;
+    if counts_refused(letters, untils, firsts, ahead, back) {
+        return failed(7);
+    }
+    Tested {
+        refusal: 0,
+        letters: letters,
+        ahead: ahead,
+        back: back,
+    }
+}
+
+// The answer to a sheet of the form whose names of line 1 are not refused, from what is stored of it.
+fn store_sheet(
+    names: [u8; 64],
+    lengths: [u8; 8],
+    lows: [i64; 8],
+    highs: [i64; 8],
+    streams: StreamsRead,
+    kinds: [u8; 1024],
+    values: [i64; 1024],
+    starts: [u16; 1024],
+    relations: [u8; 32],
+    lefts: [u16; 32],
+    rights: [u16; 32],
+    constraints: ConstraintsRead,
+) -> Reading
+    requires { ⌜ HeldSheet streams (streamTables names lengths lows highs) (state (arrays kinds values starts) relations lefts rights constraints) ⌝ }
+    ensures { λ r. ⌜ HeldReading streams (streamTables names lengths lows highs) (state (arrays kinds values starts) relations lefts rights constraints) r ⌝ }
+{
+    let stream_count = streams.count;
+    let count = constraints.count;
+    let nodes = constraints.nodes;
+    let untils = constraints.untils;
+    let firsts = constraints.firsts;
+    let told = test_stored(
+        &kinds[..nodes],
+        &values[..nodes],
+        &starts[..nodes],
+        &lows[..stream_count],
+        &highs[..stream_count],
+        &lefts[..count],
+        &rights[..count],
+        either(streams.faulty, constraints.beyond),
+        untils,
+        firsts,
+    );
+    if told.refusal != 0 {
+        return refused(told.refusal);
+    }
+    let mut first_nodes: [u16; 8] = [0; 8];
+    find_firsts(&kinds[..nodes], &values[..nodes], &mut first_nodes);
+    let sheet = Sheet {
+        streams: stream_count,
+        names: names,
+        lengths: lengths,
+        lows: lows,
+        highs: highs,
+        letters: told.letters,
+        constraints: count,
+        relations: relations,
+        lefts: lefts,
+        rights: rights,
+        nodes: nodes,
+        kinds: kinds,
+        values: values,
+        starts: starts,
+        untils: untils,
+        firsts: firsts,
+        first_nodes: first_nodes,
+        ahead: told.ahead as usize,
+        back: told.back as usize,
+    };
+    Reading {
+        refusal: 0,
+        sheet: sheet,
+    }
+}
+
+// The answer to a sheet whose header lines and constraint lines are these, where refusals 1 and 2 do not apply.
+fn read_lines(names_line: &[u8], lows_line: &[u8], highs_line: &[u8], text: &[u8]) -> Reading
+    requires { ⌜ (length (tokens (now «names_line»)) ≤ 8) × LinesFit (lines (now text)) ⌝ }
+    ensures { λ r. ⌜ r ≡ readingOf (answerToForm cutTowardZero (formOfLines (tokens (now («names_line» .entry))) (tokens (now («lows_line» .entry))) (tokens (now («highs_line» .entry))) (lines (now (text .entry))))) ⌝ }
+{
+    let mut names: [u8; 64] = [0; 64];
+    let mut lengths: [u8; 8] = [0; 8];
+    let mut lows: [i64; 8] = [0; 8];
+    let mut highs: [i64; 8] = [0; 8];
+    let streams = read_streams(
+        names_line,
+        lows_line,
+        highs_line,
+        &mut names,
+        &mut lengths,
+        &mut lows,
+        &mut highs,
+    );
+    if !streams.ok {
+        return refused(3);
+    }
+    if streams.count == 0 {
+        return refused(3);
+    }
+    let mut kinds: [u8; 1024] = [0; 1024];
+    let mut values: [i64; 1024] = [0; 1024];
+    let mut starts: [u16; 1024] = [0; 1024];
+    let mut relations: [u8; 32] = [0; 32];
+    let mut lefts: [u16; 32] = [0; 32];
+    let mut rights: [u16; 32] = [0; 32];
+    let constraints = read_constraints(
+        names_line,
+        text,
+        &mut kinds,
+        &mut values,
+        &mut starts,
+        &mut relations,
+        &mut lefts,
+        &mut rights,
+    );
+    if !constraints.ok {
+        return refused(3);
+    }
+    if names_refused(names_line) {
+        return refused(4);
+    }
+    store_sheet(
+        names,
+        lengths,
+        lows,
+        highs,
+        streams,
+        kinds,
+        values,
+        starts,
+        relations,
+        lefts,
+        rights,
+        constraints,
+    )
+}
+
+// The lowest refusal 1 to 7 that applies, or the stored sheet.
+pub fn read(text: &[u8]) -> Reading
+    ensures { λ r. ⌜ r ≡ readingOf (answerTo cutTowardZero threeHeaderLines (now (text .entry))) ⌝ }
+{
+    if bytes_refused(text) {
+        return refused(1);
+    }
+    if lines_refused(text) {
+        return refused(2);
+    }
+    let header = header_of(text);
+    if !header.whole {
+        return refused(3);
+    }
+    let names_end = header.names_end;
+    let lows_start = header.lows_start;
+    let lows_end = header.lows_end;
+    let highs_start = header.highs_start;
+    let highs_end = header.highs_end;
+    let from = header.constraints;
+    read_lines(
+        &text[0..names_end],
+        &text[lows_start..lows_end],
+        &text[highs_start..highs_end],
+        &text[from..],
+    )
 }

@@ -1,0 +1,79 @@
+-- The answer to a text, from the tests of its bytes and lines and from where its header lines stand.
+use Prim.Native.Nat.{ℕ, _≤_}
+use mathlib.Core.Path.{_≡_, sym, ap, ap₂, subst, _∙_}
+use mathlib.Core.Bool.{Bool, true, false, cond, _||_}
+use mathlib.Core.List.{List}
+use mathlib.Core.Option.{Option, none}
+use lib.Dec.{ltb}
+use lib.ListN.{length}
+use borrow.Author.Tests.{ltb-false}
+use Rattle.text.specs.Bytes.{lines, tokens}
+use Rattle.meaning.specs.Arithmetic.{cutTowardZero}
+use Rattle.meaning.specs.Expression.{Sheet}
+use Rattle.sheet.specs.Form.{threeHeaderLines, lineTokens, constraintLines}
+use Rattle.sheet.specs.Refusal.{refused, tokenCount}
+use Rattle.sheet.specs.Reading.{anyOf, tooDeepFrom, refuses1, refuses2, formOf, answerToForm, answerTo}
+use Rattle.scan.specs.Place as place
+use Rattle.reader.specs.Constraints.{LinesFit}
+use Rattle.reader.specs.Places.{HeaderOf}
+use Rattle.reader.specs.Stored.{refusedReading, readingOf}
+use Rattle.reader.specs.Form.{formOfLines}
+use Rattle.reader.specs.declared.Header.{Header}
+use Rattle.reader.specs.declared.Reading.{Reading}
+use Rattle.reader.proofs.Lines.{between-all}
+use Rattle.reader.proofs.Tests.{or-left, or-right}
+
+abbrev textReading : List ℕ → Reading
+textReading text = readingOf (answerTo cutTowardZero threeHeaderLines text)
+
+module _ (text : List ℕ) where
+  abbrev form : Option Sheet
+  form = formOf threeHeaderLines text
+
+  pub bytes-reading : {a : Bool} → a ≡ refuses1 text → a ≡ true → refusedReading 1 ≡ textReading text
+  unfolding answerTo
+  bytes-reading e h = sym (ap (λ b. readingOf (cond b (refused 1) (cond (refuses2 threeHeaderLines text) (refused 2) (answerToForm cutTowardZero form)))) (sym e ∙ h))
+
+  module _ {a b : Bool} (bytes : a ≡ refuses1 text) (bytes-fit : a ≡ false) (counted : b ≡ refuses2 threeHeaderLines text) where
+    pub lines-reading : b ≡ true → refusedReading 2 ≡ textReading text
+    unfolding answerTo
+    lines-reading h = sym (ap₂ (λ x y. readingOf (cond x (refused 1) (cond y (refused 2) (answerToForm cutTowardZero form)))) (sym bytes ∙ bytes-fit) (sym counted ∙ h))
+
+    module _ (lines-fit : b ≡ false) {h : Header} (places : HeaderOf text h) where
+      form-reading : textReading text ≡ readingOf (answerToForm cutTowardZero form)
+      unfolding answerTo
+      form-reading = ap₂ (λ x y. readingOf (cond x (refused 1) (cond y (refused 2) (answerToForm cutTowardZero form)))) (sym bytes ∙ bytes-fit) (sym counted ∙ lines-fit)
+
+      abbrev rest : List ℕ
+      rest = place.between text (h .constraints) (length text)
+
+      rest-lines : lines rest ≡ constraintLines threeHeaderLines text
+      rest-lines = ap lines (between-all text (h .constraints) (places .constraintsWithin)) ∙ places .constraints
+
+      -- The sheet of the lines found, where there are three header lines.
+      abbrev read : Option Sheet
+      read = formOfLines (tokens (place.between text 0 (h .«names_end»))) (tokens (place.between text (h .«lows_start») (h .«lows_end»))) (tokens (place.between text (h .«highs_start») (h .«highs_end»))) (lines rest)
+
+      form-is : form ≡ cond (h .whole) read none
+      unfolding formOf
+      form-is =
+          sym (λ i. cond (places .whole i) (formOfLines (tokens (places .names i)) (tokens (places .lows i)) (tokens (places .highs i)) (rest-lines i)) none)
+
+      pub header-reading : h .whole ≡ false → refusedReading 3 ≡ textReading text
+      header-reading k = sym (form-reading ∙ ap (λ o. readingOf (answerToForm cutTowardZero o)) (form-is ∙ ap (λ b. cond b read none) k))
+
+      pub whole-reading : h .whole ≡ true → readingOf (answerToForm cutTowardZero read) ≡ textReading text
+      whole-reading k = sym (form-reading ∙ ap (λ o. readingOf (answerToForm cutTowardZero o)) (form-is ∙ ap (λ b. cond b read none) k))
+
+      -- What refusal 2 leaves.
+      pub lines-few : (length (tokens (place.between text 0 (h .«names_end»))) ≤ 8) × LinesFit (lines rest)
+      unfolding refuses2
+      lines-few =
+          let names = ltb 8 (length (lineTokens text 0)) in
+          let count = ltb 32 (length (constraintLines threeHeaderLines text)) in
+          let total = ltb 1024 (tokenCount (constraintLines threeHeaderLines text)) in
+          let none-deep = or-left (names || count || total) (anyOf (tooDeepFrom 0 0) (constraintLines threeHeaderLines text)) (sym counted ∙ lines-fit) in
+          let both = or-left (names || count) total none-deep in (
+            subst (λ l. length (tokens l) ≤ 8) (sym (places .names)) (ltb-false 8 (length (lineTokens text 0)) (or-left names count both)),
+            subst LinesFit (sym rest-lines) (record { count = ltb-false 32 (length (constraintLines threeHeaderLines text)) (or-right names count both); tokens = ltb-false 1024 (tokenCount (constraintLines threeHeaderLines text)) (or-right (names || count) total none-deep) }),
+          )

@@ -1,0 +1,44 @@
+-- What is stored of the header lines (document 01, "Line 1: stream names. Line 2: the lowest value of each, in that order. Line 3: the highest.").
+use Prim.Native.Nat.{ℕ}
+use mathlib.Core.Path.{_≡_}
+use mathlib.Core.Bool.{true, false}
+use mathlib.Core.List.{List, map}
+use mathlib.Core.Option.{some, none}
+use lib.IntN.{ℤ, pos}
+use lib.ListN.{length, replicate}
+use Rattle.text.specs.Bytes.{Token}
+use Rattle.meaning.specs.Expression.{Stream}
+use Rattle.sheet.specs.Reading.{anyOf, isRangeFaulty, streamsFrom}
+use Rattle.parse.specs.Bounded.{within}
+use Rattle.reader.specs.Stored.{padded, nameBytes, nameLengths}
+use Rattle.reader.specs.declared.StreamsRead.{StreamsRead}
+
+-- The four tables in which streams are stored.
+pub record StreamTables : Type 0 where
+  pub names : List ℕ
+  pub lengths : List ℕ
+  pub lows : List ℤ
+  pub highs : List ℤ
+
+abbrev pub streamTables : List ℕ → List ℕ → List ℤ → List ℤ → StreamTables
+streamTables n k l h = record { names = n; lengths = k; lows = l; highs = h }
+
+abbrev pub noStreamTables : StreamTables
+noStreamTables = streamTables (replicate 64 0) (replicate 8 0) (replicate 8 (pos 0)) (replicate 8 (pos 0))
+
+-- A value beyond the magnitude bound is stored as 0; such a sheet is refused.
+abbrev pub tablesOf : List Stream → StreamTables
+tablesOf ss =
+    streamTables
+    (padded 64 0 (nameBytes ss))
+    (padded 8 0 (nameLengths ss))
+    (padded 8 (pos 0) (map (λ x. within (x .range .low)) ss))
+    (padded 8 (pos 0) (map (λ x. within (x .range .high)) ss))
+
+abbrev pub streamsRead : List Stream → StreamsRead
+streamsRead ss = record { ok = true; count = length ss; faulty = anyOf isRangeFaulty ss }
+
+-- The lines give streams, and the tables hold them; or they do not, and what the tables hold is left open.
+pub data StreamsOutcome (names lows highs : List Token) (r : StreamsRead) (tables : StreamTables) : Type 0 where
+  noForm : streamsFrom names lows highs ≡ none → r .ok ≡ false → StreamsOutcome names lows highs r tables
+  areRead : (ss : List Stream) → streamsFrom names lows highs ≡ some ss → r ≡ streamsRead ss → tables ≡ tablesOf ss → StreamsOutcome names lows highs r tables
