@@ -81,6 +81,10 @@ part-size x w = omega arith
 pub part-long : {X : Type 0} (keys : List X) (x w : ℕ) → x + w ≤ length keys → length (take (x + w - x) (drop x keys)) ≡ w
 part-long keys x w h = rw part-size (length-take-le w (drop x keys) (simp length-drop (omega arith)))
 
+-- the part of the rows that is row i
+pub row-part : (keys : List ℕ) (i : ℕ) → take (i * keySize + keySize - i * keySize) (drop (i * keySize) keys) ≡ rowAt keys i
+row-part keys i = ap (λ n. take n (drop (i * keySize) keys)) (part-size (i * keySize) keySize)
+
 -- rows after a row was stored
 paste-below : (d : List ℕ) (at : ℕ) (s : List ℕ) (n i : ℕ) → i < at → at + n ≤ length d → n ≤ length s → getD (paste d at s n) i 0 ≡ getD d i 0
 paste-below d at s n i lt room k =

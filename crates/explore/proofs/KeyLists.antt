@@ -8,7 +8,7 @@ use native.Mathlib.Nat.{zero-mul, suc-mul}
 use mathlib.Core.Path.{_≡_, refl, sym, _∙_, ap, subst}
 use mathlib.Core.List.{List, [], _∷_, _++_, map, map-append, append-assoc, append-nil}
 use lib.IntN.{ℤ}
-use lib.ListN.{length, getD, take, drop, set, replicate, length-append, length-take, length-drop, length-replicate, length-set, getD-replicate, List·getD-append, List·getD-eq-default, drop-of-length-le}
+use lib.ListN.{length, getD, take, drop, set, replicate, length-append, length-take, length-replicate, length-set, getD-replicate, List·getD-append, List·getD-eq-default, drop-of-length-le}
 use lib.Seq.{take-suc, take-suc-set, take-set-lt, set-split, getD-take, getD-append-add, length-take-le, take-all, paste, take-paste, length-paste}
 use Rattle.explore.specs.Chains.{keySize}
 use Rattle.explore.specs.Key.{padded, encoded, letterRoom, firstRoom}
@@ -83,7 +83,7 @@ module _ (key p q : List ℕ) (size marks : ℕ) (long : length key ≡ keySize)
 -- ---- the letters of a window
 
 module _ (streams : ℕ) (values : List ℤ) where
-  windowOf-snoc : (l : List ℕ) (a : ℕ) → windowOf streams values (l ++ (a ∷ [])) ≡ windowOf streams values l ++ letterAt streams values a
+  pub windowOf-snoc : (l : List ℕ) (a : ℕ) → windowOf streams values (l ++ (a ∷ [])) ≡ windowOf streams values l ++ letterAt streams values a
   unfolding windowOf
   windowOf-snoc [] a = append-nil (letterAt streams values a)
   windowOf-snoc (b ∷ l) a = ap (letterAt streams values b ++_) (windowOf-snoc l a) ∙ sym (append-assoc (letterAt streams values b) (windowOf streams values l) (letterAt streams values a))
@@ -92,12 +92,12 @@ module _ (streams : ℕ) (values : List ℤ) where
   unfolding windowOf
   windowOf-none = refl
 
-  module _ (letters : List ℕ) (p at from : ℕ) (window : List ℤ) (more : p < length letters) (is : from ≡ getD letters p 0 * streams) (inside : from + streams ≤ length values)
-      (room : at + streams ≤ length window) (so-far : take at window ≡ windowOf streams values (take p letters)) where
+  -- One letter's values are put into a window.
+  module _ (a at from : ℕ) (window : List ℤ) (is : from ≡ a * streams) (inside : from + streams ≤ length values) (room : at + streams ≤ length window) where
     abbrev part : List ℤ
     part = take (from + streams - from) (drop from values)
 
-    part-is : part ≡ letterAt streams values (getD letters p 0)
+    part-is : part ≡ letterAt streams values a
     part-is =
         let e : from + streams - from ≡ streams = omega arith in
         ap (λ n. take n (drop from values)) e ∙ ap (λ n. take streams (drop n values)) is
@@ -105,34 +105,20 @@ module _ (streams : ℕ) (values : List ℤ) where
     long : length part ≡ streams
     long = part-long values from streams inside
 
-    pub window-more : take (at + streams) (paste window at part (length part)) ≡ windowOf streams values (take (p + 1) letters)
-    window-more =
+    pub letter-put : take (at + streams) (paste window at part (length part)) ≡ take at window ++ letterAt streams values a
+    letter-put =
         ap (λ n. take (at + streams) (paste window at part n)) long
         ∙ take-paste window at part streams (omega arith) (omega (arith, long))
-        ∙ (λ i. so-far i ++ (take-all streams part (omega (arith, long)) ∙ part-is) i)
-        ∙ sym (windowOf-snoc (take p letters) (getD letters p 0))
-        ∙ ap (windowOf streams values) (sym (take-suc letters p 0 more) ∙ ap (λ n. take n letters) (sym (add-one p)))
+        ∙ ap (take at window ++_) (take-all streams part (omega (arith, long)) ∙ part-is)
 
     pub window-long : length (paste window at part (length part)) ≡ length window
     window-long = length-paste window at part (length part) (omega (arith, long)) (omega arith)
 
--- ---- the letters of a key and one more
-
-module _ (recent key : List ℕ) (held letter : ℕ) (inside : held + 1 ≤ length key) (room : held < length recent) where
-  abbrev copied : List ℕ
-  copied = take (held + 1 - 1) (drop 1 key)
-
-  copied-is : copied ≡ take held (drop 1 key)
-  copied-is = let e : held + 1 - 1 ≡ held = omega arith in ap (λ n. take n (drop 1 key)) e
-
-  copied-long : length copied ≡ held
-  copied-long = ap length copied-is ∙ length-take-le held (drop 1 key) (simp length-drop (omega arith))
-
-  pub recent-letters : take (held + 1) (set (paste recent 0 copied (length copied)) held letter) ≡ take held (drop 1 key) ++ (letter ∷ [])
-  recent-letters =
-      let long : length (paste recent 0 copied held) ≡ length recent = length-paste recent 0 copied held (omega arith) (omega (arith, copied-long)) in
-      let zero-held : 0 + held ≡ held = omega arith in
-      ap (λ n. take (held + 1) (set (paste recent 0 copied n) held letter)) copied-long
-      ∙ ap (λ n. take n (set (paste recent 0 copied held) held letter)) (add-one held)
-      ∙ take-suc-set (paste recent 0 copied held) held letter (omega arith)
-      ∙ ap (_++ (letter ∷ [])) (ap (λ n. take n (paste recent 0 copied held)) (sym zero-held) ∙ take-paste recent 0 copied held (omega arith) (omega (arith, copied-long)) ∙ take-all held copied (omega (arith, copied-long)) ∙ copied-is)
+  pub window-more : (letters : List ℕ) (p at from : ℕ) (window : List ℤ) → p < length letters → from ≡ getD letters p 0 * streams → from + streams ≤ length values
+      → at + streams ≤ length window → take at window ≡ windowOf streams values (take p letters)
+      → take (at + streams) (paste window at (take (from + streams - from) (drop from values)) (length (take (from + streams - from) (drop from values)))) ≡ windowOf streams values (take (p + 1) letters)
+  window-more letters p at from window more is inside room so-far =
+      letter-put (getD letters p 0) at from window is inside room
+      ∙ ap (_++ letterAt streams values (getD letters p 0)) so-far
+      ∙ sym (windowOf-snoc (take p letters) (getD letters p 0))
+      ∙ ap (windowOf streams values) (sym (take-suc letters p 0 more) ∙ ap (λ n. take n letters) (sym (add-one p)))

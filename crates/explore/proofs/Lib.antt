@@ -3,6 +3,7 @@ pub mod ChainLaws
 pub mod JudgeLaws
 pub mod KeyLists
 pub mod KeyNumbers
+pub mod PreparedLaws
 pub mod StepLaws
 pub mod SearchLaws
 pub mod RowLaws

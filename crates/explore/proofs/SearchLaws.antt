@@ -2,8 +2,8 @@
 use Prim.Native.Nat.{ℕ, zero, suc, _+_, _-_, _*_, _^_, _≤_, _<_}
 use native.Mathlib.Omega.{arith}
 use native.Mathlib.Numerals.{add-one}
-use native.Mathlib.Nat.{mul-le-mul-right, suc-mul, zero-mul, not-suc-le-zero, pow-suc}
-use native.Mathlib.Decide.{ℕ-discrete}
+use native.Mathlib.Nat.{mul-le-mul-right, suc-mul, not-suc-le-zero, pow-suc}
+use native.Mathlib.Decide.{ℕ-discrete, decLt}
 use lib.Pow.{pow-mono}
 use mathlib.Core.Path.{_≡_, refl, sym, _∙_, ap, subst}
 use mathlib.Core.Bool.{Bool, true, false, cond}
@@ -19,7 +19,7 @@ use Rattle.meaning.specs.Arithmetic.{Arithmetic}
 use Rattle.explore.specs.Chains.{keySize, rowAt, Tables, Finds, Inserts}
 use Rattle.explore.specs.Key.{letterRoom, sizeIn}
 use Rattle.explore.specs.Step.{Store, judgedAfter, keyAfter, IsReady, HasValues, IsKey}
-use Rattle.explore.specs.Search.{startKey, everyMark, flagOf, Settled, Followed, Over, Searched, Reach, Reach.start, Reach.step, Known, IsRow, IsLent}
+use Rattle.explore.specs.Search.{startKey, everyMark, flagOf, Settled, Followed, Over, Searched, Turn, Reach, Reach.start, Reach.step, Known, IsRow, IsLent}
 use Rattle.explore.proofs.StepLaws.{keyAfter-key}
 
 -- ---- the marks of all untils
@@ -106,6 +106,16 @@ pub settled-key : {limit every n : ℕ} {key key′ keys flags heads′ links′
     → Settled limit every n key keys flags heads′ links′ keys′ flags′ r → Settled limit every n key′ keys flags heads′ links′ keys′ flags′ r
 settled-key {limit} {every} {n} {key} {key′} {keys} {flags} {heads′} {links′} {keys′} {flags′} {r} e h = subst (λ k. Settled limit every n k keys flags heads′ links′ keys′ flags′ r) e h
 
+-- The rows before row n keep their keys.
+pub settled-row : {limit every n : ℕ} {key keys flags heads′ links′ keys′ flags′ : List ℕ} {r : ℕ} → Settled limit every n key keys flags heads′ links′ keys′ flags′ r
+    → (i : ℕ) → i < n → rowAt keys′ i ≡ rowAt keys i
+settled-row {limit} {every} {n} {key} {keys} {flags} {heads′} {links′} {keys′} {flags′} {r} t i h = by (decLt r n) (decLt n limit)
+  where
+    by : Dec (r < n) → Dec (n < limit) → rowAt keys′ i ≡ rowAt keys i
+    by (yes a) b = ap (λ k. rowAt k i) (t .kept (inl a) .1)
+    by (no a) (yes b) = t .added (omega (arith, t .within)) b .1 .old i h
+    by (no a) (no b) = ap (λ k. rowAt k i) (t .kept (inr (omega arith)) .1)
+
 -- ---- places
 
 pub row-fits : (s n l m : ℕ) → s < n → n * l ≤ m → s * l + l ≤ m
@@ -130,11 +140,6 @@ before-row s a s′ a′ p = ⊎-elim (λ h. omega (arith, h)) (λ h. omega (ari
 
 -- ---- the search
 
--- the rows that are met before row s at letter a
-pub record Order (letters : ℕ) (entries : List ℕ) (n s a : ℕ) : Type 0 where
-  pub met : (j : ℕ) → 0 < j → j < n → FirstMet letters (entry-at letters entries) j
-  pub place : (j : ℕ) (h : 0 < j) (k : j < n) → Before (met j h k .state) (met j h k .letter) s a
-
 module _ (A : Arithmetic) (K : Store) (letters limit every : ℕ) where
   -- Every reached key is a key.
   start-key : IsKey K startKey
@@ -147,16 +152,7 @@ module _ (A : Arithmetic) (K : Store) (letters limit every : ℕ) where
   reach-key room h start = start-key
   reach-key room h (step {key} a l r e) = keyAfter-key A K key a (reach-key room h r) room (letter-values h a l)
 
-  -- Before row s at letter a, at the place `at` of the entries.
-  pub record Turn (keys entries flags heads links : List ℕ) (n s a at : ℕ) : Type 0 where
-    pub tables : Tables heads links keys n
-    pub known : Known A K letters every keys flags n
-    pub n-le : n ≤ limit
-    pub here : at ≡ s * letters + a
-    pub done : (s′ a′ : ℕ) → a′ < letters → Before s′ a′ s a → IsRow A K letters keys n (rowAt keys s′) a′ (entry-at letters entries s′ a′)
-    pub order : Order letters entries n s a
-
-  module _ {keys entries flags heads links : List ℕ} {n s a at : ℕ} (t : Turn keys entries flags heads links n s a at) (row : s < n) (letter : a < letters) (room : at < length entries) where
+  module _ {keys entries flags heads links : List ℕ} {n s a at : ℕ} (t : Turn A K letters limit every keys entries flags heads links n s a at) (row : s < n) (letter : a < letters) (room : at < length entries) where
     module _ (v : ℕ) where
       stays : (s′ a′ : ℕ) → a′ < letters → Before s′ a′ s a → entry-at letters (set entries at v) s′ a′ ≡ entry-at letters entries s′ a′
       stays s′ a′ h b = getD-set-other entries at (s′ * letters + a′) v 0 (omega (arith, before-lt letters s′ a′ s a h b, t .here))
@@ -186,7 +182,7 @@ module _ (A : Arithmetic) (K : Store) (letters limit every : ℕ) where
           (λ z. elim (ℕ-discrete a′ a) [ yes q ↦ rw (z .0, q) new | no q ↦ old s′ a′ h (inr (z .0, omega (arith, z .1, q))) ]) b
 
     -- An entry is stored that names a row, or none.
-    pub turn-store : (v : ℕ) → IsRow A K letters keys n (rowAt keys s) a v → Turn keys (set entries at v) flags heads links n s (a + 1) (at + 1)
+    pub turn-store : (v : ℕ) → IsRow A K letters keys n (rowAt keys s) a v → Turn A K letters limit every keys (set entries at v) flags heads links n s (a + 1) (at + 1)
     unfolding old-met
     turn-store v is =
         record {
@@ -250,7 +246,7 @@ module _ (A : Arithmetic) (K : Store) (letters limit every : ℕ) where
             | no q ↦ (old-met n j h (omega arith), before-next (t .order .met j h (omega arith) .state) (t .order .met j h (omega arith) .letter) s a (t .order .place j h (omega arith)))
           ]
 
-      pub turn-new : Turn keys′ (set entries at n) (set flags n (flagOf every key)) heads′ links′ (n + 1) s (a + 1) (at + 1)
+      pub turn-new : Turn A K letters limit every keys′ (set entries at n) (set flags n (flagOf every key)) heads′ links′ (n + 1) s (a + 1) (at + 1)
       turn-new =
           record {
             tables = tables′;
@@ -266,14 +262,13 @@ module _ (A : Arithmetic) (K : Store) (letters limit every : ℕ) where
           }
 
   -- A row is done.
-  pub turn-row : {keys entries flags heads links : List ℕ} {n s a at : ℕ} → letters ≤ a → a ≤ letters → Turn keys entries flags heads links n s a at → Turn keys entries flags heads links n (s + 1) 0 at
+  pub turn-row : {keys entries flags heads links : List ℕ} {n s a at : ℕ} → letters ≤ a → a ≤ letters → Turn A K letters limit every keys entries flags heads links n s a at → Turn A K letters limit every keys entries flags heads links n (s + 1) 0 ((s + 1) * letters)
   turn-row {s = s} {a} {at} h k t =
-      let same : (s + 1) * letters ≡ s * letters + letters = rw (add-one, suc-mul) refl in
       record {
         tables = t .tables;
         known = t .known;
         n-le = t .n-le;
-        here = omega (arith, t .here, same);
+        here = omega arith;
         done = λ s′ a′ l b. ⊎-elim (λ z. elim (ℕ-discrete s′ s) [ yes q ↦ t .done s′ a′ l (inr (q, omega arith)) | no q ↦ t .done s′ a′ l (inl (omega (arith, z, q))) ]) (λ z. absurd (not-suc-le-zero (z .1))) b;
         order = record { met = t .order .met; place = λ j l m. ⊎-elim (λ z. inl (omega (arith, z))) (λ z. inl (omega (arith, z .0))) (t .order .place j l m) };
       }
@@ -289,25 +284,25 @@ module _ (A : Arithmetic) (K : Store) (letters limit every : ℕ) where
         flagged = λ x h. let z : x ≡ 0 = omega arith in ap (λ y. getD (set flags 0 (flagOf every startKey)) y 0) z ∙ getD-set-same flags 0 (flagOf every startKey) 0 room ∙ ap (flagOf every) (sym (ap (rowAt keys′) z ∙ i .new));
       }
 
-  pub turn-begin : {keys entries flags heads links : List ℕ} → 0 < limit → Tables heads links keys 1 → Known A K letters every keys flags 1 → Turn keys entries flags heads links 1 0 0 0
+  pub turn-begin : {keys entries flags heads links : List ℕ} → 0 < limit → Tables heads links keys 1 → Known A K letters every keys flags 1 → Turn A K letters limit every keys entries flags heads links 1 0 0 (0 * letters)
   turn-begin space t k =
       record {
         tables = t;
         known = k;
         n-le = omega arith;
-        here = rw zero-mul (omega arith);
+        here = omega arith;
         done = λ s′ a′ h b. absurd (⊎-elim (λ z. not-suc-le-zero z) (λ z. not-suc-le-zero (z .1)) b);
         order = record { met = λ j h k. absurd (not-suc-le-zero (let z : j < 0 = omega arith in z)); place = λ j h k. absurd (not-suc-le-zero (let z : j < 0 = omega arith in z)) };
       }
 
   -- What following one letter makes of the search.
-  module _ {keys entries flags heads links : List ℕ} {n s a at : ℕ} (t : Turn keys entries flags heads links n s a at) (row : s < n) (letter : a < letters) (room : at < length entries)
+  module _ {keys entries flags heads links : List ℕ} {n s a at : ℕ} (t : Turn A K letters limit every keys entries flags heads links n s a at) (row : s < n) (letter : a < letters) (room : at < length entries)
       (few : limit ≤ 4096) (flags-room : limit ≤ length flags) (r : ℕ) {keys′ flags′ heads′ links′ : List ℕ} (f : Followed A K limit every n s a keys flags heads′ links′ keys′ flags′ r) where
     pub follow-fits : r < 65536
     follow-fits = ⊎-elim (λ x. omega (arith, x .0)) (λ x. omega (arith, x .1 .within, t .n-le)) f
 
     -- The tables stay, and the entry names an old row or none.
-    pub follow-old : (r ≡ n → ⊥) → Turn keys′ (set entries at r) flags′ heads′ links′ n s (a + 1) (at + 1)
+    pub follow-old : (r ≡ n → ⊥) → Turn A K letters limit every keys′ (set entries at r) flags′ heads′ links′ n s (a + 1) (at + 1)
     follow-old other =
         ⊎-elim
         (λ x. moved (x .2) (x .3) (x .4) (turn-store t row letter room r (inl (x .0, x .1))))
@@ -316,7 +311,7 @@ module _ (A : Arithmetic) (K : Store) (letters limit every : ℕ) where
         let k = x .1 .kept (inl l) in
         moved (k .0) (k .1) (k .2) (turn-store t row letter room r (inr (l, x .0, x .1 .found l)))) f
       where
-        moved : Tables heads′ links′ keys′ n → keys′ ≡ keys → flags′ ≡ flags → Turn keys (set entries at r) flags heads links n s (a + 1) (at + 1) → Turn keys′ (set entries at r) flags′ heads′ links′ n s (a + 1) (at + 1)
+        moved : Tables heads′ links′ keys′ n → keys′ ≡ keys → flags′ ≡ flags → Turn A K letters limit every keys (set entries at r) flags heads links n s (a + 1) (at + 1) → Turn A K letters limit every keys′ (set entries at r) flags′ heads′ links′ n s (a + 1) (at + 1)
         moved tables ek ef u =
             record {
               tables = tables;
@@ -331,14 +326,14 @@ module _ (A : Arithmetic) (K : Store) (letters limit every : ℕ) where
     none-bound e h = not-suc-le-zero (let z : n < 0 = omega (arith, t .n-le) in z)
 
     -- A new row is added, and the entry names it.
-    pub follow-new : r ≡ n → (n ≡ limit → ⊥) → Turn keys′ (set entries at r) flags′ heads′ links′ (n + 1) s (a + 1) (at + 1)
+    pub follow-new : r ≡ n → (n ≡ limit → ⊥) → Turn A K letters limit every keys′ (set entries at r) flags′ heads′ links′ (n + 1) s (a + 1) (at + 1)
     follow-new e h =
         ⊎-elim (λ x. absurd (none-bound (x .0) e))
         (λ x.
         let space : n < limit = omega (arith, t .n-le) in
         let d = x .1 .added e space in
-        subst (λ v. Turn keys′ (set entries at v) flags′ heads′ links′ (n + 1) s (a + 1) (at + 1)) (sym e)
-        (subst (λ y. Turn keys′ (set entries at n) y heads′ links′ (n + 1) s (a + 1) (at + 1)) (sym (d .2))
+        subst (λ v. Turn A K letters limit every keys′ (set entries at v) flags′ heads′ links′ (n + 1) s (a + 1) (at + 1)) (sym e)
+        (subst (λ y. Turn A K letters limit every keys′ (set entries at n) y heads′ links′ (n + 1) s (a + 1) (at + 1)) (sym (d .2))
         (turn-new t row letter room (keyAfter A K (rowAt keys s) a) keys′ heads′ links′ space (omega arith) (x .1 .absent e) (d .0) (d .1) (x .0) refl))) f
 
     -- There is no room for a new row.
@@ -357,7 +352,7 @@ module _ (A : Arithmetic) (K : Store) (letters limit every : ℕ) where
         }))) f
 
   -- The search is over.
-  pub turn-end : {keys entries flags heads links : List ℕ} {n s at : ℕ} → n ≤ s → Turn keys entries flags heads links n s 0 at → Searched A K letters limit every keys entries flags false n
+  pub turn-end : {keys entries flags heads links : List ℕ} {n s at : ℕ} → n ≤ s → Turn A K letters limit every keys entries flags heads links n s 0 at → Searched A K letters limit every keys entries flags false n
   turn-end h t = record { known = t .known; within = t .n-le; order = t .order .met; outcome = λ i x l k. t .done i x k (inl (omega arith)) }
 
 -- ---- the sizes of the tables

@@ -1,9 +1,8 @@
 -- One more letter after the record of a key: the letters of the longer record, that the new key is a key again, and that what `finish` makes of
 -- the decoded parts of a key is what the key's step is. From the laws of lists.
-use Prim.Native.Nat.{ℕ, zero, suc, _+_, _-_, _*_, _≤_, _<_, min}
+use Prim.Native.Nat.{ℕ, zero, suc, _+_, _-_, _≤_, _<_, min}
 use native.Mathlib.Omega.{arith}
 use native.Mathlib.Decide.{decLt}
-use native.Mathlib.Nat.{mul-le-mul}
 use mathlib.Core.Path.{_≡_, refl, sym, _∙_, ap, subst}
 use mathlib.Core.Bool.{Bool, true}
 use mathlib.Core.List.{List, [], _∷_, _++_, map}
@@ -68,9 +67,6 @@ module _ (kinds : List ℕ) (values : List ℤ) (starts relations lefts rights f
         few-constraints = r .few-constraints;
         few-firsts = r .few-firsts;
       }
-
-  pub window-room : IsReady whole-store → (n : ℕ) → n ≤ 7 → n * streams ≤ 56
-  window-room r n h = mul-le-mul h (r .few-streams)
 
   pub finished-extended : (A : Arithmetic) (key : List ℕ) (a : ℕ) {window : List ℤ} {firsts : List ℤ} {letters numbers : List ℕ} {ok : Bool} {fresh : List ℕ}
       → window ≡ windowOf streams letterValues (lettersAfter whole-store key a) → firsts ≡ map lowered (firstsIn (length firstNodes) key)

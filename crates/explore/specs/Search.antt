@@ -7,7 +7,7 @@ use mathlib.Core.Logic.{_⊎_}
 use mathlib.Core.List.{List, [], _∷_}
 use lib.Dec.{eqb}
 use lib.ListN.{getD, length, replicate, set}
-use Rattle.automaton.specs.Table.{no-state, FirstMet}
+use Rattle.automaton.specs.Table.{no-state, Before, FirstMet}
 use Rattle.automaton.specs.Stored.{entry-at}
 use Rattle.meaning.specs.Arithmetic.{Arithmetic}
 use Rattle.explore.specs.Chains.{keySize, rowAt, Tables, Inserts}
@@ -75,6 +75,27 @@ module _ (A : Arithmetic) (K : Store) (letters : ℕ) where
     pub within : n ≤ limit
     pub order : (j : ℕ) → 0 < j → j < n → FirstMet letters (entry-at letters entries) j
     pub outcome : SearchOutcome full limit keys entries n
+
+-- the rows that are met before row s at letter a
+pub record Order (letters : ℕ) (entries : List ℕ) (n s a : ℕ) : Type 0 where
+  pub met : (j : ℕ) → 0 < j → j < n → FirstMet letters (entry-at letters entries) j
+  pub place : (j : ℕ) (h : 0 < j) (k : j < n) → Before (met j h k .state) (met j h k .letter) s a
+
+module _ (A : Arithmetic) (K : Store) (letters limit every : ℕ) where
+  -- Before row s at letter a, at the place `at` of the entries.
+  pub record Turn (keys entries flags heads links : List ℕ) (n s a at : ℕ) : Type 0 where
+    pub tables : Tables heads links keys n
+    pub known : Known A K letters every keys flags n
+    pub n-le : n ≤ limit
+    pub here : at ≡ s * letters + a
+    pub done : (s′ a′ : ℕ) → a′ < letters → Before s′ a′ s a → IsRow A K letters keys n (rowAt keys s′) a′ (entry-at letters entries s′ a′)
+    pub order : Order letters entries n s a
+
+  -- The letters of row s are followed, and n rows are known then: the search stands before the next row, or another key is reached than there is
+  -- room for.
+  abbrev pub RowSearched : Bool → (keys entries flags heads links : List ℕ) (n s : ℕ) → Type 0
+  RowSearched true keys entries flags heads links n s = Searched A K letters limit every keys entries flags true n
+  RowSearched false keys entries flags heads links n s = Turn keys entries flags heads links n (s + 1) 0 ((s + 1) * letters)
 
 -- The lent tables have room for as many rows as the limit, and every letter's values are there.
 pub record IsLent (K : Store) (letters limit : ℕ) (keys heads links entries flags : List ℕ) : Type 0 where

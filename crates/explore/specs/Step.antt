@@ -152,6 +152,20 @@ pub record IsKey (K : Store) (key : List ℕ) : Type 0 where
   pub long : length key ≡ keySize
   pub letters : (p : ℕ) → p < min (sizeIn key) (K .width) → HasValues K (getD key (suc p) 0)
 
+-- A store that has letters only.
+abbrev pub lettersStore : (letterValues : List ℤ) (streams width : ℕ) → Store
+lettersStore letterValues streams width = storeOf [] [] [] [] [] [] [] letterValues streams 0 width
+
+-- The arrays hold what every letter after a key needs: the key's letters, their values, and the values of its firsts, of which there are `count`.
+-- What stands after them is free.
+pub record Prepared (letterValues : List ℤ) (streams width count : ℕ) (key recent : List ℕ) (window firsts : List ℤ) : Type 0 where
+  pub recent-long : length recent ≡ 7
+  pub window-long : length window ≡ 56
+  pub firsts-long : length firsts ≡ 8
+  pub letters : take (min (sizeIn key) width) recent ≡ lettersIn width key
+  pub values : take (min (sizeIn key) width * streams) window ≡ windowOf streams letterValues (lettersIn width key)
+  pub numbers : take count firsts ≡ map lowered (firstsIn count key)
+
 -- The answer and the key for these letters, values, marks and numbers of firsts.
 pub record Finished (A : Arithmetic) (K : Store) (W : View) (size : ℕ) (letters : List ℕ) (marks : ℕ) (numbers : List ℕ) (ok : Bool) (fresh : List ℕ) : Type 0 where
   pub answer : ok ≡ judgedIn A K W (length letters - 1) marks .ok

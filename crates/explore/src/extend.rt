@@ -2,11 +2,11 @@
 use crate::chains::put;
 use crate::judge::Judged;
 use crate::judge::judge;
+use crate::keys::add_letter;
 use crate::keys::fill_window;
 use crate::keys::least;
 use crate::keys::lower_all;
 use crate::keys::raise_all;
-use crate::keys::recent_letters;
 use crate::keys::write_key;
 ghost use mathlib.Core.Path.{_≡_};
 ghost use mathlib.Core.Bool.{cond};
@@ -17,8 +17,8 @@ ghost use lib.ListN.{length, take};
 ghost use Rattle.meaning.specs.Arithmetic.{cutTowardZero};
 ghost use Rattle.nodes.specs.Evaluate.{stored, view, nodeValue};
 ghost use Rattle.explore.specs.Chains.{keySize};
-ghost use Rattle.explore.specs.Key.{raised};
-ghost use Rattle.explore.specs.Step.{marked, judgedFrom, storeOf, IsReady, HasValues, IsKey, Finished, Extended};
+ghost use Rattle.explore.specs.Key.{letterRoom, firstRoom, raised};
+ghost use Rattle.explore.specs.Step.{marked, judgedFrom, storeOf, IsReady, HasValues, IsKey, lettersStore, Prepared, Finished, Extended};
 
 // Judges the record with one more letter at the time that is newly judged, D letters back; before D letters are there, nothing is judged.
 fn judge_letter(
@@ -169,7 +169,32 @@ fn finish(
     true
 }
 
-// Whether the record of a key stays lawful with one more letter; if so, `fresh` gets the longer record's key.
+// What every letter after a key needs: the key's letters, their values, and the values of its firsts, of which there are `count`.
+pub fn prepare(
+    letter_values: &[i64],
+    streams: usize,
+    width: usize,
+    count: usize,
+    key: &[u32],
+    recent: &mut [u32],
+    window: &mut [i64],
+    firsts: &mut [i64],
+)
+    requires { ⌜ (width ≤ letterRoom) × (streams ≤ 8) × (count ≤ firstRoom) ⌝ }
+    requires { ⌜ IsKey (lettersStore (now «letter_values») streams width) (now key) ⌝ }
+    requires { ⌜ (length (now recent) ≡ 7) × (length (now window) ≡ 56) × (length (now firsts) ≡ 8) ⌝ }
+    ensures { λ r. ⌜ Prepared (now («letter_values» .entry)) streams width count (now (key .entry)) (now (recent .exit)) (now (window .exit)) (now (firsts .exit)) ⌝ }
+{
+    let held = least(key[0] as usize, width);
+    let end = held + 1;
+    put(recent, 0, &key[1..end]);
+    fill_window(window, letter_values, streams, &key[1..end]);
+    let firsts_end = 7 + count;
+    lower_all(firsts, &key[7..firsts_end]);
+}
+
+// Whether the record of a key stays lawful with one more letter; if so, `fresh` gets the longer record's key. What is prepared for the key stays
+// so: only the letter and its values are put after it.
 pub fn extend(
     kinds: &[u8],
     values: &[i64],
@@ -184,26 +209,26 @@ pub fn extend(
     width: usize,
     key: &[u32],
     letter: u32,
+    recent: &mut [u32],
+    window: &mut [i64],
+    firsts: &[i64],
     fresh: &mut [u32],
 ) -> bool
     requires { ⌜ IsReady (storeOf (now kinds) (now values) (now starts) (now relations) (now lefts) (now rights) (now «first_nodes») (now «letter_values») streams ahead width) ⌝ }
     requires { ⌜ IsKey (storeOf (now kinds) (now values) (now starts) (now relations) (now lefts) (now rights) (now «first_nodes») (now «letter_values») streams ahead width) (now key) ⌝ }
     requires { ⌜ HasValues (storeOf (now kinds) (now values) (now starts) (now relations) (now lefts) (now rights) (now «first_nodes») (now «letter_values») streams ahead width) letter ⌝ }
+    requires { ⌜ Prepared (now «letter_values») streams width (length (now «first_nodes»)) (now key) (now recent) (now window) (now firsts) ⌝ }
     requires { ⌜ length (now fresh) ≡ keySize ⌝ }
     ensures { λ r. ⌜ Extended cutTowardZero (storeOf (now (kinds .entry)) (now (values .entry)) (now (starts .entry)) (now (relations .entry)) (now (lefts .entry)) (now (rights .entry)) (now («first_nodes» .entry)) (now («letter_values» .entry)) streams ahead width) (now (key .entry)) letter r (now (fresh .exit)) ⌝ }
+    ensures { λ r. ⌜ Prepared (now («letter_values» .entry)) streams width (length (now («first_nodes» .entry))) (now (key .entry)) (now (recent .exit)) (now (window .exit)) (now (firsts .entry)) ⌝ }
 {
     let size = key[0] as usize;
     let held = least(size, width);
+    add_letter(recent, window, letter_values, streams, held, letter);
     let count = held + 1;
-    let mut recent = [0u32; 7];
-    recent_letters(&mut recent, key, held, letter);
-    let mut window = [0i64; 56];
-    fill_window(&mut window, letter_values, streams, &recent[..count]);
     let end = count * streams;
     let firsts_count = first_nodes.len();
     let firsts_end = 7 + firsts_count;
-    let mut firsts = [0i64; 8];
-    lower_all(&mut firsts, &key[7..firsts_end]);
     let marks = key[15];
     finish(
         kinds,

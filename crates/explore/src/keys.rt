@@ -11,7 +11,7 @@ ghost use Rattle.meaning.specs.Arithmetic.{cutTowardZero};
 ghost use Rattle.nodes.specs.Evaluate.{stored, view, nodeValue};
 ghost use Rattle.explore.specs.Chains.{keySize};
 ghost use Rattle.explore.specs.Key.{padded, encoded, raised, lowered};
-ghost use Rattle.explore.specs.Step.{windowOf};
+ghost use Rattle.explore.specs.Step.{letterAt, windowOf};
 
 // The smaller of two numbers.
 pub fn least(a: usize, b: usize) -> usize
@@ -95,14 +95,23 @@ pub fn fill_window(window: &mut [i64], letter_values: &[i64], streams: usize, le
     }
 }
 
-// The letters of a key and one letter more.
-pub fn recent_letters(recent: &mut [u32], key: &[u32], held: usize, letter: u32)
-    requires { ⌜ (held + 1 ≤ length (now key)) × (held < length (now recent)) ⌝ }
-    ensures { λ r. ⌜ take (held + 1) (now (recent .exit)) ≡ take held (drop 1 (now (key .entry))) ++ (letter ∷ []) ⌝ }
+// Puts a letter after the letters that are held, and its values after theirs.
+pub fn add_letter(
+    recent: &mut [u32],
+    window: &mut [i64],
+    letter_values: &[i64],
+    streams: usize,
+    held: usize,
+    letter: u32,
+)
+    requires { ⌜ (held < length (now recent)) × (held * streams + streams ≤ length (now window)) × (letter * streams + streams ≤ length (now «letter_values»)) ⌝ }
+    ensures { λ r. ⌜ take (held + 1) (now (recent .exit)) ≡ take held (now (recent .entry)) ++ (letter ∷ []) ⌝ }
+    ensures { λ r. ⌜ take ((held + 1) * streams) (now (window .exit)) ≡ take (held * streams) (now (window .entry)) ++ letterAt streams (now («letter_values» .entry)) letter ⌝ }
 {
-    let end = held + 1;
-    put(recent, 0, &key[1..end]);
     recent[held] = letter;
+    let from = letter as usize * streams;
+    let end = from + streams;
+    copy_values(window, held * streams, &letter_values[from..end]);
 }
 
 // The values of the firsts that a key holds.
