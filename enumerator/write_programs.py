@@ -46,6 +46,23 @@ def step_program(vectors):
     return text, expected.encode()
 
 
+def reader_case(vector):
+    """The bytes of one sheet, and the line that is printed for it."""
+    sheet = vector["sheet"].encode("latin-1")
+    fields = [vector["refusal"], 0, 0, 0, 0, 0, 0]
+    if vector["refusal"] == 0:
+        fields[1:] = [len(vector["names"])] + [vector[key] for key in ("letters", "D", "B", "untils", "firsts")]
+        for stream in zip(vector["names"], vector["lows"], vector["highs"]):
+            fields.extend(stream)
+    return word(len(sheet)) + sheet, " ".join(str(field) for field in fields) + "\n"
+
+
+def reader_program(vectors):
+    """All sheets, in order."""
+    cases = [reader_case(vector) for vector in vectors]
+    return b"".join(case[0] for case in cases), "".join(case[1] for case in cases).encode()
+
+
 def write(folder, crate, files):
     for name, content in zip(("stdin", "stdout"), files):
         path = os.path.join(folder, crate, name)
@@ -56,6 +73,7 @@ def write(folder, crate, files):
 
 def main(vectors, crates):
     write(crates, "step_vectors", step_program(load(vectors, "step.jsonl")))
+    write(crates, "reader_vectors", reader_program(load(vectors, "sheets.jsonl")))
 
 
 if __name__ == "__main__":

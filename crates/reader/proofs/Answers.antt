@@ -1,7 +1,7 @@
 -- The answer to header lines and constraint lines, from what was read of them: one law for each place at which the reading ends.
 use Prim.Native.Nat.{ℕ, _+_, _≤_}
-use mathlib.Core.Path.{_≡_, refl, sym, ap, _∙_}
-use mathlib.Core.Bool.{true, false, not, cond, _||_}
+use mathlib.Core.Path.{_≡_, refl, sym, ap, ap₂, _∙_}
+use mathlib.Core.Bool.{Bool, true, false, not, cond, _||_}
 use mathlib.Core.List.{List, map}
 use mathlib.Core.Option.{Option, none}
 use native.Mathlib.Omega.{arith}
@@ -22,6 +22,7 @@ use Rattle.reader.specs.Names.{namesRefused}
 use Rattle.reader.specs.Stored.{padded, relationsOf, leftsOf, rightsOf, refusedReading, readingOf}
 use Rattle.reader.specs.Streams.{StreamTables, StreamsOutcome}
 use Rattle.reader.specs.Form.{formOfLines}
+use Rattle.reader.specs.Tested.{formRefusal}
 use Rattle.reader.specs.Held.{constraintTables, Held, HeldSheet, HeldReading}
 use Rattle.reader.specs.declared.StreamsRead.{StreamsRead}
 use Rattle.reader.specs.declared.Reading.{Reading}
@@ -42,7 +43,7 @@ module _ {names lows highs : List Token} {r : StreamsRead} {tables : StreamTable
   pub no-stream-reading : (ls : List (List ℕ)) → r .count ≡ 0 → refusedReading 3 ≡ readingOf (answerToForm cutTowardZero (formOfLines names lows highs ls))
   no-stream-reading ls e = formless (form-empty (streams-found o h) ls e)
 
-  pub no-constraints-reading : {ls : List (List ℕ)} {new : State} → (r .count ≡ 0 → ⊥) → ConstraintsOutcome names ls noConstraints new → new .counts .ok ≡ false → refusedReading 3 ≡ readingOf (answerToForm cutTowardZero (formOfLines names lows highs ls))
+  no-constraints-reading : {ls : List (List ℕ)} {new : State} → (r .count ≡ 0 → ⊥) → ConstraintsOutcome names ls noConstraints new → new .counts .ok ≡ false → refusedReading 3 ≡ readingOf (answerToForm cutTowardZero (formOfLines names lows highs ls))
   no-constraints-reading n q k = formless (form-no-constraints (streams-found o h) n q refl k)
 
 -- ---- lines of the form
@@ -83,32 +84,27 @@ module _ (cs : List Constraint) (few-nodes : length (allNodes 0 0 (map boundedCo
       let rights = withAll-rights noConstraints cs ∙ sets-padded 0 32 (rightsOf rows) (omega (arith, length-map rows (λ t. t .right))) in
       λ i. state (stored-nodes i) (relations i) (lefts i) (rights i) (stored-counts i)
 
-pub record FormFound (namesLine lowsLine highsLine text : List ℕ) (r : StreamsRead) (tables : StreamTables) (new : State) : Type 0 where
-  pub fewNames : length (tokens namesLine) ≤ 8
-  pub fewLines : LinesFit (lines text)
-  pub streams : StreamsFound (tokens namesLine) (tokens lowsLine) (tokens highsLine) r tables
-  pub someStream : r .count ≡ 0 → ⊥
-  pub constraints : ConstraintsFound (tokens namesLine) (lines text) noConstraints new
+record FormFound (namesLine lowsLine highsLine text : List ℕ) (r : StreamsRead) (tables : StreamTables) (new : State) : Type 0 where
+  fewNames : length (tokens namesLine) ≤ 8
+  fewLines : LinesFit (lines text)
+  streams : StreamsFound (tokens namesLine) (tokens lowsLine) (tokens highsLine) r tables
+  someStream : r .count ≡ 0 → ⊥
+  constraints : ConstraintsFound (tokens namesLine) (lines text) noConstraints new
 
-pub form-found : (namesLine lowsLine highsLine text : List ℕ) {r : StreamsRead} {tables : StreamTables} {new : State} → (length (tokens namesLine) ≤ 8) × LinesFit (lines text)
-    → StreamsOutcome (tokens namesLine) (tokens lowsLine) (tokens highsLine) r tables → r .ok ≡ true → (r .count ≡ 0 → ⊥) → ConstraintsOutcome (tokens namesLine) (lines text) noConstraints new → new .counts .ok ≡ true
-    → FormFound namesLine lowsLine highsLine text r tables new
-form-found namesLine lowsLine highsLine text (n, l) o h k q i = record { fewNames = n; fewLines = l; streams = streams-found o h; someStream = k; constraints = constraints-found q i }
+abbrev linesAnswer : List ℕ → List ℕ → List ℕ → List ℕ → Answer
+linesAnswer namesLine lowsLine highsLine text = answerToForm cutTowardZero (formOfLines (tokens namesLine) (tokens lowsLine) (tokens highsLine) (lines text))
 
 module _ {namesLine lowsLine highsLine text : List ℕ} {r : StreamsRead} {tables : StreamTables} {new : State} (F : FormFound namesLine lowsLine highsLine text r tables new) where
-  abbrev pub found : Sheet
+  abbrev found : Sheet
   found = record { streams = F .streams .all; constraints = F .constraints .all }
 
-  abbrev answer : Answer
-  answer = answerToForm cutTowardZero (formOfLines (tokens namesLine) (tokens lowsLine) (tokens highsLine) (lines text))
-
-  answer-is : answer ≡ answerToSheet cutTowardZero found
+  answer-is : linesAnswer namesLine lowsLine highsLine text ≡ answerToSheet cutTowardZero found
   answer-is = ap (answerToForm cutTowardZero) (form-sheet (F .streams) (F .someStream) (F .constraints))
 
   names-are : namesOf (found .streams) ≡ tokens namesLine
   names-are = streams-names (tokens namesLine) (tokens lowsLine) (tokens highsLine) (F .streams .form)
 
-  pub names-reading : namesRefused (tokens namesLine) ≡ true → refusedReading 4 ≡ readingOf answer
+  names-reading : namesRefused (tokens namesLine) ≡ true → refusedReading 4 ≡ readingOf (linesAnswer namesLine lowsLine highsLine text)
   unfolding namesRefused refuses4 answerToSheet
   names-reading h =
       let named : namesRefused (namesOf (found .streams)) ≡ true = ap namesRefused names-are ∙ h in
@@ -129,8 +125,43 @@ module _ {namesLine lowsLine highsLine text : List ℕ} {r : StreamsRead} {table
         names = ap namesRefused names-are ∙ h;
       }
 
-  pub held-sheet : namesRefused (tokens namesLine) ≡ false → HeldSheet r tables new
-  held-sheet h = record { sheet = found; held = found-held h }
+-- ---- lines that were read whole
 
-  pub held-reading : namesRefused (tokens namesLine) ≡ false → {reading : Reading} → HeldReading r tables new reading → reading ≡ readingOf answer
-  held-reading h g = g .gives found (found-held h) ∙ sym (ap readingOf answer-is)
+-- What was read of lines with some stream, and the refusal 3 or 4 that their constraint lines and names give, or 0.
+pub record LinesRead (namesLine lowsLine highsLine text : List ℕ) (r : StreamsRead) (tables : StreamTables) (new : State) (refusal : ℕ) : Type 0 where
+  pub few : (length (tokens namesLine) ≤ 8) × LinesFit (lines text)
+  pub streams : StreamsOutcome (tokens namesLine) (tokens lowsLine) (tokens highsLine) r tables
+  pub ok : r .ok ≡ true
+  pub someStream : r .count ≡ 0 → ⊥
+  pub constraints : ConstraintsOutcome (tokens namesLine) (lines text) noConstraints new
+  pub judged : refusal ≡ formRefusal (not (new .counts .ok)) (namesRefused (tokens namesLine))
+
+module _ {namesLine lowsLine highsLine text : List ℕ} {r : StreamsRead} {tables : StreamTables} {new : State} {refusal : ℕ} (R : LinesRead namesLine lowsLine highsLine text r tables new refusal) where
+  form-found : new .counts .ok ≡ true → FormFound namesLine lowsLine highsLine text r tables new
+  form-found e = record { fewNames = R .few .0; fewLines = R .few .1; streams = streams-found (R .streams) (R .ok); someStream = R .someStream; constraints = constraints-found (R .constraints) e }
+
+  refusal-is : {ok named : Bool} → new .counts .ok ≡ ok → namesRefused (tokens namesLine) ≡ named → refusal ≡ formRefusal (not ok) named
+  refusal-is e d = R .judged ∙ ap₂ (λ a b. formRefusal (not a) b) e d
+
+  pub form-refused : (refusal ≡ 0 → ⊥) → refusedReading refusal ≡ readingOf (linesAnswer namesLine lowsLine highsLine text)
+  form-refused n = by (new .counts .ok) refl (namesRefused (tokens namesLine)) refl
+    where
+      by : (ok : Bool) → new .counts .ok ≡ ok → (named : Bool) → namesRefused (tokens namesLine) ≡ named → refusedReading refusal ≡ readingOf (linesAnswer namesLine lowsLine highsLine text)
+      by false e named d = ap refusedReading (refusal-is e d) ∙ no-constraints-reading (R .streams) (R .ok) (R .someStream) (R .constraints) e
+      by true e true d = ap refusedReading (refusal-is e d) ∙ names-reading (form-found e) d
+      by true e false d = absurd (n (refusal-is e d))
+
+  -- Where neither refusal is given, the lines are of the form and no name of line 1 is refused.
+  form-taken : refusal ≡ 0 → (F : FormFound namesLine lowsLine highsLine text r tables new) × (namesRefused (tokens namesLine) ≡ false)
+  form-taken z = by (new .counts .ok) refl (namesRefused (tokens namesLine)) refl
+    where
+      by : (ok : Bool) → new .counts .ok ≡ ok → (named : Bool) → namesRefused (tokens namesLine) ≡ named → (F : FormFound namesLine lowsLine highsLine text r tables new) × (namesRefused (tokens namesLine) ≡ false)
+      by false e named d = let y = refusal-is e d in absurd (omega arith)
+      by true e true d = let y = refusal-is e d in absurd (omega arith)
+      by true e false d = (form-found e, d)
+
+  pub held-sheet : refusal ≡ 0 → HeldSheet r tables new
+  held-sheet z = let (F, h) = form-taken z in record { sheet = found F; held = found-held F h }
+
+  pub held-reading : refusal ≡ 0 → {reading : Reading} → HeldReading r tables new reading → reading ≡ readingOf (linesAnswer namesLine lowsLine highsLine text)
+  held-reading z g = let (F, h) = form-taken z in g .gives (found F) (found-held F h) ∙ sym (ap readingOf (answer-is F))

@@ -1,6 +1,6 @@
 -- The answer to a text, from the tests of its bytes and lines and from where its header lines stand.
 use Prim.Native.Nat.{ℕ, _≤_}
-use mathlib.Core.Path.{_≡_, sym, ap, ap₂, subst, _∙_}
+use mathlib.Core.Path.{_≡_, refl, sym, ap, ap₂, subst, _∙_}
 use mathlib.Core.Bool.{Bool, true, false, cond, _||_}
 use mathlib.Core.List.{List}
 use mathlib.Core.Option.{Option, none}
@@ -26,54 +26,64 @@ use Rattle.reader.proofs.Tests.{or-left, or-right}
 abbrev textReading : List ℕ → Reading
 textReading text = readingOf (answerTo cutTowardZero threeHeaderLines text)
 
+-- The reading by what refusals 1 and 2 say.
 module _ (text : List ℕ) where
   abbrev form : Option Sheet
   form = formOf threeHeaderLines text
 
-  pub bytes-reading : {a : Bool} → a ≡ refuses1 text → a ≡ true → refusedReading 1 ≡ textReading text
+  tested-reading : {a b : Bool} → refuses1 text ≡ a → refuses2 threeHeaderLines text ≡ b → readingOf (cond a (refused 1) (cond b (refused 2) (answerToForm cutTowardZero form))) ≡ textReading text
   unfolding answerTo
-  bytes-reading e h = sym (ap (λ b. readingOf (cond b (refused 1) (cond (refuses2 threeHeaderLines text) (refused 2) (answerToForm cutTowardZero form)))) (sym e ∙ h))
+  tested-reading e h = sym (ap₂ (λ x y. readingOf (cond x (refused 1) (cond y (refused 2) (answerToForm cutTowardZero form)))) e h)
 
-  module _ {a b : Bool} (bytes : a ≡ refuses1 text) (bytes-fit : a ≡ false) (counted : b ≡ refuses2 threeHeaderLines text) where
-    pub lines-reading : b ≡ true → refusedReading 2 ≡ textReading text
-    unfolding answerTo
-    lines-reading h = sym (ap₂ (λ x y. readingOf (cond x (refused 1) (cond y (refused 2) (answerToForm cutTowardZero form)))) (sym bytes ∙ bytes-fit) (sym counted ∙ h))
+  pub bytes-reading : refuses1 text ≡ true → refusedReading 1 ≡ textReading text
+  bytes-reading e = tested-reading e refl
 
-    module _ (lines-fit : b ≡ false) {h : Header} (places : HeaderOf text h) where
-      form-reading : textReading text ≡ readingOf (answerToForm cutTowardZero form)
-      unfolding answerTo
-      form-reading = ap₂ (λ x y. readingOf (cond x (refused 1) (cond y (refused 2) (answerToForm cutTowardZero form)))) (sym bytes ∙ bytes-fit) (sym counted ∙ lines-fit)
+  pub lines-reading : refuses1 text ≡ false → refuses2 threeHeaderLines text ≡ true → refusedReading 2 ≡ textReading text
+  lines-reading e h = tested-reading e h
 
-      abbrev rest : List ℕ
-      rest = place.between text (h .constraints) (length text)
+-- A text to which refusals 1 and 2 do not apply, and where its lines stand.
+pub record HeaderKnown (text : List ℕ) (h : Header) : Type 0 where
+  pub bytes : refuses1 text ≡ false
+  pub counted : refuses2 threeHeaderLines text ≡ false
+  pub places : HeaderOf text h
 
-      rest-lines : lines rest ≡ constraintLines threeHeaderLines text
-      rest-lines = ap lines (between-all text (h .constraints) (places .constraintsWithin)) ∙ places .constraints
+module _ {text : List ℕ} {h : Header} (K : HeaderKnown text h) where
+  abbrev places : HeaderOf text h
+  places = K .places
 
-      -- The sheet of the lines found, where there are three header lines.
-      abbrev read : Option Sheet
-      read = formOfLines (tokens (place.between text 0 (h .«names_end»))) (tokens (place.between text (h .«lows_start») (h .«lows_end»))) (tokens (place.between text (h .«highs_start») (h .«highs_end»))) (lines rest)
+  abbrev rest : List ℕ
+  rest = place.between text (h .constraints) (length text)
 
-      form-is : form ≡ cond (h .whole) read none
-      unfolding formOf
-      form-is =
-          sym (λ i. cond (places .whole i) (formOfLines (tokens (places .names i)) (tokens (places .lows i)) (tokens (places .highs i)) (rest-lines i)) none)
+  rest-lines : lines rest ≡ constraintLines threeHeaderLines text
+  rest-lines = ap lines (between-all text (h .constraints) (places .constraintsWithin)) ∙ places .constraints
 
-      pub header-reading : h .whole ≡ false → refusedReading 3 ≡ textReading text
-      header-reading k = sym (form-reading ∙ ap (λ o. readingOf (answerToForm cutTowardZero o)) (form-is ∙ ap (λ b. cond b read none) k))
+  -- The sheet of the lines found, where there are three header lines.
+  abbrev read : Option Sheet
+  read = formOfLines (tokens (place.between text 0 (h .«names_end»))) (tokens (place.between text (h .«lows_start») (h .«lows_end»))) (tokens (place.between text (h .«highs_start») (h .«highs_end»))) (lines rest)
 
-      pub whole-reading : h .whole ≡ true → readingOf (answerToForm cutTowardZero read) ≡ textReading text
-      whole-reading k = sym (form-reading ∙ ap (λ o. readingOf (answerToForm cutTowardZero o)) (form-is ∙ ap (λ b. cond b read none) k))
+  form-is : form text ≡ cond (h .whole) read none
+  unfolding formOf
+  form-is =
+      sym (λ i. cond (places .whole i) (formOfLines (tokens (places .names i)) (tokens (places .lows i)) (tokens (places .highs i)) (rest-lines i)) none)
 
-      -- What refusal 2 leaves.
-      pub lines-few : (length (tokens (place.between text 0 (h .«names_end»))) ≤ 8) × LinesFit (lines rest)
-      unfolding refuses2
-      lines-few =
-          let names = ltb 8 (length (lineTokens text 0)) in
-          let count = ltb 32 (length (constraintLines threeHeaderLines text)) in
-          let total = ltb 1024 (tokenCount (constraintLines threeHeaderLines text)) in
-          let none-deep = or-left (names || count || total) (anyOf (tooDeepFrom 0 0) (constraintLines threeHeaderLines text)) (sym counted ∙ lines-fit) in
-          let both = or-left (names || count) total none-deep in (
-            subst (λ l. length (tokens l) ≤ 8) (sym (places .names)) (ltb-false 8 (length (lineTokens text 0)) (or-left names count both)),
-            subst LinesFit (sym rest-lines) (record { count = ltb-false 32 (length (constraintLines threeHeaderLines text)) (or-right names count both); tokens = ltb-false 1024 (tokenCount (constraintLines threeHeaderLines text)) (or-right (names || count) total none-deep) }),
-          )
+  form-reading : {o : Option Sheet} → form text ≡ o → readingOf (answerToForm cutTowardZero o) ≡ textReading text
+  form-reading e = ap (λ o. readingOf (answerToForm cutTowardZero o)) (sym e) ∙ tested-reading text (K .bytes) (K .counted)
+
+  pub header-reading : h .whole ≡ false → refusedReading 3 ≡ textReading text
+  header-reading k = form-reading (form-is ∙ ap (λ b. cond b read none) k)
+
+  pub whole-reading : h .whole ≡ true → readingOf (answerToForm cutTowardZero read) ≡ textReading text
+  whole-reading k = form-reading (form-is ∙ ap (λ b. cond b read none) k)
+
+  -- What refusal 2 leaves.
+  pub lines-few : (length (tokens (place.between text 0 (h .«names_end»))) ≤ 8) × LinesFit (lines rest)
+  unfolding refuses2
+  lines-few =
+      let names = ltb 8 (length (lineTokens text 0)) in
+      let count = ltb 32 (length (constraintLines threeHeaderLines text)) in
+      let total = ltb 1024 (tokenCount (constraintLines threeHeaderLines text)) in
+      let none-deep = or-left (names || count || total) (anyOf (tooDeepFrom 0 0) (constraintLines threeHeaderLines text)) (K .counted) in
+      let both = or-left (names || count) total none-deep in (
+        subst (λ l. length (tokens l) ≤ 8) (sym (places .names)) (ltb-false 8 (length (lineTokens text 0)) (or-left names count both)),
+        subst LinesFit (sym rest-lines) (record { count = ltb-false 32 (length (constraintLines threeHeaderLines text)) (or-right names count both); tokens = ltb-false 1024 (tokenCount (constraintLines threeHeaderLines text)) (or-right (names || count) total none-deep) }),
+      )

@@ -1,5 +1,5 @@
--- What refusals 4 to 7 say of stored streams and constraints, but for the names of line 1 (document 01, "The lowest that applies to the whole
--- sheet is given").
+-- What refusals 3 and 4 say of constraint lines and the names of line 1, and what refusals 4 to 7 say of stored streams and constraints, but for the
+-- names of line 1 (document 01, "The lowest that applies to the whole sheet is given").
 use Prim.Native.Nat.{ℕ, _+_}
 use mathlib.Core.Bool.{Bool, cond, _||_}
 use mathlib.Core.List.{List}
@@ -14,6 +14,10 @@ use Rattle.reader.specs.Unknown.{someUnknown}
 use Rattle.reader.specs.Extent.{noExtent, extentFrom}
 use Rattle.reader.specs.declared.Extent.{Extent}
 use Rattle.reader.specs.declared.Tested.{Tested}
+
+-- 3 where the constraint lines are not of the form, else 4 where a name of line 1 is refused, else 0.
+abbrev pub formRefusal : Bool → Bool → ℕ
+formRefusal formless named = cond formless 3 (cond named 4 0)
 
 abbrev pub failedAs : ℕ → Tested
 failedAs n = record { refusal = n; letters = 0; ahead = 0; back = 0 }

@@ -15,7 +15,7 @@ ghost use Rattle.reader.specs.FirstNodes.{withFirsts, FewFirsts};
 ghost use Rattle.nodes.specs.Evaluate.{stored};
 ghost use Rattle.meaning.specs.Arithmetic.{cutTowardZero};
 ghost use Rattle.sheet.specs.Reading.{answerTo, answerToForm};
-ghost use Rattle.reader.specs.Tested.{failedAs, testedAs};
+ghost use Rattle.reader.specs.Tested.{formRefusal, failedAs, testedAs};
 ghost use Rattle.reader.specs.Form.{formOfLines};
 ghost use Rattle.reader.specs.Held.{HeldSheet, HeldReading};
 ghost use lib.Dec.{eqb, ltb};
@@ -246,6 +246,20 @@ fn names_refused(line: &[u8]) -> bool
         }
         at = end;
     }
+}
+
+// 3 where the constraint lines are not of the form, else 4 where a name of line 1 is refused, else 0: "The lowest that applies to the whole sheet
+// is given".
+fn form_refusal(formless: bool, named: bool) -> u32
+    ensures { λ r. ⌜ r ≡ formRefusal formless named ⌝ }
+{
+    if formless {
+        return 3;
+    }
+    if named {
+        return 4;
+    }
+    0
 }
 
 // "7: letters, untils, firsts or D+B over the bound."
@@ -753,11 +767,9 @@ fn read_lines(names_line: &[u8], lows_line: &[u8], highs_line: &[u8], text: &[u8
         &mut lefts,
         &mut rights,
     );
-    if !constraints.ok {
-        return refused(3);
-    }
-    if names_refused(names_line) {
-        return refused(4);
+    let refusal = form_refusal(!constraints.ok, names_refused(names_line));
+    if refusal != 0 {
+        return refused(refusal);
     }
     store_sheet(
         names,

@@ -37,7 +37,9 @@ too-deep-requires : tie.Need-too-deep-requires Inv-loop μ-loop
 too-deep-requires c κs = search needs
 
 returns : tie.Need-returns Inv-loop μ-loop
-returns c = counted-deep (c .before .before .before .before .before .loop .inv) (c .before .before .before .before .loop-test .taken) (c .before .before .before .next-line .ensures) (sym (c .if1 .taken) ∙ c .before .too-deep .ensures)
+returns c =
+    let line = c .before .before .before in
+    counted-deep (line .before .before .loop .inv) (line .before .loop-test .taken) (line .next-line .ensures) (sym (c .if1 .taken) ∙ c .before .too-deep .ensures)
 
 add-count : tie.Need-add-count Inv-loop μ-loop
 add-count c = let k = c .before .before .before .before .before .loop .inv .fewLines in omega arith
@@ -55,13 +57,25 @@ token-count-requires : tie.Need-token-count-requires Inv-loop μ-loop
 token-count-requires c κs = search needs
 
 add-tokens : tie.Need-add-tokens Inv-loop μ-loop
-add-tokens c = let k = counted-step (c .before .before .before .before .before .before .before .loop .inv) (c .before .before .before .before .before .before .loop-test .taken) (c .before .before .before .before .before .next-line .ensures) (sym (c .before .before .if1 .left) ∙ c .before .before .before .too-deep .ensures) (c .token-count .ensures) in let f = k .fewTokens in let i = k .within in omega arith
+add-tokens c =
+    let line = c .before .before .before .before .before in
+    let k = counted-step (line .before .before .loop .inv) (line .before .loop-test .taken) (line .next-line .ensures) (sym (c .before .before .if1 .left) ∙ c .before .before .before .too-deep .ensures) (c .token-count .ensures) in
+    let f = k .fewTokens in
+    let i = k .within in
+    omega arith
 
 loop-less : tie.Need-loop-less Inv-loop μ-loop
-loop-less c = let w = line-within (c .before .before .before .before .before .next-line .ensures) (c .before .before .before .before .before .before .before .loop .inv .within) in let f = w .further (c .before .before .before .before .before .before .loop-test .taken) in let i = w .within in omega arith
+loop-less c =
+    let line = c .before .before .before .before .before in
+    let w = line-within (line .next-line .ensures) (line .before .before .loop .inv .within) in
+    let f = w .further (line .before .loop-test .taken) in
+    let i = w .within in
+    omega arith
 
 loop-again : tie.Need-loop-again Inv-loop μ-loop
-loop-again c = counted-step (c .before .before .before .before .before .before .before .loop .inv) (c .before .before .before .before .before .before .loop-test .taken) (c .before .before .before .before .before .next-line .ensures) (sym (c .before .before .if1 .left) ∙ c .before .before .before .too-deep .ensures) (c .token-count .ensures)
+loop-again c =
+    let line = c .before .before .before .before .before in
+    counted-step (line .before .before .loop .inv) (line .before .loop-test .taken) (line .next-line .ensures) (sym (c .before .before .if1 .left) ∙ c .before .before .before .too-deep .ensures) (c .token-count .ensures)
 
 returns-2 : tie.Need-returns-2 Inv-loop μ-loop
 returns-2 c = sym (ap (λ t. t || ltb 1024 (c .before .before .loop .tokens)) (lt-ltb _ _ (c .if2 .taken))) ∙ counted-end (c .before .before .loop .inv) (c .before .loop-test .left)

@@ -1,8 +1,8 @@
 -- `reader::read` meets its contract: the tests of the bytes and lines decide, and then the header lines and constraint lines.
-use mathlib.Core.Path.{_∙_}
+use mathlib.Core.Path.{sym, _∙_}
 use borrow.Author.Needs.{needs}
 use borrow.Author.Tests.{not-true, not-false}
-use Rattle.reader.proofs.TextAnswer.{bytes-reading, lines-reading, header-reading, whole-reading, lines-few}
+use Rattle.reader.proofs.TextAnswer.{bytes-reading, lines-reading, HeaderKnown, header-reading, whole-reading, lines-few}
 use Rattle.reader.proofs.read.Statement.{statement}
 use Rattle.reader.proofs.read.Tie as tie
 
@@ -13,7 +13,7 @@ refused-requires : tie.Need-refused-requires
 refused-requires c κs = search needs
 
 returns : tie.Need-returns
-returns c = c .refused .ensures ∙ bytes-reading (c .before .before .before .before .args .text .now) (c .before .before .bytes-refused .ensures) (c .before .if1 .taken)
+returns c = c .refused .ensures ∙ bytes-reading _ (sym (c .before .before .bytes-refused .ensures) ∙ c .before .if1 .taken)
 
 lines-refused-requires : tie.Need-lines-refused-requires
 lines-refused-requires c κs = search needs
@@ -22,16 +22,25 @@ refused-requires-2 : tie.Need-refused-requires-2
 refused-requires-2 c κs = search needs
 
 returns-2 : tie.Need-returns-2
-returns-2 c = c .refused2 .ensures ∙ lines-reading (c .before .before .before .before .before .before .args .text .now) (c .before .before .before .before .bytes-refused .ensures) (c .before .before .before .if1 .left) (c .before .before .lines-refused .ensures) (c .before .if2 .taken)
+returns-2 c = c .refused2 .ensures ∙ lines-reading _ (sym (c .before .before .before .before .bytes-refused .ensures) ∙ c .before .before .before .if1 .left) (sym (c .before .before .lines-refused .ensures) ∙ c .before .if2 .taken)
 
 header-of-requires : tie.Need-header-of-requires
 header-of-requires c κs = search needs
+
+-- What is known where the header lines are found.
+known : (c : tie.After-header-of) → HeaderKnown (c .before .before .before .before .before .before .args .text .now) (c .header-of .result)
+known c =
+    record {
+      bytes = sym (c .before .before .before .before .bytes-refused .ensures) ∙ c .before .before .before .if1 .left;
+      counted = sym (c .before .before .lines-refused .ensures) ∙ c .before .if2 .left;
+      places = c .header-of .ensures;
+    }
 
 refused-requires-3 : tie.Need-refused-requires-3
 refused-requires-3 c κs = search needs
 
 returns-3 : tie.Need-returns-3
-returns-3 c = c .refused3 .ensures ∙ header-reading (c .before .before .before .before .before .before .before .before .before .args .text .now) (c .before .before .before .before .before .before .before .bytes-refused .ensures) (c .before .before .before .before .before .before .if1 .left) (c .before .before .before .before .before .lines-refused .ensures) (c .before .before .before .before .if2 .left) (c .before .before .before .header-of .ensures) (not-true _ (c .before .if3 .taken))
+returns-3 c = c .refused3 .ensures ∙ header-reading (known (c .before .before .before)) (not-true _ (c .before .if3 .taken))
 
 sub-read-lines : tie.Need-sub-read-lines
 sub-read-lines c = search needs
@@ -70,10 +79,10 @@ part-read-lines-end-4 : tie.Need-part-read-lines-end-4
 part-read-lines-end-4 c = search needs
 
 read-lines-requires : tie.Need-read-lines-requires
-read-lines-requires c κs = lines-few (c .before .before .before .before .before .before .before .before .before .before .before .before .args .text .now) (c .before .before .before .before .before .before .before .before .before .before .bytes-refused .ensures) (c .before .before .before .before .before .before .before .before .before .if1 .left) (c .before .before .before .before .before .before .before .before .lines-refused .ensures) (c .before .before .before .before .before .before .before .if2 .left) (c .before .before .before .before .before .before .header-of .ensures)
+read-lines-requires c κs = lines-few (known (c .before .before .before .before .before .before))
 
 returns-4 : tie.Need-returns-4
-returns-4 c = c .read-lines .ensures ∙ whole-reading (c .before .before .before .before .before .before .before .before .before .before .before .before .before .args .text .now) (c .before .before .before .before .before .before .before .before .before .before .before .bytes-refused .ensures) (c .before .before .before .before .before .before .before .before .before .before .if1 .left) (c .before .before .before .before .before .before .before .before .before .lines-refused .ensures) (c .before .before .before .before .before .before .before .before .if2 .left) (c .before .before .before .before .before .before .before .header-of .ensures) (not-false _ (c .before .before .before .before .before .if3 .left))
+returns-4 c = c .read-lines .ensures ∙ whole-reading (known (c .before .before .before .before .before .before .before)) (not-false _ (c .before .before .before .before .before .if3 .left))
 
 pub read-spec : {M : Type 1} → statement M
 read-spec =

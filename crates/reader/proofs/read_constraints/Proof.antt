@@ -43,28 +43,49 @@ no-constraints-requires : tie.Need-no-constraints-requires Inv-loop μ-loop
 no-constraints-requires c κs = search needs
 
 returns : tie.Need-returns Inv-loop μ-loop
-returns c = sofar-missing (c .before .before .before .before .before .before .before .before .before .before .loop .inv) (c .before .before .before .before .before .before .before .before .before .loop-test .taken) (c .before .before .before .before .before .before .before .before .next-line .ensures) (line-missing (c .before .before .before .parse-constraint .ensures) (line-fits (c .before .before .before .before .before .before .before .before .before .before .loop .inv) (c .before .before .before .before .before .before .before .before .before .loop-test .taken) (c .before .before .before .before .before .before .before .before .next-line .ensures)) (not-true _ (c .before .if1 .taken))) (c .no-constraints .ensures)
+returns c =
+    let line = c .before .before .before .before .before .before .before .before in
+    sofar-missing (line .before .before .loop .inv) (line .before .loop-test .taken) (line .next-line .ensures) (line-missing (c .before .before .before .parse-constraint .ensures) (line-fits (line .before .before .loop .inv) (line .before .loop-test .taken) (line .next-line .ensures)) (not-true _ (c .before .if1 .taken))) (c .no-constraints .ensures)
 
 put-constraint-requires : tie.Need-put-constraint-requires Inv-loop μ-loop
-put-constraint-requires c κs = let s = sides-low (c .before .before .before .before .before .before .before .before .before .before .before .before .loop .inv) (c .before .before .before .before .before .before .before .before .before .before .before .loop-test .taken) (c .before .before .before .before .before .before .before .before .before .before .next-line .ensures) (line-read (c .before .before .before .before .before .parse-constraint .ensures) (not-false _ (c .before .before .before .if1 .left))) in (count-low (c .before .before .before .before .before .before .before .before .before .before .before .before .loop .inv) (c .before .before .before .before .before .before .before .before .before .before .before .loop-test .taken) (c .before .before .before .before .before .before .before .before .before .before .next-line .ensures), s .0, s .1)
+put-constraint-requires c κs =
+    let line = c .before .before .before .before .before .before .before .before .before .before in
+    let s = sides-low (line .before .before .loop .inv) (line .before .loop-test .taken) (line .next-line .ensures) (line-read (c .before .before .before .before .before .parse-constraint .ensures) (not-false _ (c .before .before .before .if1 .left))) in
+    (count-low (line .before .before .loop .inv) (line .before .loop-test .taken) (line .next-line .ensures), s .0, s .1)
 
 add-count : tie.Need-add-count Inv-loop μ-loop
-add-count c = let s = count-low (c .before .before .before .before .before .before .before .before .before .before .before .before .before .loop .inv) (c .before .before .before .before .before .before .before .before .before .before .before .before .loop-test .taken) (c .before .before .before .before .before .before .before .before .before .before .before .next-line .ensures) in omega arith
+add-count c =
+    let line = c .before .before .before .before .before .before .before .before .before .before .before in
+    let s = count-low (line .before .before .loop .inv) (line .before .loop-test .taken) (line .next-line .ensures) in
+    omega arith
 
 until-count-requires : tie.Need-until-count-requires Inv-loop μ-loop
 until-count-requires c κs = search needs
 
 add-untils : tie.Need-add-untils Inv-loop μ-loop
-add-untils c = let s = count-low (c .before .before .before .before .before .before .before .before .before .before .before .before .before .before .loop .inv) (c .before .before .before .before .before .before .before .before .before .before .before .before .before .loop-test .taken) (c .before .before .before .before .before .before .before .before .before .before .before .before .next-line .ensures) in let u = c .before .before .before .before .before .before .before .before .before .before .before .before .before .before .loop .inv .untils in let o = at-most-one (eqb (c .before .before .before .before .before .before .before .parse-constraint .result .relation) 7) (c .until-count .ensures) in omega arith
+add-untils c =
+    let line = c .before .before .before .before .before .before .before .before .before .before .before .before in
+    let s = count-low (line .before .before .loop .inv) (line .before .loop-test .taken) (line .next-line .ensures) in
+    let u = line .before .before .loop .inv .untils in
+    let o = at-most-one (eqb (c .before .before .before .before .before .before .before .parse-constraint .result .relation) 7) (c .until-count .ensures) in
+    omega arith
 
 either-requires : tie.Need-either-requires Inv-loop μ-loop
 either-requires c κs = search needs
 
 loop-less : tie.Need-loop-less Inv-loop μ-loop
-loop-less c = let w = line-within (c .before .before .before .before .before .before .before .before .before .before .before .before .before .next-line .ensures) (c .before .before .before .before .before .before .before .before .before .before .before .before .before .before .before .loop .inv .within) in let f = w .further (c .before .before .before .before .before .before .before .before .before .before .before .before .before .before .loop-test .taken) in let i = w .within in omega arith
+loop-less c =
+    let line = c .before .before .before .before .before .before .before .before .before .before .before .before .before in
+    let w = line-within (line .next-line .ensures) (line .before .before .loop .inv .within) in
+    let f = w .further (line .before .loop-test .taken) in
+    let i = w .within in
+    omega arith
 
 loop-again : tie.Need-loop-again Inv-loop μ-loop
-loop-again c = sofar-step (c .before .before .before .before .before .before .before .before .before .before .before .before .before .before .before .loop .inv) (c .before .before .before .before .before .before .before .before .before .before .before .before .before .before .loop-test .taken) (c .before .before .before .before .before .before .before .before .before .before .before .before .before .next-line .ensures) (line-read (c .before .before .before .before .before .before .before .before .parse-constraint .ensures) (not-false _ (c .before .before .before .before .before .before .if1 .left))) (c .before .before .put-constraint .ensures .0) (c .before .before .put-constraint .ensures .1) (c .before .before .put-constraint .ensures .2) (c .before .until-count .ensures) (c .either .ensures)
+loop-again c =
+    let line = c .before .before .before .before .before .before .before .before .before .before .before .before .before in
+    let put = c .before .before .put-constraint .ensures in
+    sofar-step (line .before .before .loop .inv) (line .before .loop-test .taken) (line .next-line .ensures) (line-read (c .before .before .before .before .before .before .before .before .parse-constraint .ensures) (not-false _ (c .before .before .before .before .before .before .if1 .left))) (put .0) (put .1) (put .2) (c .before .until-count .ensures) (c .either .ensures)
 
 returns-2 : tie.Need-returns-2 Inv-loop μ-loop
 returns-2 c = sofar-end (c .before .loop .inv) (c .loop-test .left)

@@ -1,8 +1,13 @@
 -- `reader::read_lines` meets its contract: at each place where it ends, what was read of the lines decides the answer.
-use mathlib.Core.Path.{sym, _∙_}
+use mathlib.Core.Path.{ap, _∙_}
+use mathlib.Core.Bool.{not}
 use borrow.Author.Needs.{needs}
 use borrow.Author.Tests.{not-true, not-false}
-use Rattle.reader.proofs.Answers.{no-streams-reading, no-stream-reading, no-constraints-reading, form-found, names-reading, held-sheet, held-reading}
+use Rattle.parse.specs.Stored.{arrays}
+use Rattle.reader.specs.Constraints.{State, state}
+use Rattle.reader.specs.Streams.{StreamTables, streamTables}
+use Rattle.reader.specs.Tested.{formRefusal}
+use Rattle.reader.proofs.Answers.{no-streams-reading, no-stream-reading, LinesRead, form-refused, held-sheet, held-reading}
 use Rattle.reader.proofs.read_lines.Statement.{statement}
 use Rattle.reader.proofs.read_lines.Tie as tie
 
@@ -24,26 +29,56 @@ returns-2 c = c .refused2 .ensures ∙ no-stream-reading (c .before .before .bef
 read-constraints-requires : tie.Need-read-constraints-requires
 read-constraints-requires c κs = search needs
 
+names-refused-requires : tie.Need-names-refused-requires
+names-refused-requires c κs = search needs
+
+form-refusal-requires : tie.Need-form-refusal-requires
+form-refusal-requires c κs = search needs
+
+-- ---- what is known where the constraint lines and the names are judged
+
+-- Places passed: there is some stream, the streams are read, the function starts.
+abbrev some-stream-of : tie.After-form-refusal → tie.Else2
+some-stream-of c = c .before .before .before .before .before .before .before .before .before .before
+
+abbrev streams-of : tie.After-form-refusal → tie.After-read-streams
+streams-of c = some-stream-of c .before .before .before .before
+
+abbrev start-of : tie.After-form-refusal → tie.Start
+start-of c = streams-of c .before .before .before .before .before .before .before .before .before
+
+-- What the tables hold.
+abbrev tables-of : tie.After-form-refusal → StreamTables
+tables-of c = let last = streams-of c .read-streams .last .1 .1 .1 in streamTables (last .0) (last .1 .0) (last .1 .1 .0) (last .1 .1 .1 .0)
+
+abbrev constraints-of : tie.After-form-refusal → State
+constraints-of c =
+    let read = c .before .before .before .read-constraints in
+    let last = read .last .1 .1 in
+    state (arrays (last .0) (last .1 .0) (last .1 .1 .0)) (last .1 .1 .1 .0) (last .1 .1 .1 .1 .0) (last .1 .1 .1 .1 .1 .0) (read .result)
+
+lines-read : (c : tie.After-form-refusal) → LinesRead (start-of c .args .names-line .now) (start-of c .args .lows-line .now) (start-of c .args .highs-line .now) (start-of c .args .text .now) (streams-of c .read-streams .result) (tables-of c) (constraints-of c) (c .form-refusal .result)
+lines-read c =
+    record {
+      few = start-of c .pre;
+      streams = streams-of c .read-streams .ensures;
+      ok = not-false _ (some-stream-of c .before .before .if1 .left);
+      someStream = some-stream-of c .if2 .left;
+      constraints = c .before .before .before .read-constraints .ensures;
+      judged = c .form-refusal .ensures ∙ ap (formRefusal (not (c .before .before .before .read-constraints .result .ok))) (c .before .names-refused .ensures);
+    }
+
 refused-requires-3 : tie.Need-refused-requires-3
 refused-requires-3 c κs = search needs
 
 returns-3 : tie.Need-returns-3
-returns-3 c = c .refused3 .ensures ∙ no-constraints-reading (c .before .before .before .before .before .before .before .before .before .before .before .before .before .before .read-streams .ensures) (not-false _ (c .before .before .before .before .before .before .before .before .before .before .before .before .if1 .left)) (c .before .before .before .before .before .before .before .before .before .before .if2 .left) (c .before .before .before .read-constraints .ensures) (not-true _ (c .before .if3 .taken))
-
-names-refused-requires : tie.Need-names-refused-requires
-names-refused-requires c κs = search needs
-
-refused-requires-4 : tie.Need-refused-requires-4
-refused-requires-4 c κs = search needs
-
-returns-4 : tie.Need-returns-4
-returns-4 c = c .refused4 .ensures ∙ names-reading (form-found (c .before .before .before .before .before .before .before .before .before .before .before .before .before .before .before .before .before .before .before .before .before .before .before .before .before .args .names-line .now) (c .before .before .before .before .before .before .before .before .before .before .before .before .before .before .before .before .before .before .before .before .before .before .before .before .before .args .lows-line .now) (c .before .before .before .before .before .before .before .before .before .before .before .before .before .before .before .before .before .before .before .before .before .before .before .before .before .args .highs-line .now) (c .before .before .before .before .before .before .before .before .before .before .before .before .before .before .before .before .before .before .before .before .before .before .before .before .before .args .text .now) (c .before .before .before .before .before .before .before .before .before .before .before .before .before .before .before .before .before .before .before .before .before .before .before .before .before .pre) (c .before .before .before .before .before .before .before .before .before .before .before .before .before .before .before .before .read-streams .ensures) (not-false _ (c .before .before .before .before .before .before .before .before .before .before .before .before .before .before .if1 .left)) (c .before .before .before .before .before .before .before .before .before .before .before .before .if2 .left) (c .before .before .before .before .before .read-constraints .ensures) (not-false _ (c .before .before .before .if3 .left))) (sym (c .before .before .names-refused .ensures) ∙ c .before .if4 .taken)
+returns-3 c = c .refused3 .ensures ∙ form-refused (lines-read (c .before .before)) (c .before .if3 .taken)
 
 store-sheet-requires : tie.Need-store-sheet-requires
-store-sheet-requires c κs = held-sheet (form-found (c .before .before .before .before .before .before .before .before .before .before .before .before .before .before .before .before .before .before .before .before .before .before .before .before .args .names-line .now) (c .before .before .before .before .before .before .before .before .before .before .before .before .before .before .before .before .before .before .before .before .before .before .before .before .args .lows-line .now) (c .before .before .before .before .before .before .before .before .before .before .before .before .before .before .before .before .before .before .before .before .before .before .before .before .args .highs-line .now) (c .before .before .before .before .before .before .before .before .before .before .before .before .before .before .before .before .before .before .before .before .before .before .before .before .args .text .now) (c .before .before .before .before .before .before .before .before .before .before .before .before .before .before .before .before .before .before .before .before .before .before .before .before .pre) (c .before .before .before .before .before .before .before .before .before .before .before .before .before .before .before .read-streams .ensures) (not-false _ (c .before .before .before .before .before .before .before .before .before .before .before .before .before .if1 .left)) (c .before .before .before .before .before .before .before .before .before .before .before .if2 .left) (c .before .before .before .before .read-constraints .ensures) (not-false _ (c .before .before .if3 .left))) (sym (c .before .names-refused .ensures) ∙ c .if4 .left)
+store-sheet-requires c κs = held-sheet (lines-read (c .before)) (c .if3 .left)
 
-returns-5 : tie.Need-returns-5
-returns-5 c = held-reading (form-found (c .before .before .before .before .before .before .before .before .before .before .before .before .before .before .before .before .before .before .before .before .before .before .before .before .before .args .names-line .now) (c .before .before .before .before .before .before .before .before .before .before .before .before .before .before .before .before .before .before .before .before .before .before .before .before .before .args .lows-line .now) (c .before .before .before .before .before .before .before .before .before .before .before .before .before .before .before .before .before .before .before .before .before .before .before .before .before .args .highs-line .now) (c .before .before .before .before .before .before .before .before .before .before .before .before .before .before .before .before .before .before .before .before .before .before .before .before .before .args .text .now) (c .before .before .before .before .before .before .before .before .before .before .before .before .before .before .before .before .before .before .before .before .before .before .before .before .before .pre) (c .before .before .before .before .before .before .before .before .before .before .before .before .before .before .before .before .read-streams .ensures) (not-false _ (c .before .before .before .before .before .before .before .before .before .before .before .before .before .before .if1 .left)) (c .before .before .before .before .before .before .before .before .before .before .before .before .if2 .left) (c .before .before .before .before .before .read-constraints .ensures) (not-false _ (c .before .before .before .if3 .left))) (sym (c .before .before .names-refused .ensures) ∙ c .before .if4 .left) (c .store-sheet .ensures)
+returns-4 : tie.Need-returns-4
+returns-4 c = held-reading (lines-read (c .before .before)) (c .before .if3 .left) (c .store-sheet .ensures)
 
 pub read-lines-spec : {M : Type 1} → statement M
 read-lines-spec =
@@ -55,10 +90,9 @@ read-lines-spec =
     refused-requires-2
     returns-2
     read-constraints-requires
+    names-refused-requires
+    form-refusal-requires
     refused-requires-3
     returns-3
-    names-refused-requires
-    refused-requires-4
-    returns-4
     store-sheet-requires
-    returns-5)
+    returns-4)

@@ -37,10 +37,11 @@ no-streams-requires c κs = search needs
 
 returns : tie.Need-returns Inv-loop μ-loop
 returns c =
-    let sofar = c .before .before .before .before .before .before .loop .inv in
-    let name = c .before .before .before .before .before .next-token .ensures in
-    let low = c .before .before .before .before .next-token2 .ensures in
-    let high = c .before .before .before .next-token3 .ensures in
+    let read = c .before .before .before in
+    let sofar = read .before .before .before .loop .inv in
+    let name = read .before .before .next-token .ensures in
+    let low = read .before .next-token2 .ensures in
+    let high = read .next-token3 .ensures in
     noForm (lows-left sofar name low high (c .before .before .if1 .taken) (c .before .if2 .taken)) (c .no-streams .ensures)
 
 no-streams-requires-2 : tie.Need-no-streams-requires-2 Inv-loop μ-loop
@@ -48,18 +49,20 @@ no-streams-requires-2 c κs = search needs
 
 returns-2 : tie.Need-returns-2 Inv-loop μ-loop
 returns-2 c =
-    let sofar = c .before .before .before .before .before .before .before .loop .inv in
-    let name = c .before .before .before .before .before .before .next-token .ensures in
-    let low = c .before .before .before .before .before .next-token2 .ensures in
-    let high = c .before .before .before .before .next-token3 .ensures in
+    let read = c .before .before .before .before in
+    let sofar = read .before .before .before .loop .inv in
+    let name = read .before .before .next-token .ensures in
+    let low = read .before .next-token2 .ensures in
+    let high = read .next-token3 .ensures in
     noForm (highs-left sofar name low high (c .before .before .before .if1 .taken) (c .before .before .if2 .left) (c .before .if3 .taken)) (c .no-streams2 .ensures)
 
 returns-3 : tie.Need-returns-3 Inv-loop μ-loop
 returns-3 c =
-    let sofar = c .before .before .before .before .before .before .loop .inv in
-    let name = c .before .before .before .before .before .next-token .ensures in
-    let low = c .before .before .before .before .next-token2 .ensures in
-    let high = c .before .before .before .next-token3 .ensures in
+    let read = c .before .before .before in
+    let sofar = read .before .before .before .loop .inv in
+    let name = read .before .before .next-token .ensures in
+    let low = read .before .next-token2 .ensures in
+    let high = read .next-token3 .ensures in
     all-read sofar name low high (c .before .before .if1 .taken) (c .before .if2 .left) (c .if3 .left)
 
 sub-is-name : tie.Need-sub-is-name Inv-loop μ-loop
@@ -79,11 +82,13 @@ no-streams-requires-3 c κs = search needs
 
 returns-4 : tie.Need-returns-4 Inv-loop μ-loop
 returns-4 c =
-    let sofar = c .before .before .before .before .before .before .before .before .loop .inv in
-    let name = c .before .before .before .before .before .before .before .next-token .ensures in
-    let low = c .before .before .before .before .before .before .next-token2 .ensures in
-    let high = c .before .before .before .before .before .next-token3 .ensures in
-    noForm (no-name sofar name low high (c .before .before .before .before .if1 .left) (sym (c .before .before .is-name .ensures) ∙ not-true _ (c .before .if4 .taken))) (c .no-streams3 .ensures)
+    let named = c .before .before .before .before in
+    let read = named .before in
+    let sofar = read .before .before .before .loop .inv in
+    let name = read .before .before .next-token .ensures in
+    let low = read .before .next-token2 .ensures in
+    let high = read .next-token3 .ensures in
+    noForm (no-name sofar name low high (named .if1 .left) (sym (c .before .before .is-name .ensures) ∙ not-true _ (c .before .if4 .taken))) (c .no-streams3 .ensures)
 
 sub-read-integer : tie.Need-sub-read-integer Inv-loop μ-loop
 sub-read-integer c = let w = token-within (c .before .before .before .before .before .next-token2 .ensures) in let a = w .0 in let b = w .1 in omega arith
@@ -102,12 +107,14 @@ no-streams-requires-4 c κs = search needs
 
 returns-5 : tie.Need-returns-5 Inv-loop μ-loop
 returns-5 c =
-    let sofar = c .before .before .before .before .before .before .before .before .before .before .before .before .loop .inv in
-    let name = c .before .before .before .before .before .before .before .before .before .before .before .next-token .ensures in
-    let low = c .before .before .before .before .before .before .before .before .before .before .next-token2 .ensures in
-    let high = c .before .before .before .before .before .before .before .before .before .next-token3 .ensures in
+    let named = c .before .before .before .before .before .before .before .before in
+    let read = named .before in
+    let sofar = read .before .before .before .loop .inv in
+    let name = read .before .before .next-token .ensures in
+    let low = read .before .next-token2 .ensures in
+    let high = read .next-token3 .ensures in
     let isAName = sym (c .before .before .before .before .before .before .is-name .ensures) ∙ not-false _ (c .before .before .before .before .before .if4 .left) in
-    noForm (no-low sofar name low high (c .before .before .before .before .before .before .before .before .if1 .left) isAName (c .before .before .before .read-integer .ensures) (not-true _ (c .before .if5 .taken))) (c .no-streams4 .ensures)
+    noForm (no-low sofar name low high (named .if1 .left) isAName (c .before .before .before .read-integer .ensures) (not-true _ (c .before .if5 .taken))) (c .no-streams4 .ensures)
 
 sub-read-integer-2 : tie.Need-sub-read-integer-2 Inv-loop μ-loop
 sub-read-integer-2 c = let w = token-within (c .before .before .before .before .before .before .before .before .next-token3 .ensures) in let a = w .0 in let b = w .1 in omega arith
@@ -126,12 +133,14 @@ no-streams-requires-5 c κs = search needs
 
 returns-6 : tie.Need-returns-6 Inv-loop μ-loop
 returns-6 c =
-    let sofar = c .before .before .before .before .before .before .before .before .before .before .before .before .before .before .before .before .loop .inv in
-    let name = c .before .before .before .before .before .before .before .before .before .before .before .before .before .before .before .next-token .ensures in
-    let low = c .before .before .before .before .before .before .before .before .before .before .before .before .before .before .next-token2 .ensures in
-    let high = c .before .before .before .before .before .before .before .before .before .before .before .before .before .next-token3 .ensures in
+    let named = c .before .before .before .before .before .before .before .before .before .before .before .before in
+    let read = named .before in
+    let sofar = read .before .before .before .loop .inv in
+    let name = read .before .before .next-token .ensures in
+    let low = read .before .next-token2 .ensures in
+    let high = read .next-token3 .ensures in
     let isAName = sym (c .before .before .before .before .before .before .before .before .before .before .is-name .ensures) ∙ not-false _ (c .before .before .before .before .before .before .before .before .before .if4 .left) in
-    noForm (no-high sofar name low high (c .before .before .before .before .before .before .before .before .before .before .before .before .if1 .left) isAName (c .before .before .before .before .before .before .before .read-integer .ensures) (not-false _ (c .before .before .before .before .before .if5 .left)) (c .before .before .before .read-integer2 .ensures) (not-true _ (c .before .if6 .taken))) (c .no-streams5 .ensures)
+    noForm (no-high sofar name low high (named .if1 .left) isAName (c .before .before .before .before .before .before .before .read-integer .ensures) (not-false _ (c .before .before .before .before .before .if5 .left)) (c .before .before .before .read-integer2 .ensures) (not-true _ (c .before .if6 .taken))) (c .no-streams5 .ensures)
 
 sub-put-name : tie.Need-sub-put-name Inv-loop μ-loop
 sub-put-name c = let w = token-within (c .before .before .before .before .before .before .before .before .before .before .before .before .before .before .before .before .next-token .ensures) in let a = w .0 in let b = w .1 in omega arith
@@ -144,20 +153,24 @@ part-put-name-end c = let w = token-within (c .before .before .before .before .b
 
 put-name-requires : tie.Need-put-name-requires Inv-loop μ-loop
 put-name-requires c κs =
-    let sofar = c .before .before .before .before .before .before .before .before .before .before .before .before .before .before .before .before .before .before .loop .inv in
-    let name = c .before .before .before .before .before .before .before .before .before .before .before .before .before .before .before .before .before .next-token .ensures in
-    let low = c .before .before .before .before .before .before .before .before .before .before .before .before .before .before .before .before .next-token2 .ensures in
-    let high = c .before .before .before .before .before .before .before .before .before .before .before .before .before .before .before .next-token3 .ensures in
+    let named = c .before .before .before .before .before .before .before .before .before .before .before .before .before .before in
+    let read = named .before in
+    let sofar = read .before .before .before .loop .inv in
+    let name = read .before .before .next-token .ensures in
+    let low = read .before .next-token2 .ensures in
+    let high = read .next-token3 .ensures in
     let isAName = sym (c .before .before .before .before .before .before .before .before .before .before .before .before .is-name .ensures) ∙ not-false _ (c .before .before .before .before .before .before .before .before .before .before .before .if4 .left) in
-    (count-low sofar name low high (c .before .before .before .before .before .before .before .before .before .before .before .before .before .before .if1 .left), name-fits _ isAName)
+    (count-low sofar name low high (named .if1 .left), name-fits _ isAName)
 
 put-range-requires : tie.Need-put-range-requires Inv-loop μ-loop
 put-range-requires c κs =
-    let sofar = c .before .before .before .before .before .before .before .before .before .before .before .before .before .before .before .before .before .before .before .before .before .before .before .loop .inv in
-    let name = c .before .before .before .before .before .before .before .before .before .before .before .before .before .before .before .before .before .before .before .before .before .before .next-token .ensures in
-    let low = c .before .before .before .before .before .before .before .before .before .before .before .before .before .before .before .before .before .before .before .before .before .next-token2 .ensures in
-    let high = c .before .before .before .before .before .before .before .before .before .before .before .before .before .before .before .before .before .before .before .before .next-token3 .ensures in
-    count-low sofar name low high (c .before .before .before .before .before .before .before .before .before .before .before .before .before .before .before .before .before .before .before .if1 .left)
+    let named = c .before .before .before .before .before .before .before .before .before .before .before .before .before .before .before .before .before .before .before in
+    let read = named .before in
+    let sofar = read .before .before .before .loop .inv in
+    let name = read .before .before .next-token .ensures in
+    let low = read .before .next-token2 .ensures in
+    let high = read .next-token3 .ensures in
+    count-low sofar name low high (named .if1 .left)
 
 range-faulty-requires : tie.Need-range-faulty-requires Inv-loop μ-loop
 range-faulty-requires c κs = search needs
@@ -167,31 +180,38 @@ either-requires c κs = search needs
 
 add-count : tie.Need-add-count Inv-loop μ-loop
 add-count c =
-    let sofar = c .before .before .before .before .before .before .before .before .before .before .before .before .before .before .before .before .before .before .before .before .before .before .before .before .before .before .before .before .loop .inv in
-    let name = c .before .before .before .before .before .before .before .before .before .before .before .before .before .before .before .before .before .before .before .before .before .before .before .before .before .before .before .next-token .ensures in
-    let low = c .before .before .before .before .before .before .before .before .before .before .before .before .before .before .before .before .before .before .before .before .before .before .before .before .before .before .next-token2 .ensures in
-    let high = c .before .before .before .before .before .before .before .before .before .before .before .before .before .before .before .before .before .before .before .before .before .before .before .before .before .next-token3 .ensures in
-    let below = count-low sofar name low high (c .before .before .before .before .before .before .before .before .before .before .before .before .before .before .before .before .before .before .before .before .before .before .before .before .if1 .left) in
+    let named = c .before .before .before .before .before .before .before .before .before .before .before .before .before .before .before .before .before .before .before .before .before .before .before .before in
+    let read = named .before in
+    let sofar = read .before .before .before .loop .inv in
+    let name = read .before .before .next-token .ensures in
+    let low = read .before .next-token2 .ensures in
+    let high = read .next-token3 .ensures in
+    let below = count-low sofar name low high (named .if1 .left) in
     omega arith
 
 loop-less : tie.Need-loop-less Inv-loop μ-loop
 loop-less c =
-    let after = token-after (c .before .before .before .before .before .before .before .before .before .before .before .before .before .before .before .before .before .before .before .before .before .before .before .before .before .before .before .next-token .ensures) (c .before .before .before .before .before .before .before .before .before .before .before .before .before .before .before .before .before .before .before .before .before .before .before .before .if1 .left) in
-    let within = token-within (c .before .before .before .before .before .before .before .before .before .before .before .before .before .before .before .before .before .before .before .before .before .before .before .before .before .before .before .next-token .ensures) .1 in
+    let named = c .before .before .before .before .before .before .before .before .before .before .before .before .before .before .before .before .before .before .before .before .before .before .before .before in
+    let read = named .before .before .before in
+    let after = token-after (read .next-token .ensures) (named .if1 .left) in
+    let within = token-within (read .next-token .ensures) .1 in
     omega arith
 
 loop-again : tie.Need-loop-again Inv-loop μ-loop
 loop-again c =
-    let sofar = c .before .before .before .before .before .before .before .before .before .before .before .before .before .before .before .before .before .before .before .before .before .before .before .before .before .before .before .before .loop .inv in
-    let name = c .before .before .before .before .before .before .before .before .before .before .before .before .before .before .before .before .before .before .before .before .before .before .before .before .before .before .before .next-token .ensures in
-    let low = c .before .before .before .before .before .before .before .before .before .before .before .before .before .before .before .before .before .before .before .before .before .before .before .before .before .before .next-token2 .ensures in
-    let high = c .before .before .before .before .before .before .before .before .before .before .before .before .before .before .before .before .before .before .before .before .before .before .before .before .before .next-token3 .ensures in
-    let aName = c .before .before .before .before .before .before .before .before .before .before .before .before .before .before .before .before .before .before .before .before .before .before .before .before .if1 .left in
-    let isAName = sym (c .before .before .before .before .before .before .before .before .before .before .before .before .before .before .before .before .before .before .before .before .before .before .is-name .ensures) ∙ not-false _ (c .before .before .before .before .before .before .before .before .before .before .before .before .before .before .before .before .before .before .before .before .before .if4 .left) in
-    let lowRead = c .before .before .before .before .before .before .before .before .before .before .before .before .before .before .before .before .before .before .before .read-integer .ensures in
-    let lowOk = not-false _ (c .before .before .before .before .before .before .before .before .before .before .before .before .before .before .before .before .before .if5 .left) in
-    let highRead = c .before .before .before .before .before .before .before .before .before .before .before .before .before .before .before .read-integer2 .ensures in
-    let highOk = not-false _ (c .before .before .before .before .before .before .before .before .before .before .before .before .before .if6 .left) in
+    let ranged = c .before .before .before .before .before .before .before .before .before .before .before .before .before in
+    let named = ranged .before .before .before .before .before .before .before .before .before .before .before in
+    let read = named .before in
+    let sofar = read .before .before .before .loop .inv in
+    let name = read .before .before .next-token .ensures in
+    let low = read .before .next-token2 .ensures in
+    let high = read .next-token3 .ensures in
+    let aName = named .if1 .left in
+    let isAName = sym (ranged .before .before .before .before .before .before .before .before .before .is-name .ensures) ∙ not-false _ (ranged .before .before .before .before .before .before .before .before .if4 .left) in
+    let lowRead = ranged .before .before .before .before .before .before .read-integer .ensures in
+    let lowOk = not-false _ (ranged .before .before .before .before .if5 .left) in
+    let highRead = ranged .before .before .read-integer2 .ensures in
+    let highOk = not-false _ (ranged .if6 .left) in
     let names = c .before .before .before .before .before .before .before .before .before .put-name .ensures in
     let ranges = c .before .before .before .before .put-range .ensures in
     sofar-step sofar name low high aName isAName lowRead lowOk highRead highOk (names .0) (names .1) (ranges .0) (ranges .1) (c .either .ensures) (c .before .range-faulty .ensures)

@@ -74,7 +74,9 @@ slice-aggregate-find-firsts-2 : tie.Need-slice-aggregate-find-firsts-2
 slice-aggregate-find-firsts-2 c = let z = sizes (c .before .before .before .before .before .before .before .before .before .before .before .before .before .pre .held) in sym (length-take-le _ _ (omega arith))
 
 find-firsts-requires : tie.Need-find-firsts-requires
-find-firsts-requires c κs = firsts-fit (c .before .before .before .before .before .before .before .before .before .before .before .before .before .before .pre .held) (told (c .before .before .before .before .before .before .before .before .before .before .before .before .before .before .pre .held) (c .before .before .before .before .before .before .either .ensures) (c .before .before .before .before .before .test-stored .ensures)) (c .before .before .before .if1 .left)
+find-firsts-requires c κs =
+    let held = c .before .before .before .before .before .before .before .before .before .before .before .before .before .before .pre .held in
+    firsts-fit held (told held (c .before .before .before .before .before .before .either .ensures) (c .before .before .before .before .before .test-stored .ensures)) (c .before .before .before .if1 .left)
 
 cast-t57 : tie.Need-cast-t57
 cast-t57 c = search needs
