@@ -12,6 +12,11 @@ import sys
 LARGEST_WORD = 2**32 - 1
 LARGEST_INPUT = 65536
 
+# The room that the program `compile_vectors` has: entries, and rows of every other table.
+ENTRY_ROOM = 65536
+ROW_ROOM = 4112
+KEY_NUMBERS = 16
+
 
 def load(folder, name):
     with open(os.path.join(folder, name), encoding="latin-1") as lines:
@@ -63,6 +68,36 @@ def reader_program(vectors):
     return b"".join(case[0] for case in cases), "".join(case[1] for case in cases).encode()
 
 
+def lengths(rows, letters, fewest):
+    """The lengths of nine tables: one holds exactly these rows, the others one or two more, with a part of a row beyond them."""
+    held = [rows if place == fewest else min(rows + 1 + place % 2, ROW_ROOM) for place in range(9)]
+    per_row = [max(letters, 1), 1, KEY_NUMBERS, 1, 1, 1, 1, 1, 1]
+    return [count * size + size // 2 for count, size in zip(held, per_row)]
+
+
+def compile_case(vector, sheet, fewest):
+    """The bytes of one compile and the line that it must print; none where the tables are too large for the program."""
+    rows, letters = vector["rows"], sheet["letters"] if sheet["refusal"] == 0 else 0
+    if rows > ROW_ROOM or lengths(rows, letters, fewest)[0] > ENTRY_ROOM:
+        return None
+    text = sheet["sheet"].encode("latin-1")
+    header = [len(text), letters] + lengths(rows, letters, fewest)
+    accepted = vector["refusal"] == 0
+    entries = [entry for row in sheet["entries"] for entry in row] if accepted else []
+    finals = sheet["finals"] if accepted else []
+    parts = [[vector["refusal"], vector["states"], vector["situations"]], entries, finals]
+    line = ": ".join("".join("%d " % number for number in part) for part in parts)
+    return b"".join(word(number) for number in header) + text, line + ": 0\n"
+
+
+def compile_program(vectors, sheets):
+    """Every compile that the program has room for, in order; each table in turn holds the fewest rows."""
+    by_name = {sheet["name"]: sheet for sheet in sheets}
+    cases = [compile_case(vector, by_name[vector["name"]], place % 9) for place, vector in enumerate(vectors)]
+    cases = [case for case in cases if case]
+    return b"".join(case[0] for case in cases), "".join(case[1] for case in cases).encode()
+
+
 def write(folder, crate, files):
     for name, content in zip(("stdin", "stdout"), files):
         path = os.path.join(folder, crate, name)
@@ -74,6 +109,7 @@ def write(folder, crate, files):
 def main(vectors, crates):
     write(crates, "step_vectors", step_program(load(vectors, "step.jsonl")))
     write(crates, "reader_vectors", reader_program(load(vectors, "sheets.jsonl")))
+    write(crates, "compile_vectors", compile_program(load(vectors, "compile.jsonl"), load(vectors, "sheets.jsonl")))
 
 
 if __name__ == "__main__":

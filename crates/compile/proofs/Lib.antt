@@ -1,0 +1,5 @@
+pub mod Rows
+pub mod Sheet
+pub mod Found
+pub mod Stored
+pub mod Reading

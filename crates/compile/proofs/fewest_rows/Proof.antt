@@ -1,0 +1,49 @@
+-- `compile::fewest_rows` meets its contract: each call gives the smaller of two numbers.
+use borrow.Author.Needs.{needs}
+use Rattle.compile.proofs.fewest_rows.Statement.{statement}
+use Rattle.compile.proofs.fewest_rows.Tie as tie
+
+fewer-requires : tie.Need-fewer-requires
+fewer-requires c κs = search needs
+
+fewer-requires-2 : tie.Need-fewer-requires-2
+fewer-requires-2 c κs = search needs
+
+fewer-requires-3 : tie.Need-fewer-requires-3
+fewer-requires-3 c κs = search needs
+
+fewer-requires-4 : tie.Need-fewer-requires-4
+fewer-requires-4 c κs = search needs
+
+fewer-requires-5 : tie.Need-fewer-requires-5
+fewer-requires-5 c κs = search needs
+
+div-fewer : tie.Need-div-fewer
+div-fewer c = search needs
+
+fewer-requires-6 : tie.Need-fewer-requires-6
+fewer-requires-6 c κs = search needs
+
+fewer-requires-7 : tie.Need-fewer-requires-7
+fewer-requires-7 c κs = search needs
+
+fewer-requires-8 : tie.Need-fewer-requires-8
+fewer-requires-8 c κs = search needs
+
+returns : tie.Need-returns
+returns c = cc
+
+pub fewest-rows-spec : {M : Type 1} → statement M
+fewest-rows-spec =
+    tie.close
+    (tie.spec
+    fewer-requires
+    fewer-requires-2
+    fewer-requires-3
+    fewer-requires-4
+    fewer-requires-5
+    div-fewer
+    fewer-requires-6
+    fewer-requires-7
+    fewer-requires-8
+    returns)

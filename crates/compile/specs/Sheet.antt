@@ -1,0 +1,59 @@
+-- What a compile gives once the sheet is read, and the slices that hold a stored sheet.
+use Prim.Native.Nat.{ℕ, _+_, _*_, _≤_, _<_}
+use mathlib.Core.Path.{_≡_}
+use mathlib.Core.Logic.{_⊎_}
+use mathlib.Core.List.{List, []}
+use lib.IntN.{ℤ}
+use lib.ListN.{length}
+use Rattle.meaning.specs.Value.{Streams}
+use Rattle.meaning.specs.Arithmetic.{Arithmetic}
+use Rattle.meaning.specs.Expression.{Sheet, Solution}
+use Rattle.meaning.specs.Letter.{letterCount}
+use Rattle.meaning.specs.Situation.{SituationCount, MoreSituations}
+use Rattle.meaning.specs.Window.{B, D}
+use Rattle.nodes.specs.Bounds.{lowsOf, highsOf}
+use Rattle.explore.specs.Rows.{ExploredRows}
+use Rattle.explore.specs.StoredSheet.{storedSheet}
+use Rattle.outcome.specs.Compile.{CompileAnswer, refusedBy, Room, roomRows, Tables, allZero, HoldsTable, situationBound}
+
+module _ (A : Arithmetic) (s : Sheet) where
+  -- The sheet's m situations fit the bound and the rows lent: neither 8 nor 10 applies.
+  pub record SituationsFit (room : Room) (m : ℕ) : Type 0 where
+    pub counted : SituationCount A s m
+    pub withinBound : m ≤ situationBound
+    pub withinRoom : m ≤ roomRows room (letterCount (s .streams))
+
+  -- The outcome of a compile whose sheet is read. The cases are those of `CompileOutcome`.
+  pub data SheetOutcome (room : Room) : CompileAnswer → Tables → Type 0 where
+    tooManySituations : situationBound ≤ roomRows room (letterCount (s .streams)) → MoreSituations A s situationBound → SheetOutcome room (refusedBy 8) (allZero room)
+    tooFewRows : roomRows room (letterCount (s .streams)) < situationBound → MoreSituations A s (roomRows room (letterCount (s .streams))) → SheetOutcome room (refusedBy 10) (allZero room)
+    noSolution : {m : ℕ} → SituationsFit room m → ((w : Streams) → Solution A s w → ⊥) → SheetOutcome room (refusedBy 9) (allZero room)
+    compiled : {m n : ℕ} {t : Tables} → SituationsFit room m → HoldsTable A s room n t → SheetOutcome room (record { refusal = 0; states = n; situations = m }) t
+
+  -- Exploring gives the number of situations and their rows, or 0 where there are more than the limit.
+  abbrev pub Found : (limit n : ℕ) (entries flags : List ℕ) → Type 0
+  Found limit n entries flags = ((n ≡ 0) × MoreSituations A s limit) ⊎ ((n ≤ limit) × SituationCount A s n × ExploredRows A s n entries flags)
+
+-- The slices hold the stored form of a sheet, and nothing more.
+pub record SlicesOf (s : Sheet) (kinds : List ℕ) (values : List ℤ) (starts relations lefts rights firstNodes : List ℕ) (lows highs : List ℤ) (ahead width letters : ℕ) : Type 0 where
+  pub sameKinds : kinds ≡ storedSheet s [] .nodes .kinds
+  pub sameValues : values ≡ storedSheet s [] .nodes .values
+  pub sameStarts : starts ≡ storedSheet s [] .nodes .starts
+  pub sameRelations : relations ≡ storedSheet s [] .relations
+  pub sameLefts : lefts ≡ storedSheet s [] .lefts
+  pub sameRights : rights ≡ storedSheet s [] .rights
+  pub sameFirstNodes : firstNodes ≡ storedSheet s [] .firstNodes
+  pub sameLows : lows ≡ lowsOf (s .streams)
+  pub sameHighs : highs ≡ highsOf (s .streams)
+  pub sameAhead : ahead ≡ D (s .constraints)
+  pub sameWidth : width ≡ D (s .constraints) + B (s .constraints)
+  pub sameLetters : letters ≡ letterCount (s .streams)
+
+-- The tables that the exploration writes have room for as many rows as its limit.
+pub record RoomFor (limit letters : ℕ) (keys heads links entries finals : List ℕ) : Type 0 where
+  pub few : limit ≤ situationBound
+  pub keysFit : limit * 16 ≤ length keys
+  pub headsFit : limit ≤ length heads
+  pub linksFit : limit ≤ length links
+  pub entriesFit : limit * letters ≤ length entries
+  pub finalsFit : limit ≤ length finals

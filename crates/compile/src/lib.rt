@@ -1,0 +1,337 @@
+// From a sheet's bytes to its table.
+ghost use mathlib.Core.Path.{_≡_};
+ghost use Prim.Native.Nat.{_/_, _<_, _≤_, min};
+ghost use lib.ListN.{length, replicate};
+ghost use Rattle.meaning.specs.Arithmetic.{cutTowardZero};
+ghost use Rattle.meaning.specs.Expression.{Sheet};
+ghost use Rattle.sheet.specs.Accepted.{Accepted};
+ghost use Rattle.sheet.specs.Form.{threeHeaderLines};
+ghost use Rattle.reader.specs.Stored.{storedSheet};
+ghost use Rattle.outcome.specs.Compile.{allZero, CompileOutcome};
+ghost use Rattle.compile.specs.Lent.{roomOf, tablesOf, answerOf, refusedWith, madeOf};
+ghost use Rattle.compile.specs.Sheet.{SheetOutcome, Found, SlicesOf, RoomFor};
+ghost use Rattle.compile.specs.Stored.{IsStoredSheet};
+
+// The refusal's number or 0, "the number of states and the number of distinct situations". Laid out as in C, so that an exported function can give
+// it back.
+#[repr(C)]
+pub struct Compiled {
+    pub refusal: u32,
+    pub states: u32,
+    pub situations: u32,
+}
+
+fn refused(refusal: u32) -> Compiled
+    ensures { λ r. ⌜ r ≡ refusedWith refusal ⌝ }
+{
+    Compiled {
+        refusal: refusal,
+        states: 0,
+        situations: 0,
+    }
+}
+
+fn fewer(a: usize, b: usize) -> usize
+    ensures { λ r. ⌜ r ≡ min a b ⌝ }
+{
+    if a <= b { a } else { b }
+}
+
+// "the fewest rows any lent table holds", of tables with these lengths
+fn fewest_rows(
+    letters: usize,
+    entries: usize,
+    finals: usize,
+    keys: usize,
+    live: usize,
+    class: usize,
+    next: usize,
+    heads: usize,
+    links: usize,
+    shared: usize,
+) -> usize
+    requires { ⌜ 0 < letters ⌝ }
+    ensures { λ r. ⌜ r ≡ min (entries / letters) (min finals (min (keys / 16) (min live (min class (min next (min heads (min links shared))))))) ⌝ }
+{
+    let passes = fewer(
+        live,
+        fewer(class, fewer(next, fewer(heads, fewer(links, shared)))),
+    );
+    fewer(entries / letters, fewer(finals, fewer(keys / 16, passes)))
+}
+
+// The answer from the rows lent, the situations found and what the table's making gave.
+fn made(rows: usize, situations: usize, table: minimise::Minimised) -> Compiled
+    requires { ⌜ situations ≤ 4096 ⌝ }
+    ensures { λ r. ⌜ r ≡ madeOf rows situations table ⌝ }
+{
+    let refusal = table.refusal;
+    if refusal == 0 {
+        return Compiled {
+            refusal: 0,
+            states: table.states,
+            situations: situations as u32,
+        };
+    }
+    if refusal == 9 {
+        return refused(9);
+    }
+    if rows < 4096 { refused(10) } else { refused(8) }
+}
+
+// Explores the situations of a stored sheet: their number, with the entries and flags of their rows, or 0 where they are more than the limit.
+fn situations(
+    kinds: &[u8],
+    values: &[i64],
+    starts: &[u16],
+    relations: &[u8],
+    lefts: &[u16],
+    rights: &[u16],
+    first_nodes: &[u16],
+    lows: &[i64],
+    highs: &[i64],
+    ahead: usize,
+    width: usize,
+    letters: usize,
+    limit: usize,
+    entries: &mut [u16],
+    finals: &mut [u8],
+    keys: &mut [u32],
+    heads: &mut [u32],
+    links: &mut [u32],
+) -> usize
+    ensures { λ r. ⌜ r ≤ limit ⌝ }
+    ensures { λ r. ⌜ now (keys .exit) ≡ replicate (length (now (keys .entry))) 0 ⌝ }
+    ensures { λ r. ⌜ ((s : Sheet) → Accepted cutTowardZero s → SlicesOf s (now (kinds .entry)) (now (values .entry)) (now (starts .entry)) (now (relations .entry)) (now (lefts .entry)) (now (rights .entry)) (now («first_nodes» .entry)) (now (lows .entry)) (now (highs .entry)) ahead width letters → RoomFor limit letters (now (keys .entry)) (now (heads .entry)) (now (links .entry)) (now (entries .entry)) (now (finals .entry)) → Found cutTowardZero s limit r (now (entries .exit)) (now (finals .exit))) ⌝ }
+{
+    let mut letter_values = [0i64; 8192];
+    letters::fill_letters(lows, highs, &mut letter_values);
+    let found = explore::explore_stored(
+        kinds,
+        values,
+        starts,
+        relations,
+        lefts,
+        rights,
+        first_nodes,
+        &letter_values,
+        lows.len(),
+        ahead,
+        width,
+        letters,
+        limit,
+        keys,
+        heads,
+        links,
+        entries,
+        finals,
+    );
+    marks::fill(keys, 0);
+    if found.full { 0 } else { found.count }
+}
+
+// Compiles a stored sheet. Exploring no rows leaves no graph, so that every table is cleared and the rows lent decide between 8 and 10.
+fn compile_sheet(
+    kinds: &[u8],
+    values: &[i64],
+    starts: &[u16],
+    relations: &[u8],
+    lefts: &[u16],
+    rights: &[u16],
+    first_nodes: &[u16],
+    lows: &[i64],
+    highs: &[i64],
+    ahead: usize,
+    width: usize,
+    letters: usize,
+    entries: &mut [u16],
+    finals: &mut [u8],
+    keys: &mut [u32],
+    live: &mut [u32],
+    class: &mut [u32],
+    next: &mut [u32],
+    heads: &mut [u32],
+    links: &mut [u32],
+    shared: &mut [u32],
+) -> Compiled
+    requires { ⌜ 0 < letters ⌝ }
+    ensures { λ r. ⌜ ((s : Sheet) → Accepted cutTowardZero s → SlicesOf s (now (kinds .entry)) (now (values .entry)) (now (starts .entry)) (now (relations .entry)) (now (lefts .entry)) (now (rights .entry)) (now («first_nodes» .entry)) (now (lows .entry)) (now (highs .entry)) ahead width letters → SheetOutcome cutTowardZero s (roomOf (now (entries .entry)) (now (finals .entry)) (now (keys .entry)) (now (live .entry)) (now (class .entry)) (now (next .entry)) (now (heads .entry)) (now (links .entry)) (now (shared .entry))) (answerOf r) (tablesOf (now (entries .exit)) (now (finals .exit)) (now (keys .exit)) (now (live .exit)) (now (class .exit)) (now (next .exit)) (now (heads .exit)) (now (links .exit)) (now (shared .exit)))) ⌝ }
+{
+    let rows = fewest_rows(
+        letters,
+        entries.len(),
+        finals.len(),
+        keys.len(),
+        live.len(),
+        class.len(),
+        next.len(),
+        heads.len(),
+        links.len(),
+        shared.len(),
+    );
+    let limit = fewer(rows, 4096);
+    let count = situations(
+        kinds,
+        values,
+        starts,
+        relations,
+        lefts,
+        rights,
+        first_nodes,
+        lows,
+        highs,
+        ahead,
+        width,
+        letters,
+        limit,
+        entries,
+        finals,
+        keys,
+        heads,
+        links,
+    );
+    let table = minimise::minimise(
+        entries,
+        finals,
+        letters,
+        count,
+        live,
+        class,
+        next,
+        heads,
+        links,
+        shared,
+    );
+    made(rows, count, table)
+}
+
+// Clears every table: where there are no rows, there is no graph.
+fn clear(
+    entries: &mut [u16],
+    finals: &mut [u8],
+    keys: &mut [u32],
+    live: &mut [u32],
+    class: &mut [u32],
+    next: &mut [u32],
+    heads: &mut [u32],
+    links: &mut [u32],
+    shared: &mut [u32],
+)
+    ensures { λ r. ⌜ tablesOf (now (entries .exit)) (now (finals .exit)) (now (keys .exit)) (now (live .exit)) (now (class .exit)) (now (next .exit)) (now (heads .exit)) (now (links .exit)) (now (shared .exit)) ≡ allZero (roomOf (now (entries .entry)) (now (finals .entry)) (now (keys .entry)) (now (live .entry)) (now (class .entry)) (now (next .entry)) (now (heads .entry)) (now (links .entry)) (now (shared .entry))) ⌝ }
+{
+    marks::fill(keys, 0);
+    minimise::minimise(
+        entries,
+        finals,
+        0,
+        0,
+        live,
+        class,
+        next,
+        heads,
+        links,
+        shared,
+    );
+}
+
+// Compiles a sheet as the reader gives it.
+fn compile_stored(
+    sheet: reader::Sheet,
+    entries: &mut [u16],
+    finals: &mut [u8],
+    keys: &mut [u32],
+    live: &mut [u32],
+    class: &mut [u32],
+    next: &mut [u32],
+    heads: &mut [u32],
+    links: &mut [u32],
+    shared: &mut [u32],
+) -> Compiled
+    requires { ⌜ IsStoredSheet cutTowardZero sheet ⌝ }
+    ensures { λ r. ⌜ ((s : Sheet) → Accepted cutTowardZero s → sheet ≡ storedSheet s → SheetOutcome cutTowardZero s (roomOf (now (entries .entry)) (now (finals .entry)) (now (keys .entry)) (now (live .entry)) (now (class .entry)) (now (next .entry)) (now (heads .entry)) (now (links .entry)) (now (shared .entry))) (answerOf r) (tablesOf (now (entries .exit)) (now (finals .exit)) (now (keys .exit)) (now (live .exit)) (now (class .exit)) (now (next .exit)) (now (heads .exit)) (now (links .exit)) (now (shared .exit)))) ⌝ }
+{
+    let nodes = sheet.nodes;
+    let kinds = sheet.kinds;
+    let values = sheet.values;
+    let starts = sheet.starts;
+    let constraints = sheet.constraints;
+    let relations = sheet.relations;
+    let lefts = sheet.lefts;
+    let rights = sheet.rights;
+    let firsts = sheet.firsts;
+    let first_nodes = sheet.first_nodes;
+    let streams = sheet.streams;
+    let lows = sheet.lows;
+    let highs = sheet.highs;
+    let ahead = sheet.ahead;
+    compile_sheet(
+        &kinds[..nodes],
+        &values[..nodes],
+        &starts[..nodes],
+        &relations[..constraints],
+        &lefts[..constraints],
+        &rights[..constraints],
+        &first_nodes[..firsts],
+        &lows[..streams],
+        &highs[..streams],
+        ahead,
+        ahead + sheet.back,
+        sheet.letters as usize,
+        entries,
+        finals,
+        keys,
+        live,
+        class,
+        next,
+        heads,
+        links,
+        shared,
+    )
+}
+
+// Compiles a sheet's bytes: refusal 0 with the number of states and of situations, the table in the first rows of `entries` and `finals`, and
+// every other number 0; or a refusal, and every table 0. The keys take 16 numbers a row, each of the other work tables one.
+pub fn compile(
+    text: &[u8],
+    entries: &mut [u16],
+    finals: &mut [u8],
+    keys: &mut [u32],
+    live: &mut [u32],
+    class: &mut [u32],
+    next: &mut [u32],
+    heads: &mut [u32],
+    links: &mut [u32],
+    shared: &mut [u32],
+) -> Compiled
+    ensures { λ r. ⌜ CompileOutcome cutTowardZero threeHeaderLines (now (text .entry)) (roomOf (now (entries .entry)) (now (finals .entry)) (now (keys .entry)) (now (live .entry)) (now (class .entry)) (now (next .entry)) (now (heads .entry)) (now (links .entry)) (now (shared .entry))) (answerOf r) (tablesOf (now (entries .exit)) (now (finals .exit)) (now (keys .exit)) (now (live .exit)) (now (class .exit)) (now (next .exit)) (now (heads .exit)) (now (links .exit)) (now (shared .exit))) ⌝ }
+{
+    let reading = reader::read(text);
+    let refusal = reading.refusal;
+    if refusal != 0 {
+        clear(
+            entries,
+            finals,
+            keys,
+            live,
+            class,
+            next,
+            heads,
+            links,
+            shared,
+        );
+        return refused(refusal);
+    }
+    let sheet = reading.sheet;
+    compile_stored(
+        sheet,
+        entries,
+        finals,
+        keys,
+        live,
+        class,
+        next,
+        heads,
+        links,
+        shared,
+    )
+}
