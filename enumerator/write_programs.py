@@ -9,6 +9,8 @@ import json
 import os
 import sys
 
+from sluice import sluice
+
 LARGEST_WORD = 2**32 - 1
 LARGEST_INPUT = 65536
 
@@ -98,6 +100,24 @@ def compile_program(vectors, sheets):
     return b"".join(case[0] for case in cases), "".join(case[1] for case in cases).encode()
 
 
+def sluice_program(vectors):
+    """The first sheet, P1, and what `sluice` prints for it."""
+    sheet = vectors[0]["sheet"].encode("latin-1")
+    return sheet, sluice(sheet)
+
+
+def example_sheets(folder):
+    """The sheets of `examples/`, in the order of their names."""
+    names = sorted(name for name in os.listdir(folder) if name.endswith(".sheet"))
+    return [open(os.path.join(folder, name), "rb").read() for name in names]
+
+
+def sluice_vectors_program(vectors, examples):
+    """Every stored sheet and every example with its length before it, and what `sluice` prints for each."""
+    sheets = [vector["sheet"].encode("latin-1") for vector in vectors] + examples
+    return b"".join(word(len(sheet)) + sheet for sheet in sheets), b"".join(sluice(sheet) for sheet in sheets)
+
+
 def write(folder, crate, files):
     for name, content in zip(("stdin", "stdout"), files):
         path = os.path.join(folder, crate, name)
@@ -107,9 +127,13 @@ def write(folder, crate, files):
 
 
 def main(vectors, crates):
+    sheets = load(vectors, "sheets.jsonl")
+    examples = example_sheets(os.path.join(os.path.dirname(os.path.abspath(__file__)), "..", "examples"))
     write(crates, "step_vectors", step_program(load(vectors, "step.jsonl")))
-    write(crates, "reader_vectors", reader_program(load(vectors, "sheets.jsonl")))
-    write(crates, "compile_vectors", compile_program(load(vectors, "compile.jsonl"), load(vectors, "sheets.jsonl")))
+    write(crates, "reader_vectors", reader_program(sheets))
+    write(crates, "compile_vectors", compile_program(load(vectors, "compile.jsonl"), sheets))
+    write(crates, "sluice", sluice_program(sheets))
+    write(crates, "sluice_vectors", sluice_vectors_program(sheets, examples))
 
 
 if __name__ == "__main__":

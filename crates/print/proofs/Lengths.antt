@@ -1,0 +1,128 @@
+-- How long the lines can be, so that a program that lends 32 bytes for a refusal, 128 for a heading and 256 for an entry prints them whole.
+use Prim.Native.Nat.{ℕ, zero, suc, _+_, _*_, _/_, _%_, _≤_, _<_, min}
+use native.Mathlib.Omega.{arith}
+use native.Mathlib.Nat.{div-lt-iff-lt-mul, div-le-self}
+use mathlib.Core.Path.{_≡_, refl, _∙_, ap}
+use mathlib.Core.Bool.{Bool, true, false}
+use mathlib.Core.List.{List, [], _∷_, _++_, map}
+use lib.Dec.{ltb}
+use lib.IntN.{ℤ, pos, negsuc}
+use lib.ListN.{length, getD, drop, length-append, length-take}
+use borrow.Author.Tests.{ltb-true, ltb-false}
+use mir.Syntax.{w64}
+use mir.Val.{SFits}
+use Rattle.meaning.specs.Letter.{Letter, IsLetter, none, more, letterCount, letterOf}
+use Rattle.meaning.proofs.Letter.{letterOf-letter}
+use Rattle.nodes.proofs.Record.{letter-length}
+use Rattle.automaton.specs.Table.{no-state}
+use Rattle.letters.specs.Described.{described}
+use Rattle.letters.proofs.Above.{between-fits}
+use Rattle.print.specs.Text.{digits, decimal, spaced, headingLine, entryLine, refusalLine}
+use Rattle.print.specs.Table.{placeText, storedName, storedNames}
+use Rattle.print.proofs.Decimal.{digits-one, digits-more}
+use Rattle.print.proofs.Lines.{spaced-more}
+use Rattle.print.proofs.Places.{found, place-cases}
+
+-- ---- digits
+
+abbrev tens : ℕ → ℕ
+tens zero = 1
+tens (suc k) = tens k * 10
+
+one-digit : (n : ℕ) → n < 10 → length (digits n) ≡ 1
+one-digit n h = ap length (digits-one n h)
+
+more-digits : (n : ℕ) → 10 ≤ n → length (digits n) ≡ length (digits (n / 10)) + 1
+more-digits n h = ap length (digits-more n h) ∙ length-append (digits (n / 10)) ((48 + n % 10) ∷ [])
+
+-- A number below 10 to the power of k has at most k digits, where k is not 0.
+digits-length : (k n : ℕ) → n < tens (suc k) → length (digits n) ≤ suc k
+digits-length zero n h = let o = one-digit n (omega arith) in omega arith
+digits-length (suc k) n h = by (digits-length k (n / 10)) (ltb n 10) refl
+  where
+    by : (n / 10 < tens (suc k) → length (digits (n / 10)) ≤ suc k) → (t : Bool) → ltb n 10 ≡ t → length (digits n) ≤ suc (suc k)
+    by again true e = let o = one-digit n (ltb-true n 10 e) in omega arith
+    by again false e =
+        let m = more-digits n (ltb-false n 10 e) in
+        let l = again (div-lt-iff-lt-mul {k = 10} {x = n} {y = tens (suc k)} (omega arith) .1 h) in
+        omega arith
+
+-- A number of the machine takes at most 20 bytes, with its sign.
+natural-length : (n : ℕ) → n < 18446744073709551616 → length (digits n) ≤ 20
+natural-length n h = digits-length 19 n (omega arith)
+
+integer-length : (z : ℤ) → SFits w64 z → length (decimal z) ≤ 20
+integer-length (pos n) f = natural-length n (omega arith)
+integer-length (negsuc n) f = let l = digits-length 18 (suc n) (omega arith) in omega arith
+
+-- ---- lines
+
+pub refusal-length : (number : ℕ) → number < 4294967296 → length (refusalLine number) ≤ 32
+refusal-length number h = let l = digits-length 9 number (omega arith) in let a = length-append (digits number) (10 ∷ []) in omega arith
+
+-- Names of at most eight bytes.
+names-length : (names lengths : List ℕ) (k : ℕ) → length (spaced (storedNames names lengths k)) ≤ 9 * k
+unfolding storedNames
+names-length names lengths zero = omega arith
+names-length names lengths (suc k) =
+    let name = storedName names lengths k in
+    let h = names-length names lengths k in
+    let e = ap length (spaced-more (storedNames names lengths k) name) in
+    let a = length-append (spaced (storedNames names lengths k)) (name ++ (32 ∷ [])) in
+    let b = length-append name (32 ∷ []) in
+    let t = length-take (min (getD lengths k 0) 8) (drop (k * 8) names) in
+    omega arith
+
+pub heading-length : (names lengths : List ℕ) (streams : ℕ) → length (headingLine (storedNames names lengths (min streams 8))) ≤ 128
+heading-length names lengths streams =
+    let h = names-length names lengths (min streams 8) in
+    let a = length-append (spaced (storedNames names lengths (min streams 8))) (110 ∷ 101 ∷ 120 ∷ 116 ∷ 10 ∷ []) in
+    omega arith
+
+-- The values are numbers of the machine.
+abbrev pub AllFit : List ℤ → Type 0
+AllFit [] = Unit {0}
+AllFit (v ∷ vs) = SFits w64 v × AllFit vs
+
+values-length : (vs : List ℤ) → AllFit vs → length (spaced (map decimal vs)) ≤ 21 * length vs
+values-length [] f = omega arith
+values-length (v ∷ vs) f =
+    let a = length-append (decimal v) (32 ∷ spaced (map decimal vs)) in
+    let l = integer-length v (f .0) in
+    let h = values-length vs (f .1) in
+    omega arith
+
+pub entry-length : (state final : ℕ) (values : List ℤ) (next : ℕ) → state < 18446744073709551616 → final < 256 → AllFit values → length values ≤ 8 → next < 65536
+    → length (entryLine state final values next) ≤ 256
+entry-length state final values next s f v n x =
+    let vs = spaced (map decimal values) in
+    let rest = digits final ++ (32 ∷ vs) in
+    let a = length-append (digits state ++ (32 ∷ rest)) (digits next ++ (10 ∷ [])) in
+    let b = length-append (digits state) (32 ∷ rest) in
+    let c = length-append (digits final) (32 ∷ vs) in
+    let d = length-append (digits next) (10 ∷ []) in
+    let p = natural-length state s in
+    let q = digits-length 2 final (omega arith) in
+    let r = values-length values v in
+    let t = digits-length 4 next (omega arith) in
+    omega arith
+
+-- ---- the text of a place
+
+letter-fits : (lows highs : List ℤ) (l : Letter) → AllFit lows → AllFit highs → IsLetter (described lows highs) l → AllFit l
+letter-fits [] highs [] f g none = tt
+letter-fits (a ∷ lows) [] [] f g none = tt
+letter-fits (a ∷ lows) (b ∷ highs) (v ∷ l) f g (more w m) = (between-fits a v b (f .0) (g .0) (w .above) (w .below), letter-fits lows highs l (f .1) (g .1) m)
+
+pub place-length : (lows highs : List ℤ) (entries finals : List ℕ) (place : ℕ) → AllFit lows → AllFit highs → getD entries place no-state < 65536
+    → ((state : ℕ) → getD finals state 0 < 256) → place < 18446744073709551616 → length (placeText lows highs entries finals place) ≤ 256
+place-length lows highs entries finals place f g e b p =
+    let ss = described lows highs in
+    let n = place % letterCount ss in
+    place-cases lows highs entries finals place (λ l. length l ≤ 256) (omega arith) λ h.
+    let d = div-le-self place (letterCount ss) in
+    let m = letterOf-letter ss n (found ss n h .1 .0) in
+    let k = letter-length m in
+    let q = found ss n h .1 .1 in
+    entry-length (place / letterCount ss) (getD finals (place / letterCount ss) 0) (letterOf ss n) (getD entries place no-state) (omega arith) (b (place / letterCount ss))
+    (letter-fits lows highs (letterOf ss n) f g m) (omega arith) e

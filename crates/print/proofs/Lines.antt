@@ -1,0 +1,76 @@
+-- The parts of a line, as the code appends them, make the line. All from the definitions.
+use Prim.Native.Nat.{ℕ, suc, _+_, _-_, _≤_, _<_, min}
+use native.Mathlib.Omega.{arith}
+use mathlib.Core.Path.{_≡_, refl, sym, _∙_, ap}
+use mathlib.Core.Bool.{Bool, true, false}
+use mathlib.Core.List.{List, [], _∷_, _++_, map, map-append, append-assoc}
+use lib.Dec.{leb}
+use lib.IntN.{ℤ, pos, natAbs}
+use lib.ListN.{length, getD, take, drop, length-drop, drop-of-length-le}
+use lib.Seq.{take-suc, take-all, take-nil}
+use lib.Signed.{ltZ}
+use borrow.Author.Tests.{leb-true, leb-false}
+use mir.Syntax.{w64}
+use mir.Val.{SFits}
+use mir.ValLaws.{toZ-ofZ}
+use Rattle.text.specs.Bytes.{Token, bytesOf}
+use Rattle.arithmetic.proofs.Machine.{held, number-negative, number-natural}
+use Rattle.print.specs.Text.{digits, decimal, spaced, line, headingLine, entryLine, refusalLine}
+
+-- ---- one integer
+
+module _ (z : ℤ) (f : SFits w64 z) {size : ℕ} (s : size ≡ natAbs (held z)) where
+  pub minus-first : ltZ (held z) (pos 0) ≡ true → (45 ∷ []) ++ digits size ≡ decimal z
+  minus-first e = let n = number-negative z f e in ap (λ k. 45 ∷ digits k) (s ∙ ap natAbs (toZ-ofZ w64 z f ∙ n .1)) ∙ ap decimal (sym (n .1))
+
+  pub no-minus : ltZ (held z) (pos 0) ≡ false → digits size ≡ decimal z
+  no-minus e = ap digits s ∙ ap decimal (sym (number-natural z f e))
+
+-- ---- tokens with a space after each
+
+pub spaced-more : (ts : List Token) (t : Token) → spaced (ts ++ (t ∷ [])) ≡ spaced ts ++ (t ++ (32 ∷ []))
+spaced-more [] t = refl
+spaced-more (u ∷ ts) t = ap (λ l. u ++ (32 ∷ l)) (spaced-more ts t) ∙ sym (append-assoc u (32 ∷ spaced ts) (t ++ (32 ∷ [])))
+
+-- One value more of a list.
+pub values-more : (vs : List ℤ) (i : ℕ) → i < length vs
+    → spaced (map decimal (take (suc i) vs)) ≡ spaced (map decimal (take i vs)) ++ (decimal (getD vs i (pos 0)) ++ (32 ∷ []))
+values-more vs i h =
+    ap (λ l. spaced (map decimal l)) (take-suc vs i (pos 0) h) ∙ ap spaced (map-append decimal (take i vs) (getD vs i (pos 0) ∷ []))
+    ∙ spaced-more (map decimal (take i vs)) (decimal (getD vs i (pos 0)))
+
+-- ---- a part of a list that may reach beyond it
+
+pub clipped : (l : List ℕ) (s k : ℕ) {a e : ℕ} → a ≡ min s (length l) → e ≡ min (s + k) (length l) → take (e - a) (drop a l) ≡ take k (drop s l)
+clipped l s k {a} {e} p q = by (leb s (length l)) refl
+  where
+    inside : s ≤ length l → (t : Bool) → leb (s + k) (length l) ≡ t → take (e - a) (drop a l) ≡ take k (drop s l)
+    inside h true x =
+        let y = leb-true (s + k) (length l) x in
+        let u : e - a ≡ k = omega arith in
+        let v : a ≡ s = omega arith in
+        ap (λ n. take n (drop a l)) u ∙ ap (λ n. take k (drop n l)) v
+    inside h false x =
+        let y = leb-false (s + k) (length l) x in
+        let v : a ≡ s = omega arith in
+        let d = length-drop a l in
+        let d′ = length-drop s l in
+        take-all (e - a) (drop a l) (omega arith) ∙ ap (λ n. drop n l) v ∙ sym (take-all k (drop s l) (omega arith))
+
+    by : (t : Bool) → leb s (length l) ≡ t → take (e - a) (drop a l) ≡ take k (drop s l)
+    by true x = inside (leb-true s (length l) x) (leb (s + k) (length l)) refl
+    by false x =
+        let y = leb-false s (length l) x in
+        ap (take (e - a)) (drop-of-length-le l {i = a} (omega arith)) ∙ take-nil (e - a) ∙ sym (ap (take k) (drop-of-length-le l {i = s} (omega arith)) ∙ take-nil k)
+
+-- ---- the lines
+
+pub heading-parts : (names : List Token) → (bytesOf "state final " ++ spaced names) ++ bytesOf "next\n" ≡ headingLine names
+heading-parts names = refl
+
+pub refusal-parts : (number : ℕ) → (bytesOf "refused " ++ digits number) ++ (10 ∷ []) ≡ refusalLine number
+refusal-parts number = refl
+
+pub entry-parts : (state final : ℕ) (values : List ℤ) (next : ℕ)
+    → ((((digits state ++ (32 ∷ [])) ++ (digits final ++ (32 ∷ []))) ++ spaced (map decimal values)) ++ digits next) ++ (10 ∷ []) ≡ entryLine state final values next
+entry-parts state final values next = simp append-assoc

@@ -1,0 +1,137 @@
+-- The text of the entry at a place, as `print::entry_text` finds it: nothing, or the line of the entry.
+use Prim.Native.Nat.{ℕ, zero, suc, _+_, _/_, _%_, _≤_, _<_, min}
+use native.Mathlib.Omega.{arith}
+use native.Mathlib.Nat.{div-add-mod'}
+use mathlib.Core.Path.{_≡_, refl, sym, _∙_, ap, ap₂, subst}
+use mathlib.Core.Bool.{Bool, true, false, cond, _&&_}
+use mathlib.Core.List.{List, [], _∷_, _++_}
+use lib.Dec.{leb, ltb, eqb}
+use lib.IntN.{ℤ}
+use lib.ListN.{length, getD, take, drop, List·getD-eq-default}
+use lib.Seq.{take-at}
+use borrow.Author.Tests.{leb-true, ltb-true, eq-eqb, ne-eqb, le-leb, le-ltb}
+use Rattle.meaning.specs.Expression.{Stream}
+use Rattle.meaning.specs.Letter.{letterCount, letterOf}
+use Rattle.meaning.proofs.Letter.{letterOf-letter}
+use Rattle.nodes.proofs.Record.{letter-length}
+use Rattle.sheet.specs.Refusal.{letterBound}
+use Rattle.automaton.specs.Table.{no-state}
+use Rattle.letters.specs.Described.{described, cutCount, hasLetter, withLetter}
+use Rattle.letters.proofs.Counts.{length-described}
+use Rattle.print.specs.Text.{entryLine}
+use Rattle.print.specs.Table.{entryText, placeText}
+
+both-empty : (b : Bool) → cond {A = List ℕ} b [] [] ≡ []
+both-empty true = refl
+both-empty false = refl
+
+-- Inside a list its element does not depend on the default.
+getD-inside : (l : List ℕ) (i d e : ℕ) → i < length l → getD l i d ≡ getD l i e
+getD-inside [] i d e h = absurd (omega arith)
+getD-inside (x ∷ l) zero d e h = refl
+getD-inside (x ∷ l) (suc i) d e h = getD-inside l i d e (omega arith)
+
+and-true : (a b : Bool) → a && b ≡ true → (a ≡ true) × (b ≡ true)
+and-true true b e = (refl, e)
+and-true false b e = let y : _≡_ {A = ℕ} 0 1 = cc in absurd (omega arith)
+
+-- A letter that is found: the streams have no more letters than a sheet can have, the number is a letter's, and the streams are at most eight.
+pub found : (ss : List Stream) (n : ℕ) → hasLetter ss n 8 ≡ true → (letterCount ss ≤ letterBound) × ((n < letterCount ss) × (length ss ≤ 8))
+unfolding hasLetter
+found ss n h =
+    let p = and-true (leb (letterCount ss) letterBound) (ltb n (letterCount ss) && leb (length ss) 8) h in
+    let q = and-true (ltb n (letterCount ss)) (leb (length ss) 8) (p .1) in
+    (leb-true (letterCount ss) letterBound (p .0), (ltb-true n (letterCount ss) (q .0), leb-true (length ss) 8 (q .1)))
+
+module _ (lows highs : List ℤ) (entries finals : List ℕ) (place : ℕ) where
+  abbrev streams : List Stream
+  streams = described lows highs
+
+  abbrev count : ℕ
+  count = letterCount streams
+
+  -- The entry of the place's state and letter is the one at the place.
+  abbrev lineAt : ℕ → List ℕ
+  lineAt next = cond (eqb next no-state) [] (entryLine (place / count) (getD finals (place / count) 0) (letterOf streams (place % count)) next)
+
+  entry-at : entryText streams entries finals (place / count) (place % count) ≡ lineAt (getD entries place no-state)
+  entry-at = ap (λ p. lineAt (getD entries p no-state)) (div-add-mod' place count)
+
+  -- The text is nothing, or the line of the entry.
+  pub place-cases : (P : List ℕ → Type 0) → P []
+      → (hasLetter streams (place % count) 8 ≡ true → P (entryLine (place / count) (getD finals (place / count) 0) (letterOf streams (place % count)) (getD entries place no-state)))
+      → P (placeText lows highs entries finals place)
+  unfolding placeText
+  place-cases P nothing line = by (hasLetter streams (place % count) 8) refl
+    where
+      at : hasLetter streams (place % count) 8 ≡ true → (u : Bool) → eqb (getD entries place no-state) no-state ≡ u → P (lineAt (getD entries place no-state))
+      at h true e = rw e nothing
+      at h false e = rw e (line h)
+
+      by : (t : Bool) → hasLetter streams (place % count) 8 ≡ t → P (cond (hasLetter streams (place % count) 8) (entryText streams entries finals (place / count) (place % count)) [])
+      by true h =
+          subst P (sym (ap (λ t. cond t (entryText streams entries finals (place / count) (place % count)) []) h ∙ entry-at)) (at h (eqb (getD entries place no-state) no-state) refl)
+      by false h = subst P (sym (ap (λ t. cond t (entryText streams entries finals (place / count) (place % count)) []) h)) nothing
+
+  no-entry : getD entries place no-state ≡ no-state → placeText lows highs entries finals place ≡ []
+  unfolding placeText
+  no-entry e =
+      ap (λ l. cond (hasLetter streams (place % count) 8) l []) (entry-at ∙ ap (λ t. cond t [] (entryLine (place / count) (getD finals (place / count) 0) (letterOf streams (place % count)) (getD entries place no-state))) (eq-eqb (getD entries place no-state) no-state e))
+      ∙ both-empty (hasLetter streams (place % count) 8)
+
+  pub nothing-beyond : length entries ≤ place → placeText lows highs entries finals place ≡ []
+  nothing-beyond h = no-entry (List·getD-eq-default entries no-state h)
+
+  pub nothing-there : place < length entries → getD entries place 0 ≡ 65535 → placeText lows highs entries finals place ≡ []
+  nothing-there h e = no-entry (getD-inside entries place no-state 0 h ∙ e)
+
+  no-letter : hasLetter streams (place % count) 8 ≡ false → placeText lows highs entries finals place ≡ []
+  unfolding placeText
+  no-letter e = ap (λ t. cond t (entryText streams entries finals (place / count) (place % count)) []) e
+
+  module _ {n : ℕ} (e : n ≡ cutCount count) where
+    pub no-letters : n ≡ 0 → placeText lows highs entries finals place ≡ []
+    unfolding hasLetter
+    no-letters z =
+        no-letter (ap₂ (λ s t. s && (t && leb (length streams) 8)) (le-leb count letterBound (omega arith)) (le-ltb (place % count) count (omega arith)))
+
+    -- Where a letter with the number is found, the count is exact.
+    module _ (h : hasLetter streams (place % n) 8 ≡ true) where
+      exact : n ≡ count
+      exact = let b = found streams (place % n) h .0 in omega arith
+
+      letter-values : length (letterOf streams (place % n)) ≡ length streams
+      letter-values = letter-length (letterOf-letter streams (place % n) (found streams (place % n) h .1 .0))
+
+      pub few-streams : length streams ≤ 8
+      few-streams = found streams (place % n) h .1 .1
+
+      pub line-there : place < length entries → (getD entries place 0 ≡ 65535 → ⊥) → {k : ℕ} → k ≡ min (length lows) (length highs)
+          → (out : List ℤ) → length out ≡ 8 → {values : List ℤ} → values ≡ withLetter streams (place % n) out → {byte : ℕ} → byte ≡ getD finals (place / n) 0
+          → entryLine (place / n) byte (take k values) (getD entries place 0) ≡ placeText lows highs entries finals place
+      unfolding placeText withLetter
+      line-there a b {k} s out l {values} w {byte} f =
+          let x = exact in
+          let next = getD entries place 0 in
+          let d : k ≡ length streams = s ∙ sym (length-described lows highs) in
+          let letter = letterOf streams (place % n) in
+          let v : take k values ≡ letter =
+          ap (take k) (w ∙ ap (λ t. cond t (letter ++ drop (length streams) out) out) (ap (hasLetter streams (place % n)) l ∙ h))
+          ∙ take-at letter (drop (length streams) out) k (letter-values ∙ sym d) in
+          let t : hasLetter streams (place % count) 8 ≡ true = ap (λ c. hasLetter streams (place % c) 8) (sym x) ∙ h in
+          ap₂ (λ y z. entryLine (place / n) y z next) f v
+          ∙ ap (λ c. entryLine (place / c) (getD finals (place / c) 0) (letterOf streams (place % c)) next) x
+          ∙ sym (ap (λ u. cond u [] (entryLine (place / count) (getD finals (place / count) 0) (letterOf streams (place % count)) next)) (ne-eqb next no-state b))
+          ∙ ap lineAt (getD-inside entries place 0 no-state a) ∙ sym entry-at
+          ∙ sym (ap (λ u. cond u (entryText streams entries finals (place / count) (place % count)) []) t)
+
+    pub no-values : hasLetter streams (place % n) 8 ≡ false → placeText lows highs entries finals place ≡ []
+    unfolding hasLetter
+    no-values h = no-letter (by (leb count letterBound) refl)
+      where
+        by : (t : Bool) → leb count letterBound ≡ t → hasLetter streams (place % count) 8 ≡ false
+        by true x =
+            let b = leb-true count letterBound x in
+            let y : n ≡ count = omega arith in
+            ap (λ c. hasLetter streams (place % c) 8) (sym y) ∙ h
+        by false x = ap (λ t. t && (ltb (place % count) count && leb (length streams) 8)) x

@@ -1,0 +1,59 @@
+-- The text of a table (document 01, "Sheets with their answers", P1), and the rows that `sluice` lends.
+use Prim.Native.Nat.{ℕ, zero, suc, _+_, _*_, _/_, _%_, min}
+use mathlib.Core.Bool.{cond}
+use mathlib.Core.List.{List, [], _∷_, _++_, map}
+use lib.Dec.{eqb}
+use lib.IntN.{ℤ}
+use lib.ListN.{getD, take, drop}
+use Rattle.text.specs.Bytes.{Token}
+use Rattle.meaning.specs.Expression.{Stream}
+use Rattle.meaning.specs.Letter.{letterCount, letterOf}
+use Rattle.automaton.specs.Table.{no-state}
+use Rattle.letters.specs.Described.{described, hasLetter}
+use Rattle.print.specs.Text.{headingLine, entryLine}
+
+-- "a line for each entry that is not 65,535": the line of a letter's entry, or nothing. No table has a row beyond its entries.
+abbrev pub entryText : List Stream → List ℕ → List ℕ → ℕ → ℕ → List ℕ
+entryText ss entries finals state letter =
+    let next = getD entries (state * letterCount ss + letter) no-state in
+    cond (eqb next no-state) [] (entryLine state (getD finals state 0) (letterOf ss letter) next)
+
+-- "by state and letter": the lines of a state's first letters, and of the first states.
+unfoldable pub rowText : List Stream → List ℕ → List ℕ → ℕ → ℕ → List ℕ
+rowText ss entries finals state zero = []
+rowText ss entries finals state (suc letter) = rowText ss entries finals state letter ++ entryText ss entries finals state letter
+
+unfoldable pub tableText : List Stream → ℕ → List ℕ → List ℕ → List ℕ
+tableText ss zero entries finals = []
+tableText ss (suc state) entries finals = tableText ss state entries finals ++ rowText ss entries finals state (letterCount ss)
+
+-- What `sluice` prints of a table: "a heading with the names, then a line for each entry that is not 65,535, by state and letter".
+unfoldable pub printed : List Stream → ℕ → List ℕ → List ℕ → List ℕ
+printed ss states entries finals = headingLine (map (λ s. s .name) ss) ++ tableText ss states entries finals
+
+-- The text of the entry at a place, counted by state and letter, from the streams' lowest and highest values; nothing where the streams are more
+-- than eight, or have no letters, or more than a sheet can have.
+unfoldable pub placeText : List ℤ → List ℤ → List ℕ → List ℕ → ℕ → List ℕ
+placeText lows highs entries finals place =
+    let ss = described lows highs in
+    let state = place / letterCount ss in
+    let letter = place % letterCount ss in
+    cond (hasLetter ss letter 8) (entryText ss entries finals state letter) []
+
+-- The text of the entries at the first places, one after the other.
+unfoldable pub placesText : List ℤ → List ℤ → List ℕ → List ℕ → ℕ → List ℕ
+placesText lows highs entries finals zero = []
+placesText lows highs entries finals (suc place) = placesText lows highs entries finals place ++ placeText lows highs entries finals place
+
+-- A name that is stored in the first of eight bytes: as many as its length says, or all that there are.
+abbrev pub storedName : List ℕ → List ℕ → ℕ → Token
+storedName names lengths i = take (min (getD lengths i 0) 8) (drop (i * 8) names)
+
+unfoldable pub storedNames : List ℕ → List ℕ → ℕ → List Token
+storedNames names lengths zero = []
+storedNames names lengths (suc i) = storedNames names lengths i ++ (storedName names lengths i ∷ [])
+
+-- "`sluice` lends 256 rows, or 32,768 divided by the letters, cut to a whole number, if that is fewer." For 0 letters, which no sheet has, the
+-- quotient is 0.
+abbrev pub rowsLent : ℕ → ℕ
+rowsLent letters = min 256 (32768 / letters)

@@ -1,0 +1,221 @@
+// Writes the lines that `sluice` prints to lent bytes: the heading, the line of an entry, and the line of a refusal. An answer is how many
+// bytes the line takes, or one more than the lent bytes where it has no room there.
+ghost use mathlib.Core.Path.{_≡_};
+ghost use mathlib.Core.List.{[], _∷_, _++_, map};
+ghost use Prim.Native.Nat.{suc, _+_, _<_, _≤_, min};
+ghost use lib.IntN.{natAbs};
+ghost use lib.ListN.{length, getD};
+ghost use Rattle.print.specs.Append.{Appends};
+ghost use Rattle.print.specs.Text.{digits, decimal, spaced, headingLine, entryLine, refusalLine};
+ghost use Rattle.print.specs.Table.{placeText, storedName, storedNames, rowsLent};
+
+fn fewer(a: usize, b: usize) -> usize
+    ensures { λ r. ⌜ r ≡ min a b ⌝ }
+{
+    if a <= b {
+        return a;
+    }
+    b
+}
+
+// ---- pieces of a line, each from the place where the last one ended
+
+fn append_byte(out: &mut [u8], at: usize, byte: u8) -> usize
+    requires { ⌜ at ≤ suc (length (now out)) ⌝ }
+    ensures { λ r. ⌜ Appends at (byte ∷ []) (now (out .entry)) (now (out .exit)) r ⌝ }
+{
+    if at < out.len() {
+        out[at] = byte;
+        return at + 1;
+    }
+    out.len() + 1
+}
+
+fn append_bytes(out: &mut [u8], at: usize, text: &[u8]) -> usize
+    requires { ⌜ at ≤ suc (length (now out)) ⌝ }
+    ensures { λ r. ⌜ Appends at (now (text .entry)) (now (out .entry)) (now (out .exit)) r ⌝ }
+{
+    let mut to = at;
+    let mut i = 0;
+    while i < text.len() {
+        to = append_byte(out, to, text[i]);
+        i += 1;
+    }
+    to
+}
+
+// The byte of a digit.
+fn digit(value: u64) -> u8
+    requires { ⌜ value < 10 ⌝ }
+    ensures { λ r. ⌜ r ≡ 48 + value ⌝ }
+{
+    48 + value as u8
+}
+
+// The digits of a number, those of its tenth first.
+fn append_natural(out: &mut [u8], at: usize, value: u64) -> usize
+    requires { ⌜ at ≤ suc (length (now out)) ⌝ }
+    ensures { λ r. ⌜ Appends at (digits value) (now (out .entry)) (now (out .exit)) r ⌝ }
+{
+    if value < 10 {
+        return append_byte(out, at, digit(value));
+    }
+    let to = append_natural(out, at, value / 10);
+    append_byte(out, to, digit(value % 10))
+}
+
+// The magnitude of a number below 0; one more than the number keeps the difference within the signed numbers.
+fn magnitude(value: i64) -> u64
+    ensures { λ r. ⌜ r ≡ natAbs value ⌝ }
+{
+    if value < 0 {
+        return (-1 - value) as u64 + 1;
+    }
+    value as u64
+}
+
+fn append_number(out: &mut [u8], at: usize, value: i64) -> usize
+    requires { ⌜ at ≤ suc (length (now out)) ⌝ }
+    ensures { λ r. ⌜ Appends at (decimal value) (now (out .entry)) (now (out .exit)) r ⌝ }
+{
+    let size = magnitude(value);
+    if value < 0 {
+        let to = append_byte(out, at, 45);
+        return append_natural(out, to, size);
+    }
+    append_natural(out, at, size)
+}
+
+// A natural number and a space.
+fn append_count(out: &mut [u8], at: usize, value: u64) -> usize
+    requires { ⌜ at ≤ suc (length (now out)) ⌝ }
+    ensures { λ r. ⌜ Appends at (digits value ++ (32 ∷ [])) (now (out .entry)) (now (out .exit)) r ⌝ }
+{
+    let to = append_natural(out, at, value);
+    append_byte(out, to, 32)
+}
+
+// Numbers, each with a space after it.
+fn append_values(out: &mut [u8], at: usize, values: &[i64]) -> usize
+    requires { ⌜ at ≤ suc (length (now out)) ⌝ }
+    ensures { λ r. ⌜ Appends at (spaced (map decimal (now (values .entry)))) (now (out .entry)) (now (out .exit)) r ⌝ }
+{
+    let mut to = at;
+    let mut i = 0;
+    while i < values.len() {
+        let end = append_number(out, to, values[i]);
+        to = append_byte(out, end, 32);
+        i += 1;
+    }
+    to
+}
+
+// The byte at a place, or 0 beyond the list.
+fn byte_at(list: &[u8], i: usize) -> u8
+    ensures { λ r. ⌜ r ≡ getD (now (list .entry)) i 0 ⌝ }
+{
+    if i < list.len() {
+        return list[i];
+    }
+    0
+}
+
+// A stored name and a space.
+fn append_name(out: &mut [u8], at: usize, names: &[u8], lengths: &[u8], i: usize) -> usize
+    requires { ⌜ (at ≤ suc (length (now out))) × (i < 8) ⌝ }
+    ensures { λ r. ⌜ Appends at (storedName (now (names .entry)) (now (lengths .entry)) i ++ (32 ∷ [])) (now (out .entry)) (now (out .exit)) r ⌝ }
+{
+    let length = fewer(byte_at(lengths, i) as usize, 8);
+    let start = fewer(i * 8, names.len());
+    let end = fewer(i * 8 + length, names.len());
+    let to = append_bytes(out, at, &names[start..end]);
+    append_byte(out, to, 32)
+}
+
+// Stored names, each with a space after it.
+fn append_names(out: &mut [u8], at: usize, names: &[u8], lengths: &[u8], count: usize) -> usize
+    requires { ⌜ (at ≤ suc (length (now out))) × (count ≤ 8) ⌝ }
+    ensures { λ r. ⌜ Appends at (spaced (storedNames (now (names .entry)) (now (lengths .entry)) count)) (now (out .entry)) (now (out .exit)) r ⌝ }
+{
+    let mut to = at;
+    let mut i = 0;
+    while i < count {
+        to = append_name(out, to, names, lengths, i);
+        i += 1;
+    }
+    to
+}
+
+// ---- lines
+
+// "a heading with the names", those of the first eight streams. Each name is stored in eight bytes, with its length.
+pub fn heading(names: &[u8], lengths: &[u8], streams: usize, out: &mut [u8]) -> usize
+    ensures { λ r. ⌜ Appends 0 (headingLine (storedNames (now (names .entry)) (now (lengths .entry)) (min streams 8))) (now (out .entry)) (now (out .exit)) r ⌝ }
+{
+    let from = append_bytes(out, 0, b"state final ");
+    let to = append_names(out, from, names, lengths, fewer(streams, 8));
+    append_bytes(out, to, b"next\n")
+}
+
+// "state, final (1 or 0), the letter's values, next state"
+pub fn entry_line(state: usize, is_final: u8, values: &[i64], next: u16, out: &mut [u8]) -> usize
+    ensures { λ r. ⌜ Appends 0 (entryLine state «is_final» (now (values .entry)) next) (now (out .entry)) (now (out .exit)) r ⌝ }
+{
+    let final_at = append_count(out, 0, state as u64);
+    let values_at = append_count(out, final_at, is_final as u64);
+    let next_at = append_values(out, values_at, values);
+    let end = append_natural(out, next_at, next as u64);
+    append_byte(out, end, 10)
+}
+
+// The one line of a refusal.
+pub fn refusal_line(number: u32, out: &mut [u8]) -> usize
+    ensures { λ r. ⌜ Appends 0 (refusalLine number) (now (out .entry)) (now (out .exit)) r ⌝ }
+{
+    let to = append_bytes(out, 0, b"refused ");
+    let end = append_natural(out, to, number as u64);
+    append_byte(out, end, 10)
+}
+
+// The line of the entry at a place, counted by state and letter; nothing where the entry is 65,535, where there is no such place, or where the
+// streams have no letters, or more of either than a sheet can have.
+pub fn entry_text(
+    entries: &[u16],
+    finals: &[u8],
+    lows: &[i64],
+    highs: &[i64],
+    place: usize,
+    out: &mut [u8],
+) -> usize
+    ensures { λ r. ⌜ Appends 0 (placeText (now (lows .entry)) (now (highs .entry)) (now (entries .entry)) (now (finals .entry)) place) (now (out .entry)) (now (out .exit)) r ⌝ }
+{
+    if entries.len() <= place {
+        return 0;
+    }
+    let next = entries[place];
+    if next == 65535 {
+        return 0;
+    }
+    let count = letters::letter_count(lows, highs) as usize;
+    if count == 0 {
+        return 0;
+    }
+    let letter = (place % count) as u32;
+    let mut values = [0i64; 8];
+    if !letters::letter_values(lows, highs, letter, &mut values) {
+        return 0;
+    }
+    let state = place / count;
+    let streams = fewer(lows.len(), highs.len());
+    entry_line(state, byte_at(finals, state), &values[..streams], next, out)
+}
+
+// The rows that `sluice` lends for a sheet with so many letters.
+pub fn rows_lent(letters: usize) -> usize
+    ensures { λ r. ⌜ r ≡ rowsLent letters ⌝ }
+{
+    if letters == 0 {
+        return 0;
+    }
+    fewer(256, 32768 / letters)
+}

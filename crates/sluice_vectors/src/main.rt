@@ -1,0 +1,52 @@
+// Reads sheets from standard input and prints what `sluice` prints for each. The enumerator wrote the input and what is expected: a number of
+// four bytes, low first, and then as many bytes of a sheet, sheet after sheet.
+ghost use Prim.Native.Nat.{_<_, _≤_};
+ghost use lib.ListN.{length};
+use libc::STDIN_FILENO;
+
+fn wide(b: u8) -> u32
+    ensures { λ r. ⌜ r < 256 ⌝ }
+{
+    b as u32
+}
+
+// The number that the first four bytes write.
+fn number(all: &[u8]) -> u32
+    requires { ⌜ 4 ≤ length (now all) ⌝ }
+{
+    let low = wide(all[0]) + wide(all[1]) * 256;
+    let high = wide(all[2]) + wide(all[3]) * 256;
+    low + high * 65536
+}
+
+// One sheet; whether there was one.
+fn one(space: &mut [u8]) -> bool {
+    if space.len() < 4 {
+        return false;
+    }
+    let n = io::read_full(STDIN_FILENO, &mut space[..4]);
+    if n < 4 {
+        return false;
+    }
+    let size = number(space) as usize;
+    if space.len() < size {
+        return false;
+    }
+    let m = io::read_full(STDIN_FILENO, &mut space[..size]);
+    if m < size {
+        return false;
+    }
+    show::show(&space[..size]);
+    true
+}
+
+fn main() {
+    let mut space = io::large_buffer();
+    let mut left: u32 = 65536;
+    while 0 < left {
+        if !one(&mut space) {
+            return;
+        }
+        left -= 1;
+    }
+}
