@@ -1,130 +1,18 @@
 // Runs `minimise` and a plain C program of the same algorithm on the same graphs, one after the other, and prints the time of each
 // and their ratio. Each time is the least of several runs. Both answers are compared.
-#include <stdint.h>
+#include "plain.h"
 #include <stdio.h>
 #include <stdlib.h>
 #include <string.h>
 #include <time.h>
 
-#define NONE 65535
-
-typedef struct { uint32_t refusal, states; } answer;
-
 // the archive's function: a slice is a pointer and a length
-extern answer minimise_c(uint16_t *entries, size_t n, uint8_t *flags, size_t m, size_t letters, size_t rows, uint32_t *live, size_t n1,
+extern minimised minimise_c(uint16_t *entries, size_t n, uint8_t *flags, size_t m, size_t letters, size_t rows, uint32_t *live, size_t n1,
     uint32_t *class, size_t n2, uint32_t *next, size_t n3, uint32_t *heads, size_t n4, uint32_t *links, size_t n5, uint32_t *shared, size_t n6);
 
-// ---- the plain program
-
-typedef struct { uint16_t *entries; uint8_t *flags; size_t letters, rows; uint32_t *live, *class, *next, *heads, *links, *shared; } tables;
-
-static int plain_graph(const tables *t) {
-    size_t met = 1;
-    for (size_t s = 0; s < t->rows; s++) if (t->flags[s] > 1) return 0;
-    for (size_t s = 0; s < t->rows; s++) {
-        if (s >= met) return 0;
-        for (size_t a = 0; a < t->letters; a++) {
-            uint16_t u = t->entries[s * t->letters + a];
-            if (u == NONE) continue;
-            if (u > met || u >= t->rows || t->flags[u] < t->flags[s]) return 0;
-            if (u == met) met++;
-        }
-    }
-    return met == t->rows;
-}
-
-static int plain_has(const tables *t, size_t s, const uint32_t *marks) {
-    const uint16_t *row = t->entries + s * t->letters;
-    for (size_t a = 0; a < t->letters; a++) if (row[a] < t->rows && marks[row[a]] == 1) return 1;
-    return 0;
-}
-
-static void plain_prune(const tables *t, uint32_t *marks) {
-    int changed = 1;
-    while (changed) {
-        changed = 0;
-        for (size_t s = t->rows; s-- > 0;) if (marks[s] == 1 && !plain_has(t, s, marks)) { marks[s] = 0; changed = 1; }
-    }
-}
-
-static void plain_grow(const tables *t, uint32_t *marks) {
-    int changed = 1;
-    while (changed) {
-        changed = 0;
-        for (size_t s = t->rows; s-- > 0;) if (marks[s] != 1 && plain_has(t, s, marks)) { marks[s] = 1; changed = 1; }
-    }
-}
-
-static uint32_t plain_class(const tables *t, uint16_t u) { return u < t->rows ? t->class[u] : 0; }
-
-static void plain_refine(tables *t) {
-    uint32_t done = 0, pending = 0;
-    for (size_t s = 0; s < t->rows; s++) {
-        uint32_t *name = t->flags[s] == 1 ? &done : &pending;
-        if (t->live[s] != 1) { t->class[s] = 0; continue; }
-        if (*name == 0) *name = s + 1;
-        t->class[s] = *name;
-    }
-    int changed = 1;
-    while (changed) {
-        changed = 0;
-        memset(t->shared, 0, t->rows * 4);
-        memset(t->heads, 0, t->rows * 4);
-        for (size_t s = 0; s < t->rows; s++) if (t->class[s] && t->class[s] != s + 1) t->shared[t->class[s] - 1] = 1;
-        for (size_t s = 0; s < t->rows; s++) {
-            uint32_t old = t->class[s];
-            t->next[s] = old;
-            if (!old || t->shared[old - 1] != 1) continue;
-            const uint16_t *row = t->entries + s * t->letters;
-            uint64_t h = old;
-            for (size_t a = 0; a < t->letters; a++) h = (h * 2654435761u + plain_class(t, row[a])) & 0xffffffffu;
-            size_t b = (h / 32768 + h) % t->rows;
-            uint32_t j = t->heads[b];
-            while (j) {
-                if (t->class[j - 1] == old) {
-                    const uint16_t *other = t->entries + (j - 1) * t->letters;
-                    size_t a = 0;
-                    while (a < t->letters && plain_class(t, row[a]) == plain_class(t, other[a])) a++;
-                    if (a == t->letters) break;
-                }
-                j = t->links[j - 1];
-            }
-            if (!j) { t->links[s] = t->heads[b]; t->heads[b] = s + 1; j = s + 1; }
-            t->next[s] = j;
-            if (j != old) changed = 1;
-        }
-        memcpy(t->class, t->next, t->rows * 4);
-    }
-}
-
-static answer plain_run(tables *t) {
-    answer r = { 11, 0 };
-    if (!plain_graph(t)) return r;
-    for (size_t s = 0; s < t->rows; s++) t->live[s] = 1;
-    plain_prune(t, t->live);
-    for (size_t s = 0; s < t->rows; s++) if (t->flags[s] != 1) t->live[s] = 0;
-    plain_grow(t, t->live);
-    r.refusal = 9;
-    if (t->live[0] != 1) return r;
-    for (size_t s = 0; s < t->rows; s++) t->next[s] = t->live[s] == 1 && t->flags[s] != 1;
-    plain_prune(t, t->next);
-    for (size_t s = 0; s < t->rows; s++) t->flags[s] = t->live[s] == 1 && t->next[s] != 1;
-    plain_refine(t);
-    uint32_t n = 0;
-    for (size_t s = 0; s < t->rows; s++) if (t->class[s] == s + 1) { t->next[s] = n; t->heads[n++] = s; }
-    for (size_t j = 0; j < n; j++) {
-        const uint16_t *from = t->entries + t->heads[j] * t->letters;
-        uint16_t *to = t->entries + j * t->letters;
-        for (size_t a = 0; a < t->letters; a++) { uint32_t c = plain_class(t, from[a]); to[a] = c ? t->next[c - 1] : NONE; }
-        t->flags[j] = t->flags[t->heads[j]];
-    }
-    r.refusal = 0;
-    r.states = n;
-    return r;
-}
-
-static __attribute__((noinline)) answer plain(tables *t, size_t room, size_t work) {
-    answer r = plain_run(t);
+static __attribute__((noinline)) minimised plain(tables *t, size_t room, size_t work) {
+    minimised r = { 11, 0 };
+    if (plain_is_graph(t)) r = plain_reduce(t);
     memset(t->entries + r.states * t->letters, 0, (room * t->letters - r.states * t->letters) * 2);
     memset(t->flags + r.states, 0, room - r.states);
     memset(t->live, 0, work * 4);
@@ -232,7 +120,7 @@ int main(void) {
         for (int j = 0; j < 6; j++) w[j] = calloc(rows, 4);
         size_t n = make(k, rows, letters, entries, flags);
         double best = 1e9, plain_best = 1e9;
-        answer r = { 0, 0 }, p = { 0, 0 };
+        minimised r = { 0, 0 }, p = { 0, 0 };
         // at least five runs of each, and more for at most a fifth of a second
         double began = now();
         for (size_t turn = 0; turn < 5 || now() - began < 0.2; turn++) {

@@ -1,0 +1,105 @@
+"""Compares the plain C compile with the stored vectors.
+
+    python3 bench/compile/check.py
+
+Builds the C program as a shared library (CC names the compiler) and calls it on each
+sheet of vectors/sheets.jsonl with the rows of vectors/compile.jsonl. The refusal, both
+counts, the table, and the zeros beyond it and in the work tables must agree.
+"""
+
+import ctypes
+import json
+import os
+import pathlib
+import subprocess
+import sys
+from collections import Counter
+
+ROOT = pathlib.Path(__file__).resolve().parents[2]
+SOURCES = ["bench/compile/plain.c", "bench/compile/read.c", "bench/minimise/plain.c"]
+KEY = 16
+# More rows are not lent; 4,096 or more all give the same answer.
+MOST_ROWS = 65535
+# A refused sheet has no letters; its table of entries then holds so many for a row.
+REFUSED_LETTERS = 3
+
+
+class Compiled(ctypes.Structure):
+    _fields_ = [("refusal", ctypes.c_uint32), ("states", ctypes.c_uint32), ("situations", ctypes.c_uint32)]
+
+
+def built():
+    library = ROOT / "target" / "bench" / "libplain.so"
+    library.parent.mkdir(parents=True, exist_ok=True)
+    subprocess.run([os.environ.get("CC", "cc"), "-std=c11", "-O2", "-Wall", "-Wextra", "-Werror", "-shared", "-fPIC",
+                    "-o", str(library)] + [str(ROOT / source) for source in SOURCES], check=True)
+    function = ctypes.CDLL(str(library)).plain_compile
+    function.restype = Compiled
+    return function
+
+
+def lent(rows, letters, smallest):
+    """Nine tables, of which the one with the number `smallest` holds exactly the rows and the others a few more. All numbers are
+    ones, so that what is not cleared shows."""
+    widths = [(ctypes.c_uint16, letters), (ctypes.c_uint8, 1), (ctypes.c_uint32, KEY)] + [(ctypes.c_uint32, 1)] * 6
+    tables = []
+    for number, (kind, width) in enumerate(widths):
+        # a table that is not the smallest holds a part of a row too
+        count = rows * width if number == smallest else (rows + 1 + number) * width + width - 1
+        table = (kind * count)()
+        ctypes.memset(table, 1, ctypes.sizeof(table))
+        tables.append(table)
+    return tables
+
+
+def is_zero(table, start=0):
+    rest = bytes(memoryview(table).cast("B")[start * ctypes.sizeof(table._type_):])
+    return rest.count(0) == len(rest)
+
+
+def difference(function, sheet, wanted, smallest):
+    text = sheet["sheet"].encode("latin-1")
+    letters = sheet.get("letters", REFUSED_LETTERS)
+    tables = lent(wanted["rows"], letters, smallest)
+    words = [ctypes.c_char_p(text), ctypes.c_size_t(len(text))]
+    for table in tables:
+        words += [table, ctypes.c_size_t(len(table))]
+    answer = function(*words)
+    if (answer.refusal, answer.states, answer.situations) != (wanted["refusal"], wanted["states"], wanted["situations"]):
+        return "answer %d %d %d" % (answer.refusal, answer.states, answer.situations)
+    entries, finals = tables[:2]
+    used = answer.states * letters
+    if answer.refusal == 0:
+        if entries[:used] != [entry for row in sheet["entries"] for entry in row]:
+            return "entries"
+        if finals[:answer.states] != sheet["finals"]:
+            return "finals"
+    if not is_zero(entries, used) or not is_zero(finals, answer.states):
+        return "numbers beyond the table"
+    if not all(is_zero(table) for table in tables[2:]):
+        return "numbers in a work table"
+    return None
+
+
+def lines(name):
+    return [json.loads(line) for line in open(ROOT / "vectors" / name)]
+
+
+def main():
+    function = built()
+    sheets = {sheet["name"]: sheet for sheet in lines("sheets.jsonl")}
+    compiles = [wanted for wanted in lines("compile.jsonl") if wanted["rows"] <= MOST_ROWS]
+    compared, faults = Counter(), 0
+    for number, wanted in enumerate(compiles):
+        fault = difference(function, sheets[wanted["name"]], wanted, number % 9)
+        compared[wanted["refusal"]] += 1
+        if fault:
+            faults += 1
+            print("%s with %d rows: %s" % (wanted["name"], wanted["rows"], fault))
+    print("plain C: %d compiles compared (%s), %d differ" % (
+        len(compiles), ", ".join("refusal %d: %d" % item for item in sorted(compared.items())), faults))
+    return 1 if faults else 0
+
+
+if __name__ == "__main__":
+    sys.exit(main())

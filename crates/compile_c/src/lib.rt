@@ -1,0 +1,35 @@
+// The entry by which the benchmark's C program calls `compile`. A slice is a pointer and a length there.
+ghost use Rattle.meaning.specs.Arithmetic.{cutTowardZero};
+ghost use Rattle.sheet.specs.Form.{threeHeaderLines};
+ghost use Rattle.compile.specs.Lent.{roomOf, tablesOf, answerOf};
+ghost use Rattle.outcome.specs.Compile.{CompileOutcome};
+use compile::Compiled;
+
+#[no_mangle]
+pub extern "C" fn compile_c(
+    text: &[u8],
+    entries: &mut [u16],
+    finals: &mut [u8],
+    keys: &mut [u32],
+    live: &mut [u32],
+    class: &mut [u32],
+    next: &mut [u32],
+    heads: &mut [u32],
+    links: &mut [u32],
+    shared: &mut [u32],
+) -> Compiled
+    ensures { λ r. ⌜ CompileOutcome cutTowardZero threeHeaderLines (now (text .entry)) (roomOf (now (entries .entry)) (now (finals .entry)) (now (keys .entry)) (now (live .entry)) (now (class .entry)) (now (next .entry)) (now (heads .entry)) (now (links .entry)) (now (shared .entry))) (answerOf r) (tablesOf (now (entries .exit)) (now (finals .exit)) (now (keys .exit)) (now (live .exit)) (now (class .exit)) (now (next .exit)) (now (heads .exit)) (now (links .exit)) (now (shared .exit))) ⌝ }
+{
+    compile::compile(
+        text,
+        entries,
+        finals,
+        keys,
+        live,
+        class,
+        next,
+        heads,
+        links,
+        shared,
+    )
+}
