@@ -9,10 +9,14 @@ import json
 import os
 import sys
 
+from normal_rows import Rows
+from reading import read
+
 from sluice import sluice
 
 LARGEST_WORD = 2**32 - 1
 LARGEST_INPUT = 65536
+LARGEST_SHEET = 512
 
 # The room that the program `compile_vectors` has: entries, and rows of every other table.
 ENTRY_ROOM = 65536
@@ -118,6 +122,32 @@ def sluice_vectors_program(vectors, examples):
     return b"".join(word(len(sheet)) + sheet for sheet in sheets), b"".join(sluice(sheet) for sheet in sheets)
 
 
+def normal_case(vector, text):
+    """The bytes of one sheet with the length of its list, and the lines that
+    it must print; the rows are held to the vector's entries."""
+    lines, rows, added = [], [], 0
+    if not vector["refusal"]:
+        form = Rows(read(text)[1])
+        rows, added = form.all()
+        assert [form.decoded(row) for row in rows] == vector["entries"]
+        ranges = {row[2] - form.own: list(row[6:]) for row in rows if row[0] > 1}
+        assert [ranges[stream] for stream in range(added)] == vector["added"]
+    lines = [(vector["refusal"], len(rows), added), *rows]
+    printed = "".join(" ".join(map(str, line)) + "\n" for line in lines)
+    return word(len(text)) + word(vector["list"]) + text, printed
+
+
+def normal_program(vectors, texts):
+    """The cases of short sheets that fit one buffer of the program, in order."""
+    text, expected = b"", ""
+    for vector in vectors:
+        case = normal_case(vector, texts[vector["name"]])
+        if len(case[0]) <= LARGEST_SHEET and len(text) + len(case[0]) <= LARGEST_INPUT:
+            text += case[0]
+            expected += case[1]
+    return text, expected.encode()
+
+
 def write(folder, crate, files):
     for name, content in zip(("stdin", "stdout"), files):
         path = os.path.join(folder, crate, name)
@@ -131,6 +161,8 @@ def main(vectors, crates):
     examples = example_sheets(os.path.join(os.path.dirname(os.path.abspath(__file__)), "..", "examples"))
     write(crates, "step_vectors", step_program(load(vectors, "step.jsonl")))
     write(crates, "reader_vectors", reader_program(sheets))
+    texts = {vector["name"]: vector["sheet"].encode("latin-1") for vector in sheets}
+    write(crates, "normal_vectors", normal_program(load(vectors, "normal.jsonl"), texts))
     write(crates, "compile_vectors", compile_program(load(vectors, "compile.jsonl"), sheets))
     write(crates, "sluice", sluice_program(sheets))
     write(crates, "sluice_vectors", sluice_vectors_program(sheets, examples))

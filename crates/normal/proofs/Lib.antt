@@ -1,0 +1,14 @@
+pub mod Writing
+pub mod Recursion
+pub mod Lines
+pub mod Entries
+pub mod Places
+pub mod Decoding
+pub mod SheetRows
+pub mod Sources
+pub mod Listing
+pub mod Outcome
+pub mod StoredReading
+pub mod Ranges
+pub mod Solutions
+pub mod Sizes

@@ -1,0 +1,5 @@
+pub mod Rows
+pub mod Stored
+pub mod Table
+pub mod Encoded
+pub mod Outcome

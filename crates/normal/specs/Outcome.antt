@@ -1,0 +1,22 @@
+-- What stands in the tables for an answer of the reader: the entries of the sheet, or a refusal's number with zeros.
+use Prim.Native.Nat.{ℕ}
+use lib.ListN.{length}
+use Rattle.meaning.specs.Arithmetic.{cutTowardZero}
+use Rattle.meaning.specs.Expression.{Sheet}
+use Rattle.sheet.specs.Refusal.{Answer, refused, sheet}
+use Rattle.nodes.specs.Postfix.{allNodes}
+use Rattle.nodes.specs.Evaluate.{nodesOf}
+use Rattle.nodes.specs.Bounds.{lowsOf, highsOf}
+use Rattle.nodes.specs.declared.Range.{Range}
+use Rattle.normal.specs.Rows.{linesOf}
+use Rattle.normal.specs.Stored.{rangeBefore}
+use Rattle.normal.specs.Table.{refusedMade, madeOf}
+use Rattle.normal.specs.declared.Made.{Made}
+
+-- The range of the part of the sheet's stored nodes that ends before a place.
+abbrev pub sheetRange : Sheet → ℕ → Range
+sheetRange s = rangeBefore cutTowardZero (nodesOf (allNodes 0 0 (s .constraints))) (lowsOf (s .streams)) (highsOf (s .streams))
+
+abbrev pub entriesFor : Answer → ℕ → Made
+entriesFor (refused n) room = refusedMade n
+entriesFor (sheet s) room = madeOf (linesOf 0 (s .constraints)) (length (s .streams)) (sheetRange s) room
