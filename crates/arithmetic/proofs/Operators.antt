@@ -2,7 +2,7 @@
 use Prim.Native.Nat.{ℕ, suc, _-_, _≤_, _<_}
 use native.Mathlib.Omega.{arith}
 use native.Mathlib.Decide.{ℕ-discrete}
-use mathlib.Core.Path.{_≡_, refl, sym, _∙_, ap}
+use mathlib.Core.Path.{_≡_, sym, _∙_, ap}
 use mathlib.Core.Bool.{Bool, true, false}
 use lib.IntN.{ℤ, natAbs}
 use lib.ListN.{getD, List·getD-eq-default}
@@ -23,7 +23,7 @@ applied-kind {k} {a} {b} {r} n e fa fb fr h =
 pub later : {n k : ℕ} → n ≤ k → (k ≡ n → ⊥) → suc n ≤ k
 later h e = omega arith
 
-operatorAt-last : (k : ℕ) → 19 ≤ k → operatorAt k ≡ or
+pub operatorAt-last : (k : ℕ) → 19 ≤ k → operatorAt k ≡ or
 operatorAt-last k h = by (ℕ-discrete (k - 7) 12)
   where
     by : Dec (k - 7 ≡ 12) → operatorAt k ≡ or
@@ -63,10 +63,10 @@ module _ (k : ℕ) (a b : ℤ) where
   byKind-high l h = simp (le-leb 7 k l, le-ltb k 20 h)
 
   module _ (l : 7 ≤ k) (h : k ≤ 19) where
-    pub byKind-bounded : SFits w64 a → SFits w64 b → inBound a ≡ true → inBound b ≡ true → (r : ℤ) → SFits w64 r → r ≡ apply cutTowardZero (operatorAt k) (held a) (held b)
-        → bounded (held r) ≡ appliedByKind cutTowardZero k a b
-    byKind-bounded fa fb p q r fr e =
-        ap bounded (applied-kind {k = k} k refl fa fb fr e) ∙ sym (simp (le-leb 7 k l, lt-ltb k 20 (omega arith), p, q))
+    pub byKind-bounded : SFits w64 a → SFits w64 b → inBound a ≡ true → inBound b ≡ true
+        → bounded (apply cutTowardZero (operatorAt k) (held a) (held b)) ≡ appliedByKind cutTowardZero k a b
+    byKind-bounded fa fb p q =
+        held-both (λ x y. bounded (apply cutTowardZero (operatorAt k) x y)) a b fa fb ∙ sym (simp (le-leb 7 k l, lt-ltb k 20 (omega arith), p, q))
 
     pub byKind-left : inBound a ≡ false → noValue ≡ appliedByKind cutTowardZero k a b
     byKind-left p = simp (le-leb 7 k l, lt-ltb k 20 (omega arith), p)

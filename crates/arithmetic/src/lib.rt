@@ -5,6 +5,7 @@ ghost use Prim.Native.Nat.{_≤_};
 ghost use lib.Signed.{ltZ, leZ};
 ghost use Rattle.meaning.specs.Value.{truth, bit, compares, equal};
 ghost use Rattle.meaning.specs.Arithmetic.{add, subtract, multiply, divide, remainder, apply, cutTowardZero};
+ghost use Rattle.arithmetic.specs.Coded.{coded};
 ghost use Rattle.nodes.specs.Bounded.{inBound, Small, noValue, bounded, operatorAt, appliedByKind};
 
 // "Magnitudes to 1,000,000,000."
@@ -35,6 +36,20 @@ pub fn bounded(z: i64) -> Evaluated
     } else {
         no_value()
     }
+}
+
+// The number that stands for no value.
+pub fn absent() -> i64
+    ensures { λ r. ⌜ r ≡ coded noValue ⌝ }
+{
+    2000000000
+}
+
+// The value itself, where it is within the bound, as one number.
+pub fn bounded_coded(z: i64) -> i64
+    ensures { λ r. ⌜ r ≡ coded (bounded z) ⌝ }
+{
+    if in_bound(z) { z } else { absent() }
 }
 
 // "any value but 0 is true"
@@ -124,15 +139,16 @@ fn either(a: bool, b: bool) -> bool
     if a { true } else { b }
 }
 
-// The operators by a node's kind, from 7 on in the order of document 01; every later kind is taken as the last.
+// The operators by a node's kind, from 7 on in the order of document 01; every later kind is taken as the last. Only the results of
+// `+ - *` are tested, since the others are within the bound where the operands are.
 fn applied(kind: u8, a: i64, b: i64) -> i64
     requires { ⌜ (7 ≤ kind) × Small a × Small b ⌝ }
-    ensures { λ r. ⌜ r ≡ apply cutTowardZero (operatorAt kind) a b ⌝ }
+    ensures { λ r. ⌜ r ≡ coded (bounded (apply cutTowardZero (operatorAt kind) a b)) ⌝ }
 {
     match kind {
-        7 => sum(a, b),
-        8 => difference(a, b),
-        9 => product(a, b),
+        7 => bounded_coded(sum(a, b)),
+        8 => bounded_coded(difference(a, b)),
+        9 => bounded_coded(product(a, b)),
         10 => quotient(a, b),
         11 => modulus(a, b),
         12 => bit(less(a, b)),
@@ -146,23 +162,30 @@ fn applied(kind: u8, a: i64, b: i64) -> i64
     }
 }
 
+// What the operator with a node's kind gives, where both operands and the result are within the bound, as one number.
+pub fn apply_coded(kind: u8, a: i64, b: i64) -> i64
+    ensures { λ r. ⌜ r ≡ coded (appliedByKind cutTowardZero kind a b) ⌝ }
+{
+    if kind < 7 {
+        return absent();
+    }
+    if 19 < kind {
+        return absent();
+    }
+    if in_bound(a) {
+        if in_bound(b) {
+            applied(kind, a, b)
+        } else {
+            absent()
+        }
+    } else {
+        absent()
+    }
+}
+
 // What the operator with a node's kind gives, where both operands and the result are within the bound.
 pub fn apply(kind: u8, a: i64, b: i64) -> Evaluated
     ensures { λ r. ⌜ r ≡ appliedByKind cutTowardZero kind a b ⌝ }
 {
-    if kind < 7 {
-        return no_value();
-    }
-    if 19 < kind {
-        return no_value();
-    }
-    if in_bound(a) {
-        if in_bound(b) {
-            bounded(applied(kind, a, b))
-        } else {
-            no_value()
-        }
-    } else {
-        no_value()
-    }
+    bounded(apply_coded(kind, a, b))
 }

@@ -1,21 +1,24 @@
--- What the functions without recursion answer: a stored number is looked up, and values are negated and joined by operators.
-use Prim.Native.Nat.{ℕ, _+_, _*_, _/_, _≤_, _<_}
+-- What the functions without recursion answer: a stored number is looked up, a value is negated, and a leaf is read.
+use Prim.Native.Nat.{ℕ, _+_, _-_, _*_, _/_, _≤_, _<_}
 use native.Mathlib.Omega.{arith}
 use native.Mathlib.Nat.{le-trans, suc-mul, mul-le-mul-right, div-mul-le-self, div-zero}
 use mathlib.Core.Path.{_≡_, sym, _∙_, ap}
 use mathlib.Core.Bool.{Bool, true, false, not}
+use mathlib.Core.List.{List}
+use lib.Dec.{leb}
 use lib.IntN.{ℤ, pos, natAbs}
+use lib.ListN.{getD}
 use lib.Signed.{ltZ}
-use borrow.Author.Tests.{lt-ltb, le-ltb}
+use borrow.Author.Tests.{leb-false, lt-ltb, le-ltb, eq-eqb, ne-eqb}
 use mir.Syntax.{w64}
 use mir.Val.{SFits}
 use mir.ValLaws.{toZ-ofZ}
 use Rattle.meaning.specs.Value.{truth, bit}
-use Rattle.meaning.specs.Arithmetic.{cutTowardZero}
-use Rattle.nodes.specs.Bounded.{noValue, someValue, bounded, appliedByKind}
-use Rattle.nodes.specs.Evaluate.{lookup, negated, operated}
-use Rattle.nodes.specs.declared.Evaluated.{Evaluated}
-use Rattle.arithmetic.proofs.Machine.{held, held-both, number-natural, number-negative}
+use Rattle.nodes.specs.Bounded.{inBound, noValue, bounded}
+use Rattle.nodes.specs.Evaluate.{lookup, streamAt, negated}
+use Rattle.arithmetic.specs.Coded.{coded}
+use Rattle.arithmetic.proofs.Machine.{held, number-natural, number-negative}
+use Rattle.evaluate.specs.Leaf.{isLeaf, leafValue}
 
 -- ---- a stored number
 
@@ -43,24 +46,37 @@ index-within length streams place k p h =
 pub zero-places : (length streams : ℕ) → streams ≡ 0 → 0 ≡ length / streams
 zero-places length streams e = sym (ap (λ s. length / s) e ∙ div-zero length)
 
--- ---- operators
+-- ---- negation
 
-pub negated-value : (a : Evaluated) → SFits w64 (a .value) → a .ok ≡ true → (t : Bool) → t ≡ truth (held (a .value)) → (z : ℤ) → SFits w64 z → z ≡ bit (not t)
-    → record { ok = true; value = held z } ≡ negated a
-negated-value a f e t h z g k =
-    let v : held z ≡ bit (not (truth (a .value))) = toZ-ofZ w64 z g ∙ k ∙ ap (λ t. bit (not t)) (h ∙ ap truth (toZ-ofZ w64 (a .value) f)) in
-    ap someValue v ∙ sym (simp e)
+module _ (z : ℤ) (f : SFits w64 z) where
+  pub negated-there : inBound z ≡ true → {t : Bool} → t ≡ truth (held z) → bit (not t) ≡ coded (negated (bounded z))
+  negated-there h e = ap (λ t. bit (not t)) (e ∙ ap truth (toZ-ofZ w64 z f)) ∙ sym (simp h)
 
-pub negated-none : (a : Evaluated) → a .ok ≡ false → noValue ≡ negated a
-negated-none a e = sym (simp e)
+  pub negated-absent : inBound z ≡ false → coded noValue ≡ coded (negated (bounded z))
+  negated-absent h = sym (simp h)
 
-module _ (k : ℕ) (a b : Evaluated) where
-  pub operated-value : SFits w64 (a .value) → SFits w64 (b .value) → a .ok ≡ true → b .ok ≡ true
-      → appliedByKind cutTowardZero k (held (a .value)) (held (b .value)) ≡ operated cutTowardZero k a b
-  operated-value fa fb p q = held-both (appliedByKind cutTowardZero k) (a .value) (b .value) fa fb ∙ sym (simp (p, q))
+-- ---- leaves
 
-  pub operated-right : a .ok ≡ true → b .ok ≡ false → noValue ≡ operated cutTowardZero k a b
-  operated-right p q = sym (simp (p, q))
+module _ (kinds : List ℕ) (e : ℕ) where
+  pub leaf-empty : e ≡ 0 → true ≡ isLeaf kinds e
+  leaf-empty z = sym (simp (eq-eqb e 0 z))
 
-  pub operated-left : a .ok ≡ false → noValue ≡ operated cutTowardZero k a b
-  operated-left p = sym (simp p)
+  pub leaf-last : (e ≡ 0 → ⊥) → leb (getD kinds (e - 1) 0) 1 ≡ isLeaf kinds e
+  leaf-last h = sym (simp (ne-eqb e 0 h))
+
+  -- A part that is no leaf has a last node, whose kind is behind the leaves'.
+  pub not-leaf : isLeaf kinds e ≡ false → (e ≡ 0 → ⊥) × (2 ≤ getD kinds (e - 1) 0)
+  not-leaf f =
+      let some : e ≡ 0 → ⊥ = λ z. let y : _≡_ {A = ℕ} 0 1 = cc (leaf-empty z) in omega arith in
+      (some, leb-false (getD kinds (e - 1) 0) 1 (leaf-last some ∙ f))
+
+  module _ (values window : List ℤ) (streams p : ℕ) where
+    pub leaf-none : e ≡ 0 → noValue ≡ leafValue kinds values window streams e p
+    leaf-none z = sym (simp (eq-eqb e 0 z))
+
+    module _ (h : e ≡ 0 → ⊥) (f : SFits w64 (getD values (e - 1) (pos 0))) where
+      pub leaf-integer : getD kinds (e - 1) 0 ≡ 0 → bounded (held (getD values (e - 1) (pos 0))) ≡ leafValue kinds values window streams e p
+      leaf-integer q = ap bounded (toZ-ofZ w64 _ f) ∙ sym (simp (ne-eqb e 0 h, eq-eqb (getD kinds (e - 1) 0) 0 q))
+
+      pub leaf-name : (getD kinds (e - 1) 0 ≡ 0 → ⊥) → streamAt window streams p (held (getD values (e - 1) (pos 0))) ≡ leafValue kinds values window streams e p
+      leaf-name q = ap (streamAt window streams p) (toZ-ofZ w64 _ f) ∙ sym (simp (ne-eqb e 0 h, ne-eqb (getD kinds (e - 1) 0) 0 q))

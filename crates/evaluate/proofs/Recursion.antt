@@ -1,30 +1,41 @@
 -- What each arm of the recursion answers: the value of the part that ends at e, from its last node and the values of the parts before.
-use Prim.Native.Nat.{ℕ, suc, _+_, _-_, _≤_, _<_}
+use Prim.Native.Nat.{ℕ, suc, _+_, _-_, _/_, _≤_, _<_}
 use native.Mathlib.Omega.{arith}
+use native.Mathlib.Decide.{ℕ-discrete}
 use native.Mathlib.Numerals.{add-one}
 use mathlib.Core.Path.{_≡_, sym, _∙_, ap, ap₂}
-use mathlib.Core.Bool.{true, false}
+use mathlib.Core.Bool.{Bool, true, false}
 use lib.IntN.{ℤ, pos}
 use lib.ListN.{length, getD}
-use borrow.Author.Tests.{lt-ltb, le-ltb}
+use borrow.Author.Tests.{leb-true, lt-ltb, le-ltb, eq-eqb, ne-eqb}
 use mir.Syntax.{w64}
-use mir.Val.{SFits}
+use mir.Val.{SFits, toZ, ofZ}
 use mir.ValLaws.{toZ-ofZ}
 use Rattle.meaning.specs.Value.{truth}
 use Rattle.meaning.specs.Arithmetic.{cutTowardZero}
-use Rattle.nodes.specs.Bounded.{noValue, bounded}
-use Rattle.nodes.specs.Evaluate.{Nodes, View, places, Kind, operatorNode, kindOf, leftEnd, numbered, streamAt, negated, chosen, operated, followed, valueByKind, valueBefore, nodeValue}
+use Rattle.nodes.specs.Bounded.{noValue, bounded, appliedByKind}
+use Rattle.nodes.specs.Evaluate.{Nodes, View, places, Kind, operatorNode, kindOf, leftEnd, numbered, negated, chosen, operated, followed, valueByKind, valueBefore, nodeValue}
 use Rattle.nodes.specs.declared.Evaluated.{Evaluated}
 use Rattle.nodes.proofs.Parts.{stores-part, kindOf-operator}
 use Rattle.nodes.proofs.Evaluate.{valueBefore-node, valueBefore-none}
+use Rattle.arithmetic.specs.Coded.{coded}
 use Rattle.arithmetic.proofs.Machine.{held}
+use Rattle.arithmetic.proofs.Coded.{held-result}
+use Rattle.evaluate.specs.Leaf.{isLeaf, leafValue}
 use Rattle.evaluate.specs.Ready.{Ready}
+use Rattle.evaluate.proofs.Leaves.{leaf-last}
+use Rattle.evaluate.proofs.Decoding.{applied-coded}
 
 -- ---- what a call of a part needs
 
 -- A part that ends before e is stored where the part that ends at e is.
 pub ready-part : {N : Nodes} {W : View} {count e p : ℕ} (d q : ℕ) → Ready N W count e p → d ≤ e → q < count → Ready N W count d q
 ready-part d q r h k = record { stores = stores-part d (r .stores) h; count-places = r .count-places; place-within = k }
+
+-- So is a leaf's node, and the place is in the window.
+pub ready-leaf : {N : Nodes} {W : View} {count e p : ℕ} (d : ℕ) → Ready N W count e p → d ≤ e
+    → (d ≤ length (N .kinds)) × (d ≤ length (N .values)) × (p < length (W .window) / W .streams)
+ready-leaf d r h = (omega arith, omega arith, omega arith)
 
 module _ (N : Nodes) (W : View) (p : ℕ) where
   abbrev before : ℕ → ℕ → Evaluated
@@ -44,19 +55,10 @@ module _ (N : Nodes) (W : View) (p : ℕ) where
       by-number : {x : Evaluated} → x ≡ valueByKind cutTowardZero N W (kindOf k) before (e - 1) p → x ≡ before e p
       by-number r = by-kind (kindOf k) (ap kindOf q) r
 
-    module _ (f : SFits w64 (getD (N .values) (e - 1) (pos 0))) where
-      -- A function of the last node's stored value does not see that the value was held.
-      stored-held : (g : ℤ → Evaluated) → g (held (getD (N .values) (e - 1) (pos 0))) ≡ g (getD (N .values) (e - 1) (pos 0))
-      stored-held g = ap g (toZ-ofZ w64 _ f)
-
-      pub integer-arm : getD (N .kinds) (e - 1) 0 ≡ 0 → bounded (held (getD (N .values) (e - 1) (pos 0))) ≡ before e p
-      integer-arm q = by-number 0 q (stored-held bounded)
-
-      pub name-arm : getD (N .kinds) (e - 1) 0 ≡ 1 → streamAt (W .window) (W .streams) p (held (getD (N .values) (e - 1) (pos 0))) ≡ before e p
-      name-arm q = by-number 1 q (stored-held (streamAt (W .window) (W .streams) p))
-
-      pub stored-arm : getD (N .kinds) (e - 1) 0 ≡ 2 → W .whole ≡ false → numbered (W .firsts) (held (getD (N .values) (e - 1) (pos 0))) ≡ before e p
-      stored-arm q w = by-number 2 q (stored-held (numbered (W .firsts)) ∙ sym (simp w))
+    -- The stored value was held on the way.
+    pub stored-arm : SFits w64 (getD (N .values) (e - 1) (pos 0)) → getD (N .kinds) (e - 1) 0 ≡ 2 → W .whole ≡ false
+        → numbered (W .firsts) (held (getD (N .values) (e - 1) (pos 0))) ≡ before e p
+    stored-arm f q w = by-number 2 q (ap (numbered (W .firsts)) (toZ-ofZ w64 _ f) ∙ sym (simp w))
 
     pub first-arm : getD (N .kinds) (e - 1) 0 ≡ 2 → W .whole ≡ true → before (e - 1) 0 ≡ before e p
     first-arm q w = by-number 2 q (sym (simp w))
@@ -98,11 +100,33 @@ module _ (N : Nodes) (W : View) (p : ℕ) where
           let s : p ≡ suc (p - 1) = omega arith in
           by-number 6 q (sym (ap (followed cutTowardZero N W before (leftEnd (N .starts) (e - 1)) (e - 1)) s))
 
-    pub operator-arm : 7 ≤ getD (N .kinds) (e - 1) 0 → {l : ℕ} → l ≡ leftEnd (N .starts) (e - 1) → {a b : Evaluated} → a ≡ before l p → b ≡ before (e - 1) p
-        → operated cutTowardZero (getD (N .kinds) (e - 1) 0) a b ≡ before e p
-    operator-arm k el r s =
-        by-kind operatorNode (kindOf-operator (getD (N .kinds) (e - 1) 0) k)
-        (ap₂ (operated cutTowardZero (getD (N .kinds) (e - 1) 0)) (r ∙ ap (λ d. before d p) el) s)
+    pub operator-arm : 7 ≤ getD (N .kinds) (e - 1) 0 → {l : ℕ} → l ≡ leftEnd (N .starts) (e - 1) → {a b : ℤ} → a ≡ coded (before l p) → b ≡ coded (before (e - 1) p)
+        → appliedByKind cutTowardZero (getD (N .kinds) (e - 1) 0) a b ≡ before e p
+    operator-arm k {l} el r s =
+        ap₂ (appliedByKind cutTowardZero (getD (N .kinds) (e - 1) 0)) r s
+        ∙ applied-coded (getD (N .kinds) (e - 1) 0) (before l p) (before (e - 1) p)
+        ∙ by-kind operatorNode (kindOf-operator (getD (N .kinds) (e - 1) 0) k)
+        (ap (λ d. operated cutTowardZero (getD (N .kinds) (e - 1) 0) (before d p) (before (e - 1) p)) el)
+
+  -- The value of a leaf.
+  pub leaf-before : (e : ℕ) → isLeaf (N .kinds) e ≡ true → leafValue (N .kinds) (N .values) (W .window) (W .streams) e p ≡ before e p
+  leaf-before e t = by (ℕ-discrete e 0) (ℕ-discrete (getD (N .kinds) (e - 1) 0) 0)
+    where
+      by : Dec (e ≡ 0) → Dec (getD (N .kinds) (e - 1) 0 ≡ 0) → leafValue (N .kinds) (N .values) (W .window) (W .streams) e p ≡ before e p
+      by (yes z) d = simp (eq-eqb e 0 z) (none-before z)
+      by (no h) (yes q) = by-number e h 0 q (simp (ne-eqb e 0 h, eq-eqb (getD (N .kinds) (e - 1) 0) 0 q))
+      by (no h) (no q) =
+          let l = leb-true (getD (N .kinds) (e - 1) 0) 1 (leaf-last (N .kinds) e h ∙ t) in
+          let k : getD (N .kinds) (e - 1) 0 ≡ 1 = omega arith in
+          by-number e h 1 k (simp (ne-eqb e 0 h, ne-eqb (getD (N .kinds) (e - 1) 0) 0 q))
+
+  -- The number r of an operand, as each branch of the test for a leaf leaves it.
+  module _ (e : ℕ) {r : ℕ} {z : ℤ} (f : SFits w64 z) (g : r ≡ ofZ w64 z) where
+    pub part-operand : z ≡ coded (before e p) → toZ w64 r ≡ coded (before e p)
+    part-operand q = ap (toZ w64) g ∙ held-result f q
+
+    pub leaf-operand : {b : Bool} → b ≡ isLeaf (N .kinds) e → b ≡ true → z ≡ coded (leafValue (N .kinds) (N .values) (W .window) (W .streams) e p) → toZ w64 r ≡ coded (before e p)
+    leaf-operand s t q = part-operand (q ∙ ap coded (leaf-before e (sym s ∙ t)))
 
 -- ---- the value of a node
 

@@ -1,29 +1,37 @@
-use arithmetic::apply;
+use arithmetic::absent;
+use arithmetic::apply_coded;
 use arithmetic::bit;
 use arithmetic::bounded;
+use arithmetic::bounded_coded;
+use arithmetic::in_bound;
 use arithmetic::no_value;
 use arithmetic::truth;
 use nodes::Evaluated;
 use nodes::left_end;
 ghost use mathlib.Core.Path.{_≡_};
-ghost use Prim.Native.Nat.{_/_, _<_};
+ghost use Prim.Native.Nat.{_/_, _≤_, _<_};
 ghost use lib.ListN.{length};
 ghost use Rattle.meaning.specs.Arithmetic.{cutTowardZero};
-ghost use Rattle.nodes.specs.Evaluate.{stored, view, places, numbered, streamAt, negated, operated, valueBefore, nodeValue};
+ghost use Rattle.nodes.specs.Bounded.{bounded};
+ghost use Rattle.nodes.specs.Evaluate.{stored, view, places, numbered, streamAt, negated, valueBefore, nodeValue};
+ghost use Rattle.arithmetic.specs.Coded.{coded};
+ghost use Rattle.evaluate.specs.Leaf.{isLeaf, leafValue};
 ghost use Rattle.evaluate.specs.Ready.{Ready};
 
+// The private functions answer a value or no value as one number, which comes back in a register.
+
 // The stored value with a number.
-fn numbered(list: &[i64], number: i64) -> Evaluated
-    ensures { λ r. ⌜ r ≡ numbered (now (list .entry)) number ⌝ }
+fn numbered(list: &[i64], number: i64) -> i64
+    ensures { λ r. ⌜ r ≡ coded (numbered (now (list .entry)) number) ⌝ }
 {
     if number < 0 {
-        return no_value();
+        return absent();
     }
     let k = number as usize;
     if k < list.len() {
-        return bounded(list[k]);
+        return bounded_coded(list[k]);
     }
-    no_value()
+    absent()
 }
 
 // How many whole letters the window has.
@@ -37,45 +45,63 @@ fn places(length: usize, streams: usize) -> usize
 }
 
 // The value of the stream with a number at a place of the window.
-fn stream_at(window: &[i64], streams: usize, place: usize, number: i64) -> Evaluated
+fn stream_at(window: &[i64], streams: usize, place: usize, number: i64) -> i64
     requires { ⌜ place < length (now window) / streams ⌝ }
-    ensures { λ r. ⌜ r ≡ streamAt (now (window .entry)) streams place number ⌝ }
+    ensures { λ r. ⌜ r ≡ coded (streamAt (now (window .entry)) streams place number) ⌝ }
 {
     if number < 0 {
-        return no_value();
+        return absent();
     }
     let k = number as usize;
     if k < streams {
         let at = place * streams + k;
-        return bounded(window[at]);
+        return bounded_coded(window[at]);
     }
-    no_value()
+    absent()
 }
 
-fn negated(a: Evaluated) -> Evaluated
-    ensures { λ r. ⌜ r ≡ negated a ⌝ }
+// The negation of a value that is given as one number.
+fn negated(a: i64) -> i64
+    ensures { λ r. ⌜ r ≡ coded (negated (bounded a)) ⌝ }
 {
-    if a.ok {
-        Evaluated {
-            ok: true,
-            value: bit(!truth(a.value)),
-        }
+    if in_bound(a) {
+        bit(!truth(a))
     } else {
-        no_value()
+        absent()
     }
 }
 
-fn operated(kind: u8, a: Evaluated, b: Evaluated) -> Evaluated
-    ensures { λ r. ⌜ r ≡ operated cutTowardZero kind a b ⌝ }
+// Whether the part that ends before `end` has no parts of its own.
+fn is_leaf(kinds: &[u8], end: usize) -> bool
+    requires { ⌜ end ≤ length (now kinds) ⌝ }
+    ensures { λ r. ⌜ r ≡ isLeaf (now (kinds .entry)) end ⌝ }
 {
-    if a.ok {
-        if b.ok {
-            apply(kind, a.value, b.value)
-        } else {
-            no_value()
-        }
+    if end == 0 {
+        return true;
+    }
+    kinds[end - 1] <= 1
+}
+
+// The value of the leaf that ends before `end`.
+fn leaf(
+    kinds: &[u8],
+    values: &[i64],
+    window: &[i64],
+    streams: usize,
+    end: usize,
+    place: usize,
+) -> i64
+    requires { ⌜ (end ≤ length (now kinds)) × (end ≤ length (now values)) × (place < length (now window) / streams) ⌝ }
+    ensures { λ r. ⌜ r ≡ coded (leafValue (now (kinds .entry)) (now (values .entry)) (now (window .entry)) streams end place) ⌝ }
+{
+    if end == 0 {
+        return absent();
+    }
+    let i = end - 1;
+    if kinds[i] == 0 {
+        bounded_coded(values[i])
     } else {
-        no_value()
+        stream_at(window, streams, place, values[i])
     }
 }
 
@@ -91,18 +117,16 @@ fn value_before(
     count: usize,
     end: usize,
     place: usize,
-) -> Evaluated
+) -> i64
     requires { ⌜ Ready (stored (now kinds) (now values) (now starts)) (view (now window) streams (now firsts) whole) count end place ⌝ }
-    ensures { λ r. ⌜ r ≡ valueBefore cutTowardZero (stored (now (kinds .entry)) (now (values .entry)) (now (starts .entry))) (view (now (window .entry)) streams (now (firsts .entry)) whole) end place ⌝ }
+    ensures { λ r. ⌜ r ≡ coded (valueBefore cutTowardZero (stored (now (kinds .entry)) (now (values .entry)) (now (starts .entry))) (view (now (window .entry)) streams (now (firsts .entry)) whole) end place) ⌝ }
 {
-    if end == 0 {
-        return no_value();
+    if is_leaf(kinds, end) {
+        return leaf(kinds, values, window, streams, end, place);
     }
     let i = end - 1;
     let kind = kinds[i];
     match kind {
-        0 => bounded(values[i]),
-        1 => stream_at(window, streams, place, values[i]),
         2 => {
             if whole {
                 value_before(
@@ -136,7 +160,7 @@ fn value_before(
                     place + 1,
                 )
             } else {
-                no_value()
+                absent()
             }
         }
         4 => negated(value_before(
@@ -166,8 +190,8 @@ fn value_before(
                 left,
                 place,
             );
-            if test.ok {
-                if truth(test.value) {
+            if in_bound(test) {
+                if truth(test) {
                     value_before(
                         kinds,
                         values,
@@ -195,7 +219,7 @@ fn value_before(
                     )
                 }
             } else {
-                no_value()
+                absent()
             }
         }
         6 => {
@@ -215,7 +239,7 @@ fn value_before(
                         0,
                     )
                 } else {
-                    bounded(0)
+                    0
                 }
             } else {
                 value_before(
@@ -234,31 +258,40 @@ fn value_before(
         }
         _ => {
             let left = left_end(starts, i);
-            let a = value_before(
-                kinds,
-                values,
-                starts,
-                window,
-                streams,
-                firsts,
-                whole,
-                count,
-                left,
-                place,
-            );
-            let b = value_before(
-                kinds,
-                values,
-                starts,
-                window,
-                streams,
-                firsts,
-                whole,
-                count,
-                i,
-                place,
-            );
-            operated(kind, a, b)
+            // An operand that is a leaf is read here, since a call takes longer than reading it.
+            let a = if is_leaf(kinds, left) {
+                leaf(kinds, values, window, streams, left, place)
+            } else {
+                value_before(
+                    kinds,
+                    values,
+                    starts,
+                    window,
+                    streams,
+                    firsts,
+                    whole,
+                    count,
+                    left,
+                    place,
+                )
+            };
+            let b = if is_leaf(kinds, i) {
+                leaf(kinds, values, window, streams, i, place)
+            } else {
+                value_before(
+                    kinds,
+                    values,
+                    starts,
+                    window,
+                    streams,
+                    firsts,
+                    whole,
+                    count,
+                    i,
+                    place,
+                )
+            };
+            apply_coded(kind, a, b)
         }
     }
 }
@@ -290,7 +323,7 @@ pub fn evaluate(
     if count <= place {
         return no_value();
     }
-    value_before(
+    bounded(value_before(
         kinds,
         values,
         starts,
@@ -301,5 +334,5 @@ pub fn evaluate(
         count,
         root + 1,
         place,
-    )
+    ))
 }

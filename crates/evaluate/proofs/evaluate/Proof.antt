@@ -1,7 +1,9 @@
--- `evaluate::evaluate` meets its contract: the tests are those of the definition, and the rest is the recursion.
+-- `evaluate::evaluate` meets its contract: the tests are those of the definition, and the rest is the recursion, whose number is read back (Decoding).
+use Prim.Native.Nat.{_+_}
 use mathlib.Core.Path.{_∙_}
 use borrow.Author.Needs.{needs}
 use Rattle.nodes.specs.Evaluate.{Nodes, View, stored, view}
+use Rattle.evaluate.proofs.Decoding.{held-before}
 use Rattle.evaluate.proofs.Recursion.{no-kind, no-stored, no-start, no-place, root-value}
 use Rattle.evaluate.proofs.evaluate.Statement.{statement}
 use Rattle.evaluate.proofs.evaluate.Tie as tie
@@ -53,10 +55,15 @@ add-value-before c = search needs
 value-before-requires : tie.Need-value-before-requires
 value-before-requires c κs = search needs
 
+bounded-requires : tie.Need-bounded-requires
+bounded-requires c κs = search needs
+
 returns-5 : tie.Need-returns-5
 returns-5 c =
-    let s = c .before .before .before .before .before .before .before .before in
-    c .value-before .ensures ∙ root-value (nodes s) (seen s) (s .args .root) (s .args .place) (c .before .before .before .before .if1 .left) (c .before .before .before .if2 .left) (c .before .before .if3 .left) (c .before .before .before .before .before .places .ensures) (c .before .if4 .left)
+    let s = c .before .before .before .before .before .before .before .before .before in
+    c .bounded .ensures
+    ∙ held-before (nodes s) (seen s) (s .args .root + 1) (s .args .place) (record { sfits = c .before .value-before .ok }) (c .before .value-before .ensures)
+    ∙ root-value (nodes s) (seen s) (s .args .root) (s .args .place) (c .before .before .before .before .before .if1 .left) (c .before .before .before .before .if2 .left) (c .before .before .before .if3 .left) (c .before .before .before .before .before .before .places .ensures) (c .before .before .if4 .left)
 
 pub evaluate-spec : {M : Type 1} → statement M
 evaluate-spec =
@@ -73,4 +80,5 @@ evaluate-spec =
     returns-4
     add-value-before
     value-before-requires
+    bounded-requires
     returns-5)

@@ -1,10 +1,14 @@
 -- `evaluate::negated` meets its contract, by its test.
 use mathlib.Core.Path.{_∙_}
-use native.Mathlib.Omega.{arith}
 use borrow.Author.Needs.{needs}
-use Rattle.evaluate.proofs.Leaves.{negated-value, negated-none}
+use Rattle.arithmetic.proofs.Operators.{held-test}
+use Rattle.arithmetic.proofs.Coded.{held-result}
+use Rattle.evaluate.proofs.Leaves.{negated-there, negated-absent}
 use Rattle.evaluate.proofs.negated.Statement.{statement}
 use Rattle.evaluate.proofs.negated.Tie as tie
+
+in-bound-requires : tie.Need-in-bound-requires
+in-bound-requires c κs = search needs
 
 truth-requires : tie.Need-truth-requires
 truth-requires c κs = search needs
@@ -12,14 +16,20 @@ truth-requires c κs = search needs
 bit-requires : tie.Need-bit-requires
 bit-requires c κs = search needs
 
-no-value-requires : tie.Need-no-value-requires
-no-value-requires c κs = search needs
+absent-requires : tie.Need-absent-requires
+absent-requires c κs = search needs
 
 returns : tie.Need-returns
-returns c = negated-value (c .before .before .before .before .args .a) (record { sfits = omega (arith, c .before .before .struct-told .given) }) (c .before .before .before .if1 .taken) _ (c .before .truth .ensures) (c .bit .result) (record { sfits = c .bit .ok }) (c .bit .ensures)
+returns c =
+    let s = c .before .before .before .before in
+    held-result (record { sfits = c .bit .ok })
+    (c .bit .ensures ∙ negated-there (s .args .a) (s .fits .a) (held-test (s .args .a) (s .fits .a) (c .before .before .before .in-bound .ensures) (c .before .before .if1 .taken)) (c .before .truth .ensures))
 
 returns-2 : tie.Need-returns-2
-returns-2 c = c .no-value .ensures ∙ negated-none (c .before .before .args .a) (c .before .if1 .left)
+returns-2 c =
+    let s = c .before .before .before in
+    held-result (record { sfits = c .absent .ok })
+    (c .absent .ensures ∙ negated-absent (s .args .a) (s .fits .a) (held-test (s .args .a) (s .fits .a) (c .before .before .in-bound .ensures) (c .before .if1 .left)))
 
 pub negated-spec : {M : Type 1} → statement M
-negated-spec = tie.close (tie.spec truth-requires bit-requires no-value-requires returns returns-2)
+negated-spec = tie.close (tie.spec in-bound-requires truth-requires bit-requires absent-requires returns returns-2)
