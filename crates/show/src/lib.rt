@@ -1,8 +1,10 @@
 // Prints what `sluice` prints for a sheet: its table, or the line of its refusal. What is written are the lines of the crate `print`, in
-// order; no contract can say what reaches standard output.
+// order; no contract can say what reaches standard output, but `show` gives back the refusal's number, which its contract fixes.
 ghost use mathlib.Core.Path.{_≡_};
 ghost use Prim.Native.Nat.{_*_, _≤_, min};
 ghost use lib.ListN.{length};
+ghost use Rattle.compile.specs.Lent.{roomOf};
+ghost use Rattle.show.specs.Answer.{lentRoom, CompiledWith, Shown};
 use libc::STDOUT_FILENO;
 
 fn fewer(a: usize, b: usize) -> usize
@@ -87,7 +89,7 @@ fn show_table(sheet: reader::Sheet, states: u32, entries: &[u16], finals: &[u8])
     );
 }
 
-// Compiles a sheet in lent tables, and prints its table or its refusal.
+// Compiles a sheet in lent tables, and prints its table or its refusal; gives the refusal's number, or 0.
 fn show_compiled(
     text: &[u8],
     sheet: reader::Sheet,
@@ -100,7 +102,9 @@ fn show_compiled(
     heads: &mut [u32],
     links: &mut [u32],
     shared: &mut [u32],
-) {
+) -> u32
+    ensures { λ r. ⌜ CompiledWith (now (text .entry)) (roomOf (now (entries .entry)) (now (finals .entry)) (now (keys .entry)) (now (live .entry)) (now (class .entry)) (now (next .entry)) (now (heads .entry)) (now (links .entry)) (now (shared .entry))) r ⌝ }
+{
     let compiled = compile::compile(
         text,
         entries,
@@ -116,9 +120,10 @@ fn show_compiled(
     let refusal = compiled.refusal;
     if refusal != 0 {
         show_refusal(refusal);
-        return;
+        return refusal;
     }
     show_table(sheet, compiled.states, entries, finals);
+    refusal
 }
 
 // "256 rows, or 32,768 divided by the letters, cut to a whole number, if that is fewer", of tables that have as much room.
@@ -134,7 +139,7 @@ fn show_in_rows(
     heads: &mut [u32],
     links: &mut [u32],
     shared: &mut [u32],
-)
+) -> u32
     requires { ⌜ 32768 ≤ length (now entries) ⌝ }
     requires { ⌜ 256 ≤ length (now finals) ⌝ }
     requires { ⌜ 4096 ≤ length (now keys) ⌝ }
@@ -144,6 +149,7 @@ fn show_in_rows(
     requires { ⌜ 256 ≤ length (now heads) ⌝ }
     requires { ⌜ 256 ≤ length (now links) ⌝ }
     requires { ⌜ 256 ≤ length (now shared) ⌝ }
+    ensures { λ r. ⌜ CompiledWith (now (text .entry)) (lentRoom (sheet .letters)) r ⌝ }
 {
     let letters = sheet.letters as usize;
     let rows = print::rows_lent(letters);
@@ -189,7 +195,9 @@ fn work_room() -> [u32; 256]
     [0; 256]
 }
 
-fn show_sheet(text: &[u8], sheet: reader::Sheet) {
+fn show_sheet(text: &[u8], sheet: reader::Sheet) -> u32
+    ensures { λ r. ⌜ CompiledWith (now (text .entry)) (lentRoom (sheet .letters)) r ⌝ }
+{
     let mut entries = entry_room();
     let mut finals = final_room();
     let mut keys = key_room();
@@ -214,14 +222,17 @@ fn show_sheet(text: &[u8], sheet: reader::Sheet) {
     )
 }
 
-// "a program `sluice` that reads a sheet from standard input and prints its table", for the bytes that were read
-pub fn show(text: &[u8]) {
+// "a program `sluice` that reads a sheet from standard input and prints its table", for the bytes that were read. Gives
+// the number of the refusal that it printed, or 0 where it printed a table.
+pub fn show(text: &[u8]) -> u32
+    ensures { λ r. ⌜ Shown (now (text .entry)) r ⌝ }
+{
     let reading = reader::read(text);
     let refusal = reading.refusal;
     if refusal != 0 {
         show_refusal(refusal);
-        return;
+        return refusal;
     }
     let sheet = reading.sheet;
-    show_sheet(text, sheet);
+    show_sheet(text, sheet)
 }

@@ -1,4 +1,4 @@
--- `show::show_in_rows` is safe and ends: the rows lent fit the tables.
+-- `show::show_in_rows` meets its contract: the rows lent fit the tables, and cut to them the tables are the room that `sluice` lends.
 use Prim.Native.Nat.{_*_, _≤_}
 use native.Mathlib.Omega.{arith}
 use native.Mathlib.Nat.{le-trans}
@@ -6,6 +6,7 @@ use mathlib.Core.Path.{sym, subst}
 use lib.Seq.{length-take-le}
 use borrow.Author.Needs.{needs}
 use Rattle.print.proofs.Rows.{lent-entries}
+use Rattle.show.proofs.Room.{lent-compiled}
 use Rattle.show.proofs.show_in_rows.Statement.{statement}
 use Rattle.show.proofs.show_in_rows.Tie as tie
 
@@ -112,7 +113,7 @@ same-length-9 : tie.Need-same-length-9
 same-length-9 c = search needs
 
 returns : tie.Need-returns
-returns c = search needs
+returns c = lent-compiled (c .before .before .before .before .before .before .before .before .before .before .before .before .before .before .before .before .before .before .before .before .before .before .before .before .before .before .before .before .before .before .before .before .before .before .before .before .before .before .before .before .args .sheet .letters) (c .before .before .before .before .before .before .before .before .before .before .before .before .before .before .before .before .before .before .before .before .before .before .before .before .before .before .before .before .rows-lent .ensures) (slice-aggregate-show-compiled (c .before .before .before .before .before .before .before .before .before .before .before .before .before .before .before .before .before .before .before .before .before .before .before .before .before .before .before)) (slice-aggregate-show-compiled-2 (c .before .before .before .before .before .before .before .before .before .before .before .before .before .before .before .before .before .before .before .before .before .before .before .before .before .before)) (slice-aggregate-show-compiled-3 (c .before .before .before .before .before .before .before .before .before .before .before .before .before .before .before .before .before .before .before .before .before .before .before .before .before)) (slice-aggregate-show-compiled-4 (c .before .before .before .before .before .before .before .before .before .before .before .before .before .before .before .before .before .before .before .before .before .before .before .before)) (slice-aggregate-show-compiled-5 (c .before .before .before .before .before .before .before .before .before .before .before .before .before .before .before .before .before .before .before .before .before .before .before)) (slice-aggregate-show-compiled-6 (c .before .before .before .before .before .before .before .before .before .before .before .before .before .before .before .before .before .before .before .before .before .before)) (slice-aggregate-show-compiled-7 (c .before .before .before .before .before .before .before .before .before .before .before .before .before .before .before .before .before .before .before .before .before)) (slice-aggregate-show-compiled-8 (c .before .before .before .before .before .before .before .before .before .before .before .before .before .before .before .before .before .before .before .before)) (slice-aggregate-show-compiled-9 (c .before .before .before .before .before .before .before .before .before .before .before .before .before .before .before .before .before .before .before)) (c .before .before .before .before .before .before .before .before .before .before .before .before .before .before .before .before .before .before .show-compiled .ensures)
 
 pub show-in-rows-spec : {M : Type 1} → statement M
 show-in-rows-spec =

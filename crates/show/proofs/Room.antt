@@ -1,0 +1,36 @@
+-- Tables with as many numbers as the rows lent take are the room that `sluice` lends.
+use Prim.Native.Nat.{ℕ, _*_}
+use mathlib.Core.Path.{_≡_, _∙_, sym, ap, subst}
+use mathlib.Core.List.{List, [], _∷_}
+use Rattle.outcome.specs.Room.{Lent}
+use Rattle.outcome.specs.Compile.{Room}
+use Rattle.print.specs.Table.{rowsLent}
+use Rattle.show.specs.Answer.{lentRoom, CompiledWith}
+
+-- A table with this many numbers, and one number a row.
+abbrev single : ℕ → Lent
+single size = record { perRow = 1; size = size }
+
+-- The room of tables with these many numbers.
+abbrev sized : (entries finals keys live class next heads links shared : ℕ) → Room
+sized entries finals keys live class next heads links shared =
+    record {
+      entries = entries;
+      finals = finals;
+      work = record { perRow = 16; size = keys } ∷ (single live ∷ (single class ∷ (single next ∷ (single heads ∷ (single links ∷ (single shared ∷ []))))));
+    }
+
+module _ {rows entries finals keys live class next heads links shared : ℕ} (letters : ℕ) (same : rows ≡ rowsLent letters) (he : rows * letters ≡ entries) (hf : rows ≡ finals) (hk : rows * 16 ≡ keys)
+    (hl : rows ≡ live) (hc : rows ≡ class) (hn : rows ≡ next) (hh : rows ≡ heads) (hi : rows ≡ links) (hs : rows ≡ shared) where
+  row-count : {n : ℕ} → rows ≡ n → n ≡ rowsLent letters
+  row-count h = sym h ∙ same
+
+  row-product : (k : ℕ) {n : ℕ} → rows * k ≡ n → n ≡ rowsLent letters * k
+  row-product k h = sym h ∙ ap (λ r. r * k) same
+
+  sized-lent : sized entries finals keys live class next heads links shared ≡ lentRoom letters
+  sized-lent = λ i. sized (row-product letters he i) (row-count hf i) (row-product 16 hk i) (row-count hl i) (row-count hc i) (row-count hn i) (row-count hh i) (row-count hi i) (row-count hs i)
+
+  -- A compile in such tables is one in the rows lent.
+  pub lent-compiled : {text : List ℕ} {n : ℕ} → CompiledWith text (sized entries finals keys live class next heads links shared) n → CompiledWith text (lentRoom letters) n
+  lent-compiled {text} {n} c = subst (λ room. CompiledWith text room n) sized-lent c
