@@ -1,10 +1,12 @@
-"""Compares the plain C compile with the stored vectors.
+"""Compares the plain C compile, or the proved one, with the stored vectors.
 
     python3 bench/compile/check.py
+    python3 bench/compile/check.py archive
 
-Builds the C program as a shared library (CC names the compiler) and calls it on each
-sheet of vectors/sheets.jsonl with the rows of vectors/compile.jsonl. The refusal, both
-counts, the table, and the zeros beyond it and in the work tables must agree.
+Builds the C program, or with `archive` the proved compile's archive (rt staticlib), as a
+shared library (CC names the compiler) and calls it on each sheet of vectors/sheets.jsonl
+with the rows of vectors/compile.jsonl. The refusal, both counts, the table, and the zeros
+beyond it and in the work tables must agree.
 """
 
 import ctypes
@@ -28,12 +30,18 @@ class Compiled(ctypes.Structure):
     _fields_ = [("refusal", ctypes.c_uint32), ("states", ctypes.c_uint32), ("situations", ctypes.c_uint32)]
 
 
-def built():
-    library = ROOT / "target" / "bench" / "libplain.so"
+def built(archive):
+    library = ROOT / "target" / "bench" / ("libarchive.so" if archive else "libplain.so")
     library.parent.mkdir(parents=True, exist_ok=True)
-    subprocess.run([os.environ.get("CC", "cc"), "-std=c11", "-O2", "-Wall", "-Wextra", "-Werror", "-shared", "-fPIC",
-                    "-o", str(library)] + [str(ROOT / source) for source in SOURCES], check=True)
-    function = ctypes.CDLL(str(library)).plain_compile
+    command = [os.environ.get("CC", "cc"), "-shared", "-o", str(library)]
+    if archive:
+        subprocess.run(["rt", "staticlib", "compile_c"], cwd=ROOT, check=True, stdout=subprocess.DEVNULL)
+        parts = ["-Wl,--whole-archive", "target/staticlib/libcompile_c.a", "-Wl,--no-whole-archive"]
+    else:
+        parts = ["-std=c11", "-O2", "-Wall", "-Wextra", "-Werror", "-fPIC"] + SOURCES
+    subprocess.run(command + parts, cwd=ROOT, check=True)
+    loaded = ctypes.CDLL(str(library))
+    function = loaded.compile_c if archive else loaded.plain_compile
     function.restype = Compiled
     return function
 
@@ -85,8 +93,8 @@ def lines(name):
     return [json.loads(line) for line in open(ROOT / "vectors" / name)]
 
 
-def main():
-    function = built()
+def main(archive):
+    function = built(archive)
     sheets = {sheet["name"]: sheet for sheet in lines("sheets.jsonl")}
     compiles = [wanted for wanted in lines("compile.jsonl") if wanted["rows"] <= MOST_ROWS]
     compared, faults = Counter(), 0
@@ -96,10 +104,10 @@ def main():
         if fault:
             faults += 1
             print("%s with %d rows: %s" % (wanted["name"], wanted["rows"], fault))
-    print("plain C: %d compiles compared (%s), %d differ" % (
-        len(compiles), ", ".join("refusal %d: %d" % item for item in sorted(compared.items())), faults))
+    print("%s: %d compiles compared (%s), %d differ" % (
+        "archive" if archive else "plain C", len(compiles), ", ".join("refusal %d: %d" % item for item in sorted(compared.items())), faults))
     return 1 if faults else 0
 
 
 if __name__ == "__main__":
-    sys.exit(main())
+    sys.exit(main(sys.argv[1:] == ["archive"]))
