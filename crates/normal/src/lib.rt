@@ -17,7 +17,8 @@ ghost use Rattle.normal.specs.Rows.{untilRow, equationRow, nextEntries, 
 ghost use Rattle.normal.specs.Stored.{rewritingBefore, storedLine, storedLines, rangeBefore};
 ghost use Rattle.normal.specs.Table.{rowBound, streamLimit, putRows, HasRoom, Wrote, WroteLine, WroteLines, LinesHaveRoom, HasLines, endsUpTo, refusedMade, madeOf, blank, entryAt, listed};
 
-// One entry of the normal form (specs/Encoded says what its fields are).
+// One entry of the normal form (specs/Encoded says what its fields are). Laid out as in C, so that an exported function can be lent a list of them.
+#[repr(C)]
 pub struct Entry {
     pub kind: u8,
     pub relation: u8,
@@ -29,7 +30,8 @@ pub struct Entry {
     pub high: i64,
 }
 
-// The refusal's number or 0, the number of entries and of added streams.
+// The refusal's number or 0, the number of entries and of added streams. Laid out as in C, so that an exported function can give it back.
+#[repr(C)]
 pub struct NormalForm {
     pub refusal: u32,
     pub entries: u32,

@@ -1,0 +1,118 @@
+"""Compares the proved `normal_form` with the stored vectors.
+
+    python3 tests/normal/compare.py
+
+Builds the archive of the crate `normal_c` (rt staticlib), links it as a shared library
+(CC names the compiler) and calls it for each line of vectors/normal.jsonl, with the
+line's sheet of vectors/sheets.jsonl and a list of the line's length. The answer, every
+record and what it says, the ranges of the added streams and the zeros behind the records
+must agree, and what stands behind the list must stay as it was.
+"""
+
+import ctypes
+import json
+import os
+import pathlib
+import struct
+import subprocess
+import sys
+from collections import Counter
+
+ROOT = pathlib.Path(__file__).resolve().parents[2]
+sys.path.insert(0, str(ROOT / "enumerator"))
+from normal_rows import Rows  # noqa: E402
+from reading import read  # noqa: E402
+
+ARCHIVE = ROOT / "target" / "staticlib" / "libnormal_c.a"
+LIBRARY = ROOT / "target" / "tests" / "libnormal_c.so"
+ZEROS = (0,) * 8
+# Records behind the list, which the call must not touch.
+BEHIND = 4
+
+
+class Entry(ctypes.Structure):
+    _fields_ = [("kind", ctypes.c_uint8), ("relation", ctypes.c_uint8),
+                ("left", ctypes.c_uint16), ("left_added", ctypes.c_uint16),
+                ("right", ctypes.c_uint16), ("right_added", ctypes.c_uint16),
+                ("low", ctypes.c_int64), ("high", ctypes.c_int64)]
+
+
+# An entry in memory: six bytes between `right_added` and `low` belong to no field.
+ENTRY = struct.Struct("<BB4H6x2q")
+assert ENTRY.size == ctypes.sizeof(Entry)
+
+
+class NormalForm(ctypes.Structure):
+    _fields_ = [("refusal", ctypes.c_uint32), ("entries", ctypes.c_uint32), ("added", ctypes.c_uint32)]
+
+
+def built():
+    LIBRARY.parent.mkdir(parents=True, exist_ok=True)
+    subprocess.run(["rt", "staticlib", "normal_c"], cwd=ROOT, check=True, stdout=subprocess.DEVNULL)
+    subprocess.run([os.environ.get("CC", "cc"), "-shared", "-o", str(LIBRARY),
+                    "-Wl,--whole-archive", str(ARCHIVE), "-Wl,--no-whole-archive"], cwd=ROOT, check=True)
+    function = ctypes.CDLL(str(LIBRARY)).normal_form_c
+    function.restype = NormalForm
+    return function
+
+
+def called(function, text, length):
+    """The answer, the records of the list, and whether what stands behind the list is as it was. All bytes are ones
+    before the call, so that what is not written shows."""
+    lent = (Entry * (length + BEHIND))()
+    ctypes.memset(lent, 1, ctypes.sizeof(lent))
+    answer = function(ctypes.c_char_p(text), ctypes.c_size_t(len(text)), lent, ctypes.c_size_t(length))
+    content = bytes(lent)
+    end = length * ENTRY.size
+    return answer, list(ENTRY.iter_unpack(content[:end])), content[end:] == b"\1" * (BEHIND * ENTRY.size)
+
+
+def difference(function, text, wanted):
+    answer, records, untouched = called(function, text, wanted["list"])
+    counts = len(wanted["entries"]), len(wanted["added"])
+    if (answer.refusal, answer.entries, answer.added) != (wanted["refusal"], *counts):
+        return "answer %d %d %d" % (answer.refusal, answer.entries, answer.added)
+    filled, rest = records[:answer.entries], records[answer.entries:]
+    if any(record != ZEROS for record in rest):
+        return "numbers behind the records"
+    if not untouched:
+        return "numbers written behind the list"
+    return None if answer.refusal else filled_difference(Rows(read(text)[1]), filled, wanted)
+
+
+def filled_difference(rows, filled, wanted):
+    """The same for the records of an accepted sheet."""
+    if (filled, len(wanted["added"])) != rows.all():
+        return "records"
+    if [rows.decoded(record) for record in filled] != wanted["entries"]:
+        return "what the records say"
+    ranges = {(record[2] - rows.own, *record[6:]) for record in filled if record[0] > 1}
+    if ranges != {(stream, *ends) for stream, ends in enumerate(wanted["added"])}:
+        return "ranges of the added streams"
+    return None
+
+
+def lines(name):
+    with open(ROOT / "vectors" / name, encoding="latin-1") as stored:
+        return [json.loads(line) for line in stored]
+
+
+def main():
+    function = built()
+    texts = {sheet["name"]: sheet["sheet"].encode("latin-1") for sheet in lines("sheets.jsonl")}
+    calls = lines("normal.jsonl")
+    compared, records, faults = Counter(), 0, 0
+    for wanted in calls:
+        fault = difference(function, texts[wanted["name"]], wanted)
+        compared[wanted["refusal"]] += 1
+        records += len(wanted["entries"])
+        if fault:
+            faults += 1
+            print("%s with a list of %d: %s" % (wanted["name"], wanted["list"], fault))
+    print("normal_form: %d calls with %d entries compared (%s), %d differ" % (
+        len(calls), records, ", ".join("refusal %d: %d" % item for item in sorted(compared.items())), faults))
+    return 1 if faults else 0
+
+
+if __name__ == "__main__":
+    sys.exit(main())
