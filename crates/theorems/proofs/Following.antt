@@ -21,6 +21,7 @@ use Rattle.meaning.specs.Value.{Streams}
 use Rattle.meaning.specs.Arithmetic.{Arithmetic}
 use Rattle.meaning.specs.Expression.{Stream, Constraint, Sheet, Solution}
 use Rattle.meaning.specs.Letter.{Letter, Record, IsLetter, none, more, OfLetters, letterCount, letterNumber, letterOf, spell, streamsOf, SolutionWord}
+use Rattle.meaning.proofs.Lists.{getD-map}
 use Rattle.meaning.proofs.Scope.{NamesKnown}
 use Rattle.meaning.proofs.Letter.{letterNumber-bound, letterOf-letterNumber}
 use Rattle.meaning.proofs.Word.{letterWith, wordOf, wordOf-spells, spell-ranged, solution-word}
@@ -38,11 +39,6 @@ append-getD : (l : List ℕ) (v : Word) (i : ℕ) → i < length l → append l 
 append-getD [] v i h = absurd (omega arith)
 append-getD (a ∷ l) v zero h = refl
 append-getD (a ∷ l) v (suc i) h = append-getD l v i (omega arith)
-
-getD-map : {X Y : Type 0} (f : X → Y) (d : X) (e : Y) (l : List X) (i : ℕ) → i < length l → getD (map f l) i e ≡ f (getD l i d)
-getD-map f d e [] i h = absurd (omega arith)
-getD-map f d e (x ∷ l) zero h = refl
-getD-map f d e (x ∷ l) (suc i) h = getD-map f d e l i (omega arith)
 
 -- The letter with the values that a letter has is this letter.
 letterWith-values : {ss : List Stream} {l : Letter} → IsLetter ss l → letterWith ss (λ k. getD l k (pos 0)) ≡ l
@@ -113,7 +109,7 @@ module _ (A : Arithmetic) (s : Sheet) (known : NamesKnown s) where
               solves = g .continues .solves .solves;
               letters = λ j i b l.
                   let e : append (map (letterNumber ss) r) (g .word) i ≡ letterNumber ss (getD r i []) =
-                  append-getD (map (letterNumber ss) r) (g .word) i (rw length-map l) ∙ getD-map (letterNumber ss) [] 0 r i l in
+                  append-getD (map (letterNumber ss) r) (g .word) i (rw length-map l) ∙ getD-map (letterNumber ss) r i [] 0 l in
                   ap (λ a. getD (letterOf ss a) j (pos 0)) e ∙ ap (λ m. getD m j (pos 0)) (letterOf-letterNumber (getD-letter r i h l));
             }
 
@@ -125,7 +121,7 @@ module _ (A : Arithmetic) (s : Sheet) (known : NamesKnown s) where
             let same : (i : ℕ) → i < length r → x i ≡ letterNumber ss (getD r i []) = λ i l.
             ap (letterNumber ss) (letterWith-same ss (λ j. w j i) (λ j. getD (getD r i []) j (pos 0)) (λ j c. g .letters j i c l) ∙ letterWith-values (getD-letter r i h l)) in
             let e : prefix x (length (map (letterNumber ss) r)) ≡ map (letterNumber ss) r =
-            prefix-list x (map (letterNumber ss) r) (λ i l. let l′ : i < length r = rw length-map at l in same i l′ ∙ sym (getD-map (letterNumber ss) [] 0 r i l′)) in
+            prefix-list x (map (letterNumber ss) r) (λ i l. let l′ : i < length r = rw length-map at l in same i l′ ∙ sym (getD-map (letterNumber ss) r i [] 0 l′)) in
             let c : Begins (SolutionWord A s) k (prefix x (length (map (letterNumber ss) r))) = record {
               word = suffix x (length (map (letterNumber ss) r));
               in-range = in-range-suffix (length (map (letterNumber ss) r)) x b;
