@@ -148,7 +148,7 @@ def compiled(function, text, letters):
 
 def main(directory):
     directory.mkdir(parents=True, exist_ok=True)
-    function = built()
+    function = built(False)
     lines = []
     for name, text in sheets():
         letters = letters_of(text)
