@@ -66,11 +66,12 @@ fn made(rows: usize, situations: usize, table: minimise::Minimised) -> Compiled
     ensures { λ r. ⌜ r ≡ madeOf rows situations table ⌝ }
 {
     let refusal = table.refusal;
+    let counted = situations as u32;
     if refusal == 0 {
         return Compiled {
             refusal: 0,
             states: table.states,
-            situations: situations as u32,
+            situations: counted,
         };
     }
     if refusal == 9 {

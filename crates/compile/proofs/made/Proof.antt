@@ -24,8 +24,8 @@ module _ (rows n : ℕ) (t : Minimised) where
     many-made : situationBound ≤ rows → refusedWith 8 ≡ madeOf rows n t
     many-made h = simp (ne-eqb (t .refusal) 0 a, ne-eqb (t .refusal) 9 b, le-ltb rows situationBound h)
 
-cast-t6 : tie.Need-cast-t6
-cast-t6 c = search needs
+cast-counted : tie.Need-cast-counted
+cast-counted c = search needs
 
 returns : tie.Need-returns
 returns c = table-made (c .before .args .rows) (c .before .args .situations) (c .before .args .table) (c .if1 .taken)
@@ -56,7 +56,7 @@ pub made-spec : {M : Type 1} → statement M
 made-spec =
     tie.close
     (tie.spec
-    cast-t6
+    cast-counted
     returns
     refused-requires
     returns-2
