@@ -289,6 +289,14 @@ def magnitude_bound_sheets():
             "( ( ( x * 1000000000 ) % 2 ) + 1 ) >= 0")),
         ("interval-remainder-top", 0, one_stream(
             "( ( x * 999999999 ) % 2 ) + 1 >= 0")),
+        ("interval-quotient-below", 6, one_stream(
+            "( x / 1 ) - 999999996 <= 0", high=5)),
+        ("interval-quotient-below-top", 0, one_stream(
+            "( x / 1 ) - 999999995 <= 0", high=5)),
+        ("interval-remainder-below", 6, one_stream(
+            "( x % 3 ) - 999999996 <= 0", high=5)),
+        ("interval-remainder-below-top", 0, one_stream(
+            "( x % 3 ) - 999999995 <= 0", high=5)),
         ("interval-minus-minus", 0, one_stream(
             "x - -999999999 >= 0", "-500000000 * 2 <= x")),
         ("scope-interval-passes", 0, one_stream("x * 1000000 == 0", high=1000)),
