@@ -2,12 +2,13 @@
 -- as the code finds it, is document 01's R.
 use Prim.Native.Nat.{ℕ, _*_, _/_, _≤_, _<_, min}
 use native.Mathlib.Omega.{arith}
-use native.Mathlib.Nat.{mul-le-mul-right, div-mul-le-self, div-one}
+use native.Mathlib.Nat.{div-one}
 use mathlib.Core.Path.{_≡_}
 use mathlib.Core.List.{List, [], _∷_}
 use lib.ListN.{length}
-use Rattle.outcome.specs.Room.{Lent, rowsHeld, fewestRows}
+use Rattle.outcome.specs.Room.{Lent, fewestRows}
 use Rattle.outcome.specs.Compile.{roomRows}
+use Rattle.outcome.proofs.CompileTotal.{rows-fit}
 use Rattle.compile.specs.Lent.{roomOf}
 
 -- Each of the tables has room for n rows.
@@ -15,12 +16,9 @@ abbrev pub Holds : ℕ → Lent → List Lent → Type 0
 Holds n t [] = n * t .perRow ≤ t .size
 Holds n t (u ∷ us) = (n * t .perRow ≤ t .size) × Holds n u us
 
-rows-fit : (n : ℕ) (t : Lent) → n ≤ rowsHeld t → n * t .perRow ≤ t .size
-rows-fit n t h = let l = mul-le-mul-right (t .perRow) h in omega (arith, div-mul-le-self (t .size) (t .perRow))
-
 pub fewest-hold : (n : ℕ) (t : Lent) (ts : List Lent) → n ≤ fewestRows t ts → Holds n t ts
-fewest-hold n t [] h = rows-fit n t h
-fewest-hold n t (u ∷ us) h = (rows-fit n t (omega arith), fewest-hold n u us (omega arith))
+fewest-hold n t [] h = rows-fit n (t .perRow) (t .size) h
+fewest-hold n t (u ∷ us) h = (rows-fit n (t .perRow) (t .size) (omega arith), fewest-hold n u us (omega arith))
 
 pub le-of-not-lt : {m n : ℕ} → (m < n → ⊥) → n ≤ m
 le-of-not-lt h = omega arith

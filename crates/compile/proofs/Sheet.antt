@@ -12,16 +12,13 @@ use lib.Dec.{ltb}
 use lib.ListN.{length, getD, drop, length-drop}
 use lib.Seq.{getD-drop}
 use borrow.Author.Tests.{lt-ltb, le-ltb}
-use Rattle.automaton.specs.Solutions.{SameSolutions, NoSolution}
+use Rattle.automaton.specs.Solutions.{SameSolutions}
 use Rattle.automaton.specs.Graph.{Language}
 use Rattle.automaton.proofs.Transfer.{table-transfer}
-use Rattle.meaning.specs.Value.{Streams}
 use Rattle.meaning.specs.Arithmetic.{Arithmetic}
-use Rattle.meaning.specs.Expression.{Sheet, Solution}
+use Rattle.meaning.specs.Expression.{Sheet}
 use Rattle.meaning.specs.Letter.{letterCount, SolutionWord}
 use Rattle.meaning.specs.Situation.{SituationCount, MoreSituations}
-use Rattle.meaning.proofs.Scope.{NamesKnown}
-use Rattle.meaning.proofs.Word.{spelled-once, solution-word}
 use Rattle.sheet.specs.Accepted.{Accepted}
 use Rattle.explore.specs.Rows.{ExploredRows}
 use Rattle.explore.proofs.GraphLaws.{row-bits, row-targets, row-flags-stay, row-graph, rows-language}
@@ -31,6 +28,7 @@ use Rattle.minimise.specs.declared.Minimised.{Minimised}
 use Rattle.minimise.proofs.Outcome.{all-zero}
 use Rattle.outcome.specs.Room.{zeros, zeroTables}
 use Rattle.outcome.specs.Compile.{refusedBy, Room, roomRows, Tables, allZero, situationBound}
+use Rattle.outcome.proofs.CompileTotal.{no-streams}
 use Rattle.compile.specs.declared.Compiled.{Compiled}
 use Rattle.compile.specs.Lent.{roomOf, tablesOf, answerOf, refusedWith, madeOf}
 use Rattle.compile.specs.Sheet.{SituationsFit, SheetOutcome, tooManySituations, tooFewRows, noSolution, compiled, Found, RoomFor}
@@ -62,15 +60,6 @@ module _ (A : Arithmetic) (s : Sheet) {n : ℕ} {entries flags : List ℕ} (x : 
         to = λ w b l. same .to w b (record { follows = l .follows; time = l .time; is-done = l .is-done });
         from = λ w b z. let l = same .from w b z in record { follows = l .follows; time = l .time; is-done = l .is-done };
       }
-
--- ---- no solution
-
--- No word is a solution, so no streams are.
-no-streams : {A : Arithmetic} {s : Sheet} → Accepted A s → NoSolution (letterCount (s .streams)) (SolutionWord A s) → (w : Streams) → Solution A s w → ⊥
-no-streams {A} {s} accepted f w x =
-    let known : NamesKnown s = record { sides = accepted .namesKnown } in
-    let p = spelled-once (s .streams) w (x .ranged) in
-    f (p .word) (p .spells .letters) (solution-word A known (p .spells) .1 x)
 
 -- ---- zeros
 
@@ -143,7 +132,7 @@ module _ {A : Arithmetic} {s : Sheet} (accepted : Accepted A s) (entries finals 
       no-word : NoWord before k n refusal states after → SheetOutcome A s room (refusedBy 9) left
       no-word x =
           subst (SheetOutcome A s room (refusedBy 9)) (all-zeros (x .answer))
-          (noSolution fit (no-streams accepted λ w b z. x .empty w b (language (x .accepted) .from w b z)))
+          (noSolution fit (no-streams (record { sides = accepted .namesKnown }) λ w b z. x .empty w b (language (x .accepted) .from w b z)))
 
       has-table : HasTable before k n refusal states after → SheetOutcome A s room (record { refusal = 0; states = states; situations = n }) left
       has-table x =

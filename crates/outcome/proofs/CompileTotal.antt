@@ -41,7 +41,7 @@ fewest-first t (u ∷ us) = omega arith
 fewest-second : (t u : Lent) (us : List Lent) → fewestRows t (u ∷ us) ≤ rowsHeld u
 fewest-second t u us = let h = fewest-first u us in omega arith
 
-rows-fit : (n k size : ℕ) → n ≤ size / k → n * k ≤ size
+pub rows-fit : (n k size : ℕ) → n ≤ size / k → n * k ≤ size
 rows-fit n k size h = let l = mul-le-mul-right k h in omega (arith, div-add-mod' size k, l)
 
 -- ---- the first N numbers of a list, and zeros up to a size
@@ -98,14 +98,13 @@ pub record HasOutcome (A : Arithmetic) (L : Layout) (text : List ℕ) (room : Ro
   pub tables : Tables
   pub outcome : CompileOutcome A L text room answer tables
 
-module _ (A : Arithmetic) (L : Layout) (text : List ℕ) (room : Room) where
-  -- No word is a solution, so no streams are.
-  no-streams : {s : Sheet} → AnswerTo A L text (sheet s) → NoSolution (letterCount (s .streams)) (SolutionWord A s) → (w : Streams) → Solution A s w → ⊥
-  no-streams {s} r f w x =
-      let known : NamesKnown s = record { sides = accepted-facts r .namesKnown } in
-      let p = spelled-once (s .streams) w (x .ranged) in
-      f (p .word) (p .spells .letters) (solution-word A known (p .spells) .1 x)
+-- No word is a solution, so no streams are.
+pub no-streams : {A : Arithmetic} {s : Sheet} → NamesKnown s → NoSolution (letterCount (s .streams)) (SolutionWord A s) → (w : Streams) → Solution A s w → ⊥
+no-streams {A} {s} known f w x =
+    let p = spelled-once (s .streams) w (x .ranged) in
+    f (p .word) (p .spells .letters) (solution-word A known (p .spells) .1 x)
 
+module _ (A : Arithmetic) (L : Layout) (text : List ℕ) (room : Room) where
   explorable-outcome : {s : Sheet} {m : ℕ} → Explorable A L text room s m → HasOutcome A L text room
   explorable-outcome {s} {m} e = go (table-or-no-word Situation-discrete A s (e .counted) (omega (arith, e .withinBound)))
     where
@@ -119,7 +118,7 @@ module _ (A : Arithmetic) (L : Layout) (text : List ℕ) (room : Room) where
           let fe : n * letterCount (s .streams) ≤ room .entries = rows-fit n (letterCount (s .streams)) (room .entries) (omega arith) in
           let ff : n * 1 ≤ room .finals = rows-fit n 1 (room .finals) (omega arith) in
           record { answer = _; tables = _; outcome = compiled e (holds-padded A s room (t .stored) fe (omega arith)) }
-      go (inr f) = record { answer = _; tables = _; outcome = noSolution e (no-streams (e .read) f) }
+      go (inr f) = record { answer = _; tables = _; outcome = noSolution e (no-streams (record { sides = accepted-facts (e .read) .namesKnown }) f) }
 
   read-outcome : {s : Sheet} → AnswerTo A L text (sheet s) → HasOutcome A L text room
   read-outcome {s} r = go (decLe situationBound rows)

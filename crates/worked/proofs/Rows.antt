@@ -22,8 +22,6 @@ use Rattle.meaning.specs.Letter.{letterCount, letterOf}
 use Rattle.meaning.specs.Window.{reach, back, firsts, B, D}
 use Rattle.meaning.specs.Evaluation.{windowValue, windowPermits, windowMarks, allowsLetter, situationAfter, successor, marksOf, allDone}
 use Rattle.meaning.specs.Situation.{all, SituationCount, done, permits, lawful, firstValues, untilMarks, situation}
-use Rattle.meaning.proofs.Scope.{NamesKnown}
-use Rattle.meaning.proofs.Word.{spelled-once, solution-word}
 use Rattle.sheet.specs.Form.{threeHeaderLines}
 use Rattle.sheet.specs.Refusal.{Answer, refused, sheet, AnswerTo}
 use Rattle.sheet.specs.Vocabulary.{operators, operatorOf, relations, relationOf, prefixes, prefixOf, placeOf}
@@ -31,6 +29,7 @@ use Rattle.sheet.specs.Parser.{expressionBy, openingOf, partTo, parseConstraint
 use Rattle.sheet.specs.Reading.{refuses1, tooDeepFrom, refuses2, streamsFrom, constraintsOf, formOf, refuses4, refuses5, refuses6, refuses7, answerToSheet, answerTo}
 use Rattle.sheet.proofs.Reading.{answer-correct}
 use Rattle.sheet.proofs.Accepted.{accepted-facts}
+use Rattle.outcome.proofs.CompileTotal.{no-streams}
 use Rattle.outcome.proofs.SituationGraph.{placeIn, nodeSuccessor, situationGraph, startNode, situations-language}
 use Rattle.worked.specs.Rows.{Row, rows, Holds, compiles, refuses}
 use Rattle.worked.proofs.Equality.{both, sameList, lists, Decides, decideSituation}
@@ -80,11 +79,8 @@ module _ (r : Row) {s : Sheet} (read : AnswerTo cutTowardZero threeHeaderLines (
     unfolding situationGraph
     answer-holds construction.Answer.no-word n h =
         refuses read count (eqb→eq (r .refusal) 9 h)
-        (λ w x.
-        let known : NamesKnown s = record { sides = accepted-facts read .namesKnown } in
-        let p = spelled-once (s .streams) w (x .ranged) in
-        n (p .word) (p .spells .letters)
-        (situations-language decideSituation cutTowardZero s (counted cutTowardZero s (found s) t) .from (p .word) (p .spells .letters) (solution-word cutTowardZero known (p .spells) .1 x)))
+        (no-streams (record { sides = accepted-facts read .namesKnown })
+        λ w b z. n w b (situations-language decideSituation cutTowardZero s (counted cutTowardZero s (found s) t) .from w b z))
     answer-holds (construction.Answer.table x) n h =
         let p = both (eqb (r .refusal) 0) (eqb (x .states) (r .states) && (sameList eqb (x .entries) (r .entries) && sameList eqb (x .finals) (r .finals))) h in
         let q = both (eqb (x .states) (r .states)) (sameList eqb (x .entries) (r .entries) && sameList eqb (x .finals) (r .finals)) (p .1) in
