@@ -17,8 +17,9 @@ use native.Mathlib.Decide.{ℕ-discrete}
 use borrow.Author.Tests.{eq-eqb, ne-eqb}
 use Rattle.meaning.specs.Value.{Value, truth}
 use Rattle.meaning.specs.Expression.{implies, holds}
+use Rattle.nodes.specs.Code.{signs, signAt}
 use Rattle.arithmetic.proofs.Machine.{held, held-both}
-use Rattle.explore.specs.Step.{signs, signAt, unlawful, marked, withDigit, untilDone, untilPermitted, signHolds, judgedFrom}
+use Rattle.explore.specs.Step.{unlawful, marked, withDigit, untilDone, untilPermitted, signHolds, judgedFrom}
 use Rattle.explore.specs.Marking.{begun, grown, joined}
 use Rattle.explore.specs.declared.judge.Judged.{Judged}
 use Rattle.explore.specs.declared.judge.Marking.{Marking}

@@ -8,22 +8,14 @@ use mathlib.Core.List.{List, [], _∷_}
 use lib.Dec.{eqb}
 use lib.ListN.{length, getD}
 use borrow.Author.Tests.{eq-eqb, ne-eqb}
-use Rattle.meaning.specs.Value.{Value, truth, less, atMost, equal, atLeast, greater, different}
-use Rattle.meaning.specs.Expression.{Sign, comparison, implies, Constraint, always, until, holds}
+use Rattle.meaning.specs.Value.{Value, truth}
+use Rattle.meaning.specs.Expression.{Constraint, always, until, holds}
 use Rattle.meaning.specs.Window.{allUntils}
-use Rattle.nodes.specs.Code.{relationCode, signCode}
+use Rattle.nodes.specs.Code.{relationCode, signCode, signAt}
+use Rattle.nodes.proofs.SignCodes.{sign-code}
 use Rattle.explore.specs.Key.{digit, marksNumber}
-use Rattle.explore.specs.Step.{odd, signAt, unlawful, marked, withDigit, judgedFrom}
+use Rattle.explore.specs.Step.{odd, unlawful, marked, withDigit, judgedFrom}
 use Rattle.explore.specs.declared.judge.Judged.{Judged}
-
-sign-code : (s : Sign) → (signAt (signCode s) ≡ s) × (eqb (signCode s) 7 ≡ false)
-sign-code (comparison less) = (refl, refl)
-sign-code (comparison atMost) = (refl, refl)
-sign-code (comparison equal) = (refl, refl)
-sign-code (comparison atLeast) = (refl, refl)
-sign-code (comparison greater) = (refl, refl)
-sign-code (comparison different) = (refl, refl)
-sign-code implies = (refl, refl)
 
 first-digit : (b : Bool) (m : ℕ) → odd (digit b + 2 * m) ≡ b
 first-digit true m = eq-eqb ((1 + 2 * m) % 2) 1 (omega arith)

@@ -7,9 +7,10 @@ use mathlib.Core.List.{List, [], _∷_, _++_, map}
 use lib.Dec.{leb, ltb, eqb}
 use lib.IntN.{ℤ}
 use lib.ListN.{length, getD, take, drop}
-use Rattle.meaning.specs.Value.{Value, truth, Comparison, less, atMost, equal, atLeast, greater, different}
+use Rattle.meaning.specs.Value.{Value, truth}
 use Rattle.meaning.specs.Arithmetic.{Arithmetic}
-use Rattle.meaning.specs.Expression.{Sign, comparison, implies, holds}
+use Rattle.meaning.specs.Expression.{holds}
+use Rattle.nodes.specs.Code.{signAt}
 use Rattle.nodes.specs.Evaluate.{Nodes, stored, View, view, nodeValue}
 use Rattle.explore.specs.Chains.{keySize}
 use Rattle.explore.specs.Key.{letterRoom, firstRoom, encoded, raised, lowered, digit, sizeIn, lettersIn, firstsIn, marksIn}
@@ -43,13 +44,6 @@ storeOf kinds values starts relations lefts rights firstNodes letterValues strea
     }
 
 -- ---- constraints, judged at one time
-
--- The sign with a relation's number; a number that is no sign's plays no part.
-abbrev pub signs : List Sign
-signs = comparison less ∷ comparison atMost ∷ comparison equal ∷ comparison atLeast ∷ comparison greater ∷ comparison different ∷ implies ∷ []
-
-abbrev pub signAt : ℕ → Sign
-signAt k = getD signs k implies
 
 abbrev pub unlawful : Judged
 unlawful = record { ok = false; marks = 0 }

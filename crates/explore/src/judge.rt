@@ -11,8 +11,9 @@ ghost use lib.ListN.{length};
 ghost use Rattle.meaning.specs.Value.{truth};
 ghost use Rattle.meaning.specs.Arithmetic.{cutTowardZero};
 ghost use Rattle.meaning.specs.Expression.{holds, implies};
+ghost use Rattle.nodes.specs.Code.{signAt};
 ghost use Rattle.nodes.specs.Evaluate.{stored, view, nodeValue};
-ghost use Rattle.explore.specs.Step.{odd, signAt, unlawful, judgedFrom};
+ghost use Rattle.explore.specs.Step.{odd, unlawful, judgedFrom};
 ghost use Rattle.explore.specs.Marking.{IsSmall, begun, grown};
 
 // Whether a lawful record stays lawful, and the marks of the untils that are done then.

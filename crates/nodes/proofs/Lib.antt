@@ -1,3 +1,4 @@
+pub mod SignCodes
 pub mod Parts
 pub mod Evaluate
 pub mod Postfix

@@ -1,5 +1,7 @@
 -- The numbers by which stored nodes and constraints name what they are.
 use Prim.Native.Nat.{ℕ, _+_}
+use mathlib.Core.List.{List, [], _∷_}
+use lib.ListN.{getD}
 use Rattle.meaning.specs.Value.{Comparison, less, atMost, equal, atLeast, greater, different}
 use Rattle.meaning.specs.Arithmetic.{Operator, add, subtract, multiply, divide, remainder, compare, and, or}
 use Rattle.meaning.specs.Expression.{Sign, comparison, implies, Constraint, always, until}
@@ -27,6 +29,13 @@ operatorCode or = 19
 abbrev pub signCode : Sign → ℕ
 signCode (comparison c) = comparisonCode c
 signCode implies = 6
+
+-- The sign with a relation's number; a number that is no sign's plays no part.
+abbrev pub signs : List Sign
+signs = comparison less ∷ comparison atMost ∷ comparison equal ∷ comparison atLeast ∷ comparison greater ∷ comparison different ∷ implies ∷ []
+
+abbrev pub signAt : ℕ → Sign
+signAt k = getD signs k implies
 
 abbrev pub relationCode : Constraint → ℕ
 relationCode (always s a b) = signCode s

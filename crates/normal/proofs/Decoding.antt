@@ -7,15 +7,16 @@ use mathlib.Core.Bool.{false, cond}
 use mathlib.Core.List.{List, [], _∷_, _++_, map, map-append}
 use lib.Dec.{eqb}
 use lib.ListN.{length, getD, length-append, length-map}
-use Rattle.meaning.specs.Value.{less, atMost, equal, atLeast, greater, different}
+use Rattle.meaning.specs.Value.{equal}
 use Rattle.meaning.specs.Arithmetic.{cutTowardZero}
-use Rattle.meaning.specs.Expression.{Expression, integer, name, first, next, negation, binary, conditional, fby, Sign, comparison, implies, Constraint, always, until, leftSide, rightSide, Sheet}
+use Rattle.meaning.specs.Expression.{Expression, integer, name, first, next, negation, binary, conditional, fby, Sign, comparison, Constraint, always, until, leftSide, rightSide, Sheet}
 use Rattle.meaning.specs.NormalForm.{added, addedCount, rewritten, equation, addedEntries, addedBy, rewrittenConstraint, entriesBy, allAdded, allRewritten, allEntries, normalForm}
 use Rattle.meaning.proofs.Lists.{getD-map}
 use Rattle.nodes.specs.Code.{signCode}
+use Rattle.nodes.proofs.SignCodes.{sign-code}
 use Rattle.normal.specs.Rows.{Row, Rewriting, nodeCount, inPostfix, rewriting, fbyEntries, untilEntries, Line, untilLine, alwaysLine, lineOf, lineAt, linesOf, ownRows, addedRows, streamsAfter}
 use Rattle.normal.specs.Table.{blank}
-use Rattle.normal.specs.Encoded.{nodeExpressions, sourceInterval, entryOf, rowsOf, encoded, signAt, decoded}
+use Rattle.normal.specs.Encoded.{nodeExpressions, sourceInterval, entryOf, rowsOf, encoded, decoded}
 use Rattle.normal.proofs.Places.{Stand, Stand-append, stand-self, root-at, sides-stand}
 
 -- ---- how many streams are added
@@ -43,26 +44,8 @@ added-counted p (fby a b) =
 
 -- ---- signs
 
-sign-code : (s : Sign) → eqb (signCode s) 7 ≡ false
-sign-code (comparison less) = refl
-sign-code (comparison atMost) = refl
-sign-code (comparison equal) = refl
-sign-code (comparison atLeast) = refl
-sign-code (comparison greater) = refl
-sign-code (comparison different) = refl
-sign-code implies = refl
-
-sign-at : (s : Sign) → signAt (signCode s) ≡ s
-sign-at (comparison less) = refl
-sign-at (comparison atMost) = refl
-sign-at (comparison equal) = refl
-sign-at (comparison atLeast) = refl
-sign-at (comparison greater) = refl
-sign-at (comparison different) = refl
-sign-at implies = refl
-
 pub always-line : (s : Sign) (l r : ℕ) (a b : Rewriting) → lineOf (signCode s) l r a b ≡ alwaysLine (signCode s) l r a b
-always-line s l r a b = ap (λ t. cond t (untilLine l r a b) (alwaysLine (signCode s) l r a b)) (sign-code s)
+always-line s l r a b = ap (λ t. cond t (untilLine l r a b) (alwaysLine (signCode s) l r a b)) (sign-code s .1)
 
 module _ (s : Sheet) where
   abbrev pub L : List Expression
@@ -135,7 +118,7 @@ module _ (s : Sheet) where
       let rb = root-at L l b hb in
       let q = always-line t l (l + nodeCount b) (rewriting p a) (rewriting l b) in
       record {
-        own = λ n. ap (λ m. says (m .own n)) q ∙ (λ i. always (sign-at t i) (rewritten n (ra i)) (rewritten (n + ca i) (rb i)));
+        own = λ n. ap (λ m. says (m .own n)) q ∙ (λ i. always (sign-code t .0 i) (rewritten n (ra i)) (rewritten (n + ca i) (rb i)));
         entries = λ n. ap (λ m. map says (m .adds .rows n)) q ∙ joined-says p a n (rewriting l b) (λ m. addedEntries m b) (rows-say p a ha) (rows-say l b hb);
         count = ap (λ m. m .adds .added) q ∙ omega (arith, length-append (added a) (added b));
       }

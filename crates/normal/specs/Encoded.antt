@@ -14,11 +14,12 @@ use mathlib.Core.List.{List, [], _∷_, _++_, map}
 use lib.Dec.{eqb}
 use lib.IntN.{pos}
 use lib.ListN.{length, getD}
-use Rattle.meaning.specs.Value.{less, atMost, equal, atLeast, greater, different}
+use Rattle.meaning.specs.Value.{equal}
 use Rattle.meaning.specs.Arithmetic.{Arithmetic, Interval, cutTowardZero}
-use Rattle.meaning.specs.Expression.{Expression, integer, name, first, next, Sign, comparison, implies, Constraint, always, until, leftSide, rightSide, Sheet}
+use Rattle.meaning.specs.Expression.{Expression, integer, name, first, next, comparison, Constraint, always, until, leftSide, rightSide, Sheet}
 use Rattle.meaning.specs.Interval.{interval}
 use Rattle.meaning.specs.NormalForm.{rewritten, equation}
+use Rattle.nodes.specs.Code.{signAt}
 use Rattle.outcome.specs.NormalForm.{NormalAnswer}
 use Rattle.normal.specs.Rows.{Row, inPostfix, linesOf, allRows}
 use Rattle.normal.specs.declared.Entry.{Entry}
@@ -61,13 +62,6 @@ abbrev pub encoded : List ℕ → Sheet → List Entry
 encoded text s = map (λ r. entryOf r (sourceInterval cutTowardZero s (r .source))) (rowsOf s)
 
 -- ---- what an entry says
-
-abbrev pub signs : List Sign
-signs =
-    comparison less ∷ comparison atMost ∷ comparison equal ∷ comparison atLeast ∷ comparison greater ∷ comparison different ∷ implies ∷ []
-
-abbrev pub signAt : ℕ → Sign
-signAt k = getD signs k implies
 
 unfoldable pub decoded : Sheet → Entry → Constraint
 decoded s e =

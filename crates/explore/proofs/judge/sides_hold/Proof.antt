@@ -3,7 +3,7 @@ use mathlib.Core.Path.{_∙_, ap₂}
 use mir.Syntax.{w64}
 use mir.ValLaws.{toZ-ofZ}
 use Rattle.meaning.specs.Expression.{holds}
-use Rattle.explore.specs.Step.{signAt}
+use Rattle.nodes.specs.Code.{signAt}
 use borrow.Author.Needs.{needs}
 use Rattle.explore.proofs.judge.sides_hold.Statement.{statement}
 use Rattle.explore.proofs.judge.sides_hold.Tie as tie
