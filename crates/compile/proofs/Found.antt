@@ -20,7 +20,7 @@ use Rattle.explore.specs.StoredSheet.{storedSheet, IsStored}
 use Rattle.explore.specs.Exploration.{Lent, IsExplorable, ExploresStored}
 use Rattle.explore.specs.Rows.{ExploreOutcome}
 use Rattle.explore.proofs.StoredKeys.{parts-stored}
-use Rattle.explore.proofs.TestLaws.{says-yes}
+use Rattle.marks.proofs.Laws.{says-yes}
 use Rattle.explore.proofs.SheetSizes.{accepted-explorable, letters-fit, has-letters, stored-explored}
 use Rattle.outcome.proofs.NoRows.{some-situation}
 use Rattle.compile.specs.Sheet.{Found, SlicesOf, RoomFor}

@@ -1,4 +1,3 @@
-pub mod TestLaws
 pub mod ChainLaws
 pub mod JudgeLaws
 pub mod KeyLists

@@ -24,7 +24,7 @@ use Rattle.explore.specs.StoredSheet.{storedSheet, HasLetters, IsStored}
 use Rattle.nodes.proofs.FirstPlaces.{allPlaces-long}
 use Rattle.explore.proofs.StoredSides.{constraints-long}
 use Rattle.explore.proofs.StoredKeys.{stored-outcome}
-use Rattle.explore.proofs.TestLaws.{says-holds}
+use Rattle.marks.proofs.Laws.{says-holds}
 
 -- ---- the stored sheet
 

@@ -4,7 +4,7 @@ use mathlib.Core.Path.{_≡_}
 use mathlib.Core.Bool.{Bool, true, false}
 use mathlib.Core.List.{List}
 use Rattle.meaning.specs.Arithmetic.{Arithmetic}
-use Rattle.explore.specs.Chains.{Says}
+use Rattle.marks.specs.Answers.{Says}
 use Rattle.explore.specs.Step.{Store, IsReady}
 use Rattle.explore.specs.Search.{everyMark, Searched, IsLent}
 

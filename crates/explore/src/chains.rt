@@ -3,7 +3,8 @@ ghost use mathlib.Core.Path.{_≡_};
 ghost use Prim.Native.Nat.{_+_, _*_, _<_, _≤_};
 ghost use lib.ListN.{length, replicate};
 ghost use lib.Seq.{paste};
-ghost use Rattle.explore.specs.Chains.{Says, keySize, mixOf, hashFrom, bucketOf, Tables, Finds, Inserts};
+ghost use Rattle.marks.specs.Answers.{Says};
+ghost use Rattle.explore.specs.Chains.{keySize, mixOf, hashFrom, bucketOf, Tables, Finds, Inserts};
 
 // Whether two keys are equal.
 fn same(a: &[u32], b: &[u32]) -> bool

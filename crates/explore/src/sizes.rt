@@ -1,7 +1,8 @@
 // Whether a stored sheet and the lent tables have the sizes that the search depends on.
 ghost use mathlib.Core.Path.{_≡_};
 ghost use Prim.Native.Nat.{_*_, _<_, _≤_};
-ghost use Rattle.explore.specs.Chains.{Says, keySize};
+ghost use Rattle.marks.specs.Answers.{Says};
+ghost use Rattle.explore.specs.Chains.{keySize};
 ghost use Rattle.explore.specs.Key.{letterRoom, firstRoom};
 
 // Whether the sheet keeps document 01's bounds. `relations` to `firsts` are the lengths of its lists.

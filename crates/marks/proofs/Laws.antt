@@ -24,6 +24,11 @@ says-yes e h = rw e at h
 pub says-no : {b : Bool} {P : Type 0} → b ≡ false → Says b P → ¬ P
 says-no e h = rw e at h
 
+-- A property that holds has the answer true.
+pub says-holds : {P : Type 0} (b : Bool) → Says b P → P → b ≡ true
+says-holds true h p = refl
+says-holds false h p = absurd (h p)
+
 -- rows
 
 -- the row before row s starts `letters` entries before it

@@ -1,6 +1,6 @@
 -- `explore_stored` meets its contract: the tests say whether the sizes are right, and the search meets its own contract where they are.
 use borrow.Author.Tests.{not-true, not-false}
-use Rattle.explore.proofs.TestLaws.{says-yes, says-no}
+use Rattle.marks.proofs.Laws.{says-yes, says-no}
 use Rattle.explore.proofs.SizeLaws.{sizes-ready, sizes-lent-tables, not-ready, not-lent, ready}
 use borrow.Author.Needs.{needs}
 use Rattle.explore.proofs.explore_stored.Statement.{statement}

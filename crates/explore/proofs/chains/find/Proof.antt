@@ -7,7 +7,7 @@ use lib.ListN.{length, getD, take, drop}
 use native.Mathlib.Nat.{not-suc-le-zero}
 use lib.Seq.{length-take-le}
 use Rattle.explore.specs.Chains.{keySize, rowAt, bucketOf, Tables, Finds}
-use Rattle.explore.proofs.TestLaws.{says-yes, says-no}
+use Rattle.marks.proofs.Laws.{says-yes, says-no}
 use Rattle.explore.proofs.ChainLaws.{Left, left-first, left-next, part-size, part-long}
 use borrow.Author.Needs.{needs}
 use Rattle.explore.proofs.chains.find.Statement.{statement}

@@ -7,7 +7,7 @@ use native.Mathlib.Numerals.{add-one}
 use borrow.Author.Count.{below-more, below-none}
 use lib.ListN.{length, getD, take, drop, set, length-set, drop-of-length-le}
 use lib.Seq.{ext-getD, drop-cons, paste, paste-zero, paste-suc}
-use Rattle.explore.specs.Chains.{Says, mixOf, hashFrom, bucketOf}
+use Rattle.explore.specs.Chains.{mixOf, hashFrom}
 use borrow.Author.Needs.{needs}
 use Rattle.explore.proofs.chains.hash.Statement.{statement}
 use Rattle.explore.proofs.chains.hash.Tie as tie
