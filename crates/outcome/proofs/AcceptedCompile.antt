@@ -1,6 +1,6 @@
 -- What a compile without a refusal says: the text was read as a sheet, the numbers reported are its count of situations and the states of its
 -- table, and the used rows hold that table.
-use Prim.Native.Nat.{ℕ, _<_}
+use Prim.Native.Nat.{ℕ, _<_, _≤_}
 use native.Mathlib.Omega.{arith}
 use mathlib.Core.Path.{_≡_}
 use mathlib.Core.List.{List}
@@ -11,26 +11,29 @@ use Rattle.sheet.specs.Form.{Layout}
 use Rattle.sheet.specs.Refusal.{Answer, refused, sheet, AnswerTo, refused1, refused2, refused3, refused4, refused5, refused6, refused7, accepted}
 use Rattle.outcome.specs.Compile.{CompileAnswer, Room, Tables, HoldsTable, CompileOutcome, unread, tooManySituations, tooFewRows, noSolution, compiled}
 
--- A sheet is no refusal, so any number above 0 serves for it.
+-- A sheet is no refusal, so any number of 1 to 7 serves for it.
 numberOf : Answer → ℕ
 numberOf (refused n) = n
 numberOf (sheet s) = 1
 
 module _ {A : Arithmetic} {L : Layout} {text : List ℕ} where
-  some-number : {a : Answer} → AnswerTo A L text a → 0 < numberOf a
+  some-number : {a : Answer} → AnswerTo A L text a → (0 < numberOf a) × (numberOf a ≤ 7)
   unfolding numberOf
-  some-number (refused1 r) = omega arith
-  some-number (refused2 a r) = omega arith
-  some-number (refused3 a b r) = omega arith
-  some-number (refused4 a b c r) = omega arith
-  some-number (refused5 a b c d r) = omega arith
-  some-number (refused6 a b c d e r) = omega arith
-  some-number (refused7 a b c d e f r) = omega arith
-  some-number (accepted a b c d e f g h) = omega arith
+  some-number (refused1 r) = (omega arith, omega arith)
+  some-number (refused2 a r) = (omega arith, omega arith)
+  some-number (refused3 a b r) = (omega arith, omega arith)
+  some-number (refused4 a b c r) = (omega arith, omega arith)
+  some-number (refused5 a b c d r) = (omega arith, omega arith)
+  some-number (refused6 a b c d e r) = (omega arith, omega arith)
+  some-number (refused7 a b c d e f r) = (omega arith, omega arith)
+  some-number (accepted a b c d e f g h) = (omega arith, omega arith)
+
+  pub refusal-in-range : {n : ℕ} → AnswerTo A L text (refused n) → (0 < n) × (n ≤ 7)
+  unfolding numberOf
+  refusal-in-range r = some-number r
 
   pub refusal-positive : {n : ℕ} → AnswerTo A L text (refused n) → 0 < n
-  unfolding numberOf
-  refusal-positive r = some-number r
+  refusal-positive r = refusal-in-range r .0
 
 pub record AcceptedCompile (A : Arithmetic) (L : Layout) (text : List ℕ) (room : Room) (a : CompileAnswer) (t : Tables) : Type 0 where
   pub source : Sheet

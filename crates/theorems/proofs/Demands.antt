@@ -1,14 +1,16 @@
 -- What a call of the compile gives: the file to open first. A call has the sheet's bytes `text`, the room lent, the answer and the contents of the
--- tables afterwards; `CompileOutcome` is the promise of the public function `compile` (crate compile). Demand 1: after a refusal every table is
--- zero, and work tables are zero after every call. Demand 2: the streams along which the table can be followed are the solutions, and each solution
--- extends to the normal form in one way only. Demand 3: 9 exactly if there is no solution, else the table; paths are the records that begin a
--- solution; equal used rows are equal solutions, whatever room was lent. From the laws of the layers below.
-use Prim.Native.Nat.{ℕ, _≤_, _<_}
+-- tables afterwards; `CompileOutcome` is the promise of the public function `compile` (crate compile). Demand 1: an answer has no refusal or one
+-- with a number; after a refusal every table is zero, and work tables are zero after every call; after a refused step the running place is
+-- unchanged. Demand 2: the streams along which the table can be followed are the solutions, and each solution extends to the normal form in one
+-- way only. Demand 3: each refusal exactly where it applies, 9 exactly if there is no solution, else the table, which is settled; paths are the
+-- records that begin a solution, and so are the records that can be followed by steps; equal used rows are equal solutions, whatever room was
+-- lent. From the laws of the layers below.
+use Prim.Native.Nat.{ℕ, _*_, _≤_, _<_}
 use native.Mathlib.Omega.{arith}
 use mathlib.Core.Path.{_≡_, refl, sym, _∙_, ap, subst}
 use mathlib.Core.Logic.{_↔_, _⊎_, inl, inr}
 use mathlib.Core.List.{List, map}
-use lib.ListN.{length}
+use lib.ListN.{length, take, replicate}
 use Rattle.automaton.specs.Table.{IsPath}
 use Rattle.automaton.specs.Stored.{StoredTable, SameUsedRows, entry-at}
 use Rattle.automaton.proofs.Paths.{has-solution}
@@ -27,10 +29,20 @@ use Rattle.sheet.specs.Refusal.{refused, sheet, AnswerTo}
 use Rattle.sheet.proofs.Accepted.{accepted-facts}
 use Rattle.outcome.specs.Room.{zeroTables}
 use Rattle.outcome.specs.Compile.{CompileAnswer, refusedBy, situationBound, Room, roomRows, Tables, allZero, HoldsTable, Explorable, CompileOutcome, unread, tooManySituations, tooFewRows, noSolution, compiled}
+use Rattle.outcome.specs.NormalForm.{NormalAnswer, notGiven, NormalOutcome, unread, tooShort, given}
 use Rattle.outcome.proofs.Answers.{one-sheet, refused≢sheet}
-use Rattle.outcome.proofs.AcceptedCompile.{AcceptedCompile, accepted-compile, refusal-positive}
+use Rattle.outcome.proofs.AcceptedCompile.{AcceptedCompile, accepted-compile, refusal-in-range}
+use Rattle.outcome.proofs.CompileUnique.{compile-unique}
+use Rattle.outcome.proofs.StateCount.{states-at-most-situations}
+use Rattle.stored.specs.Number.{tableBytes}
+use Rattle.step.specs.declared.Place.{Place}
+use Rattle.step.specs.Step.{StepAnswer, refused11, refused12, moves, refusedBy as stepRefused, entryWidth}
+use Rattle.step.specs.RunningPlace.{PlaceAfter, unchanged, changed, PlaceStep}
+use Rattle.step.specs.Followed.{Followed}
+use Rattle.step.proofs.Answers.{answer-refused}
 use Rattle.theorems.specs.Following.{FollowedAlong, BeginsSolution, HaveSameSolutions}
-use Rattle.theorems.proofs.Following.{solution↔followed, path↔begins-solution, used-rows↔same-solutions}
+use Rattle.theorems.proofs.Following.{all-below, solution↔followed, path↔begins-solution, used-rows↔same-solutions}
+use Rattle.theorems.proofs.Steps.{path↔steps}
 
 -- A call of the compile with this text and room gave this answer and left these tables.
 abbrev pub Call : List ℕ → Room → CompileAnswer → Tables → Type 0
@@ -52,6 +64,17 @@ read-known r = record { sides = accepted-facts r .namesKnown }
 
 module _ {text : List ℕ} {room : Room} {a : CompileAnswer} {t : Tables} (call : Call text room a t) where
   -- ---- demand 1
+
+  -- "an answer or a numbered refusal": 0 for an answer, or a refusal of 1 to 10.
+  pub numbered : a .refusal ≤ 10
+  numbered = go call
+    where
+      go : {b : CompileAnswer} {u : Tables} → Call text room b u → b .refusal ≤ 10
+      go (unread r) = omega (arith, refusal-in-range r .1)
+      go (tooManySituations r x y) = omega arith
+      go (tooFewRows r x y) = omega arith
+      go (noSolution e f) = omega arith
+      go (compiled e x) = omega arith
 
   -- "A refusal returns its number with states and situations 0." "After a refused compile every lent table is zero".
   pub refused-zero : 0 < a .refusal → (a ≡ refusedBy (a .refusal)) × (t ≡ allZero room)
@@ -98,6 +121,23 @@ module _ {text : List ℕ} {room : Room} {a : CompileAnswer} {t : Tables} (call 
         → IsPath (entry-at k (t .entries)) (map (letterNumber (s .streams)) r) ↔ BeginsSolution cutTowardZero s r
     path↔solution r h = path↔begins-solution cutTowardZero s (read-known read) (held .table) r h
 
+    few-states : a .states ≤ situationBound
+    few-states = go call accepted
+      where
+        go : {b : CompileAnswer} {u : Tables} → Call text room b u → b .refusal ≡ 0 → b .states ≤ situationBound
+        go (unread r) e = absurd (omega (arith, refusal-in-range r .0))
+        go (tooManySituations r x y) e = absurd (omega arith)
+        go (tooFewRows r x y) e = absurd (omega arith)
+        go (noSolution x f) e = absurd (omega arith)
+        go (compiled {s = q} x h) e = omega (arith, states-at-most-situations cutTowardZero q (h .table .table) (x .counted), x .withinBound)
+
+    -- The same for steps along the bytes of the used rows, from state 0: no step is refused exactly if the record begins a solution.
+    pub steps↔solution : (r : Record) → OfLetters (s .streams) r
+        → ((last : ℕ) × Followed (tableBytes entryWidth (take (a .states * k) (t .entries))) k 0 (map (letterNumber (s .streams)) r) last) ↔ BeginsSolution cutTowardZero s r
+    steps↔solution r h =
+        let steps = path↔steps (held .table) few-states (map (letterNumber (s .streams)) r) (all-below r h) in
+        (λ f. path↔solution r h .0 (steps .1 f), λ b. steps .0 (path↔solution r h .1 b))
+
     -- The numbers reported are the numbers of states of the sheet's table and of its distinct situations.
     pub situations-counted : SituationCount cutTowardZero s (a .situations)
     situations-counted =
@@ -106,6 +146,38 @@ module _ {text : List ℕ} {room : Room} {a : CompileAnswer} {t : Tables} (call 
 
     pub table-stored : StoredTable (SolutionWord cutTowardZero s) k (a .states) (t .entries) (t .finals)
     table-stored = held .table
+
+  -- ---- demand 3, which answer is given
+
+  -- Answer and tables are settled: a call with the same bytes and the same room gives the same.
+  pub one-outcome : {b : CompileAnswer} {u : Tables} → Call text room b u → (a ≡ b) × (t ≡ u)
+  one-outcome c = compile-unique cutTowardZero threeHeaderLines text room call c
+
+  -- "8: all lent tables hold 4,096 rows or more, and there are more situations."
+  pub eight↔ : (a .refusal ≡ 8)
+      ↔ ((s : Sheet) × ReadAs text s × (situationBound ≤ roomRows room (letterCount (s .streams))) × MoreSituations cutTowardZero s situationBound)
+  eight↔ = (go call, λ x. ap (λ b. b .refusal) (one-outcome (tooManySituations (x .1) (x .2) (x .3)) .0))
+    where
+      go : {b : CompileAnswer} {u : Tables} → Call text room b u → b .refusal ≡ 8
+          → (s : Sheet) × ReadAs text s × (situationBound ≤ roomRows room (letterCount (s .streams))) × MoreSituations cutTowardZero s situationBound
+      go (unread r) e = absurd (omega (arith, refusal-in-range r .1))
+      go (tooManySituations {s = q} r x y) e = (q, r, x, y)
+      go (tooFewRows r x y) e = absurd (omega arith)
+      go (noSolution x f) e = absurd (omega arith)
+      go (compiled x h) e = absurd (omega arith)
+
+  -- "10: the fewest rows any lent table holds, R, is below 4,096, and the situations exceed R"
+  pub ten↔ : (a .refusal ≡ 10)
+      ↔ ((s : Sheet) × ReadAs text s × (roomRows room (letterCount (s .streams)) < situationBound) × MoreSituations cutTowardZero s (roomRows room (letterCount (s .streams))))
+  ten↔ = (go call, λ x. ap (λ b. b .refusal) (one-outcome (tooFewRows (x .1) (x .2) (x .3)) .0))
+    where
+      go : {b : CompileAnswer} {u : Tables} → Call text room b u → b .refusal ≡ 10
+          → (s : Sheet) × ReadAs text s × (roomRows room (letterCount (s .streams)) < situationBound) × MoreSituations cutTowardZero s (roomRows room (letterCount (s .streams)))
+      go (unread r) e = absurd (omega (arith, refusal-in-range r .1))
+      go (tooManySituations r x y) e = absurd (omega arith)
+      go (tooFewRows {s = q} r x y) e = (q, r, x, y)
+      go (noSolution x f) e = absurd (omega arith)
+      go (compiled x h) e = absurd (omega arith)
 
   -- ---- demand 3, where none of refusals 1 to 8 and 10 applies
 
@@ -138,6 +210,46 @@ module _ {text : List ℕ} {room : Room} {a : CompileAnswer} {t : Tables} (call 
             → (a .refusal ≡ 9) ↔ ((w : Streams) → Solves s w → ⊥)
         go (inl x) = (λ e. x .1, λ f. x .0)
         go (inr x) = (λ e. absurd (omega (arith, x .0)), λ f. absurd (has-solution (x .2 .table .table) (λ w b h. f _ (h .solves))))
+
+  -- None of refusals 1 to 8 and 10 is given exactly if none of them applies.
+  pub none↔ : ((a .refusal ≡ 0) ⊎ (a .refusal ≡ 9)) ↔ ((s : Sheet) × (m : ℕ) × NoneOfTheOthers text room s m)
+  none↔ = (go call, λ x. elim (nine-or-table (x .2)) [ inl n ↦ inr (n .0) | inr c ↦ inl (c .0) ])
+    where
+      go : {b : CompileAnswer} {u : Tables} → Call text room b u → (b .refusal ≡ 0) ⊎ (b .refusal ≡ 9) → (s : Sheet) × (m : ℕ) × NoneOfTheOthers text room s m
+      go (unread r) (inl e) = absurd (omega (arith, refusal-in-range r .0))
+      go (unread r) (inr e) = absurd (omega (arith, refusal-in-range r .1))
+      go (tooManySituations r x y) (inl e) = absurd (omega arith)
+      go (tooManySituations r x y) (inr e) = absurd (omega arith)
+      go (tooFewRows r x y) (inl e) = absurd (omega arith)
+      go (tooFewRows r x y) (inr e) = absurd (omega arith)
+      go (noSolution {s = q} {m = c} x f) e = (q, c, x)
+      go (compiled {s = q} {m = c} x h) e = (q, c, x)
+
+-- ---- demand 1, the normal form and the step
+
+-- "The normal form can meet 1 to 7 and 10, and leaves its list zero."
+pub refused-list-zero : {E : Type 0} {blank : E} {encoded : List ℕ → Sheet → List E} {text : List ℕ} {room : ℕ} {b : NormalAnswer} {l : List E}
+    → NormalOutcome blank encoded cutTowardZero threeHeaderLines text room b l → 0 < b .refusal → (b ≡ notGiven (b .refusal)) × (l ≡ replicate room blank)
+refused-list-zero (unread r) h = (refl, refl)
+refused-list-zero (tooShort r x) h = (refl, refl)
+refused-list-zero (given r x) h = absurd (omega arith)
+
+-- "after a refused step the running place is unchanged", and the refusal is 11 or 12.
+module _ {table : List ℕ} {letters letter : ℕ} {before after : Place} {r : ℕ} (step : PlaceStep table letters letter before r after) (refused : 65536 ≤ r) where
+  pub refused-step-unchanged : after ≡ before
+  refused-step-unchanged = go (step .place)
+    where
+      go : {p : Place} → PlaceAfter table letters letter before r p → p ≡ before
+      go (unchanged x) = refl
+      go (changed x) = absurd (x (answer-refused (step .answers) refused))
+
+  pub refused-step-numbered : (r ≡ stepRefused 11) ⊎ (r ≡ stepRefused 12)
+  refused-step-numbered = go (step .answers) refused
+    where
+      go : {q : ℕ} → StepAnswer table letters (before .state) letter q → 65536 ≤ q → (q ≡ stepRefused 11) ⊎ (q ≡ stepRefused 12)
+      go (refused11 x) h = inl refl
+      go (refused12 x y) h = inr refl
+      go (moves x y) h = elim (answer-refused (moves x y) h) [ inl z ↦ absurd (x z) | inr z ↦ absurd (y z) ]
 
 -- ---- demand 2, the normal form
 

@@ -54,7 +54,7 @@ getD-letter [] i h b = absurd (omega arith)
 getD-letter (l ∷ r) zero h b = h l (List·Memᴰ·head refl)
 getD-letter (l ∷ r) (suc i) h b = getD-letter r i (λ m p. h m (List·Memᴰ·tail p)) (omega arith)
 
-all-below : {ss : List Stream} (r : Record) → OfLetters ss r → AllBelow (letterCount ss) (map (letterNumber ss) r)
+pub all-below : {ss : List Stream} (r : Record) → OfLetters ss r → AllBelow (letterCount ss) (map (letterNumber ss) r)
 all-below [] h = tt
 all-below (l ∷ r) h = (letterNumber-bound (h l (List·Memᴰ·head refl)), all-below r (λ m p. h m (List·Memᴰ·tail p)))
 
