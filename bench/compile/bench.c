@@ -12,10 +12,7 @@
 #include <string.h>
 #include <time.h>
 
-// the archive's function
-compile_function compile_c;
-
-enum { KEY = 16, WORK = 6, TEXT = 16384 };
+enum { KEY = COMPILE_KEY, WORK = 6, TEXT = 16384 };
 
 typedef struct { size_t entry_count, rows; uint16_t *entries; uint8_t *finals; uint32_t *keys, *work[WORK]; } room;
 

@@ -1,4 +1,4 @@
-// The entry by which the benchmark's C program calls `compile`. A slice is a pointer and a length there.
+// The entry by which C programs call `compile`. A slice is a pointer and a length there.
 ghost use Rattle.meaning.specs.Arithmetic.{cutTowardZero};
 ghost use Rattle.sheet.specs.Form.{threeHeaderLines};
 ghost use Rattle.compile.specs.Lent.{roomOf, tablesOf, answerOf};

@@ -31,7 +31,8 @@ pub record IsUntouched (before after : Lent) (full : Bool) (count : ℕ) : Type 
 
 -- `ready` says whether the sheet can be explored in the tables. If so, the tables hold what the search leaves; if not, they are as they were.
 -- Left free after a search: the chains (`heads` and `links`); what stands in keys, entries and flags behind the found rows; and, where there are
--- more situations than the limit, the entries of the found rows but for those by which a row is first met.
+-- more situations than the limit, which of the keys that can be reached the rows hold, and the rows' entries but for the order in which they
+-- first meet rows.
 pub record ExploresStored (A : Arithmetic) (K : Store) (letters limit : ℕ) (before after : Lent) (ready full : Bool) (count : ℕ) : Type 0 where
   pub answer : Says ready (IsExplorable K letters limit before)
   pub searched : ready ≡ true → Searched A K letters limit (everyMark 0 (K .relations)) (after .keys) (after .entries) (after .flags) full count

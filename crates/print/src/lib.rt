@@ -64,7 +64,7 @@ fn append_natural(out: &mut [u8], at: usize, value: u64) -> usize
     append_byte(out, to, digit(value % 10))
 }
 
-// The magnitude of a number below 0; one more than the number keeps the difference within the signed numbers.
+// The magnitude of a number. Below 0 it is one more than -1 less the number, so that no difference leaves the signed numbers.
 fn magnitude(value: i64) -> u64
     ensures { λ r. ⌜ r ≡ natAbs value ⌝ }
 {

@@ -394,7 +394,7 @@ fn capped(value: u64) -> u64
     }
 }
 
-// The integer with this magnitude, at most the bound's successor, and sign.
+// The integer with this magnitude, at most the bound, and this sign.
 fn signed(value: u64, negative: bool) -> i64
     requires { ⌜ value ≤ 1000000000 ⌝ }
     ensures { λ r. ⌜ r ≡ withSign negative value ⌝ }

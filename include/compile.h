@@ -1,0 +1,47 @@
+/* compile.h: compile a rule sheet into a table from a C program.
+ *
+ * Link with the archive that `rt staticlib compile_c` writes, target/staticlib/libcompile_c.a. It is for x86-64 Linux,
+ * allocates nothing, keeps no state of its own, and always returns.
+ *
+ *
+ * The arguments
+ *
+ * Each is a pointer and the number of elements there; no pointer is null, and no two tables overlap. Any bytes are taken
+ * as a sheet, and any lengths and contents of the tables. A row takes one entry for each letter of the sheet, one final
+ * byte, COMPILE_KEY numbers in `keys` and one number in each of the six other work tables. The fewest rows that a table
+ * holds is the number of rows lent, R.
+ *
+ *
+ * The answer
+ *
+ * refusal 0: the table stands in the first `states` rows. The entry of a state for a letter is
+ *
+ *     entries[state * letters + letter]
+ *
+ * the number of the next state, or 65,535 for none; `finals[state]` is 1 or 0. `situations` is the number of distinct
+ * situations. All room beyond these rows is zero.
+ *
+ * refusal 1 to 10: document 01's number; states and situations are 0, and every table is zero. 8: more than 4,096
+ * situations, and R is 4,096 or more; 10: more situations than R, and R is below 4,096.
+ *
+ * The work tables are zero after every call. To follow the table with step.h, pass the used rows alone, as two bytes an
+ * entry with the low byte first: on x86-64 these are the first 2 * states * letters bytes at `entries`.
+ */
+#ifndef COMPILE_H
+#define COMPILE_H
+#include <stddef.h>
+#include <stdint.h>
+
+enum { COMPILE_KEY = 16 };
+
+struct compile_answer {
+    uint32_t refusal;
+    uint32_t states;
+    uint32_t situations;
+};
+
+struct compile_answer compile_c(const uint8_t *text, size_t length, uint16_t *entries, size_t entry_count, uint8_t *finals, size_t final_count,
+    uint32_t *keys, size_t key_count, uint32_t *live, size_t live_count, uint32_t *class_names, size_t class_count, uint32_t *next, size_t next_count,
+    uint32_t *heads, size_t head_count, uint32_t *links, size_t link_count, uint32_t *shared, size_t shared_count);
+
+#endif
