@@ -15,7 +15,8 @@ use Rattle.meaning.specs.Expression.{Constraint, Stream, Sheet, rangeOf,
 use Rattle.meaning.specs.Letter.{Letter, Record, IsLetter, OfLetters, letterCount, letterOf, spell, recordOf, SolutionWord}
 use Rattle.meaning.specs.Situation.{lawful, situation}
 use Rattle.meaning.specs.Evaluation.{allDone}
-use Rattle.meaning.proofs.Scope.{AgreeBelow, AgreeBelow-sym, NamesKnown, Solution-agree}
+use Rattle.meaning.specs.Scope.{AgreeBelow, NamesKnown}
+use Rattle.meaning.proofs.Scope.{AgreeBelow-sym, Solution-agree}
 use Rattle.meaning.proofs.Letter.{letter-within, letterOf-letter}
 use Rattle.meaning.proofs.Facts.{getD-member}
 use Rattle.meaning.proofs.Beginning.{beginning, appendWord, length-beginning, appendWord-left, appendWord-right, beginning-appendWord, map-appendWord}

@@ -17,9 +17,10 @@ use Rattle.meaning.specs.Value.{Streams}
 use Rattle.meaning.specs.Arithmetic.{Arithmetic, LawfulArithmetic, Within}
 use Rattle.meaning.specs.Expression.{Expression, integer, Sheet, noStream, rangeOf, value, Meets, Solution}
 use Rattle.meaning.specs.Interval.{interval, NamesBelow}
-use Rattle.meaning.specs.NormalForm.{allAdded, allRewritten, allEntries, normalForm}
+use Rattle.meaning.specs.NormalForm.{allAdded, allRewritten, allEntries, normalForm, ExtendsUniquely}
 use Rattle.meaning.proofs.Lists.{cond-true, cond-false, All, All-append, All-member, member-All, All-getD, below-sum, getD-map}
-use Rattle.meaning.proofs.Scope.{AgreeBelow, AgreeBelow-sym, NamesKnown, value-agree, Solution-agree}
+use Rattle.meaning.specs.Scope.{AgreeBelow, NamesKnown}
+use Rattle.meaning.proofs.Scope.{AgreeBelow-sym, value-agree, Solution-agree}
 use Rattle.meaning.proofs.Interval.{interval-sound}
 pub mod Standing
 pub mod Names
@@ -28,13 +29,6 @@ pub mod Primitive
 pub mod Example
 use Standing.{StandFor, allEntries-stand, allRewritten-meets}
 use Names.{allAdded-below, sides-All, streams-length}
-
--- Exactly one solution of the normal form agrees with w on the sheet's streams.
-pub record ExtendsUniquely (A : Arithmetic) (s : Sheet) (w : Streams) : Type 0 where
-  pub extension : Streams
-  pub agrees : AgreeBelow (length (s .streams)) extension w
-  pub solves : Solution A (normalForm A s) extension
-  pub only : (v : Streams) → AgreeBelow (length (s .streams)) v w → Solution A (normalForm A s) v → AgreeBelow (length (normalForm A s .streams)) v extension
 
 -- ---- streams that stand for expressions, by number
 

@@ -10,17 +10,10 @@ use Rattle.meaning.specs.Value.{Value, truth, bit, Streams}
 use Rattle.meaning.specs.Arithmetic.{Arithmetic, Within, apply}
 use Rattle.meaning.specs.Expression.{Expression, integer, name, first, next, negation, binary, conditional, fby, Sign, holds, Constraint, always, until, Sheet, rangeOf, Until, value, Meets, Solution}
 use Rattle.meaning.specs.Interval.{NamesBelow, SidesBelow}
-
--- The first n streams are the same.
-pub record AgreeBelow (n : ℕ) (w v : Streams) : Type 0 where
-  pub same : (k i : ℕ) → k < n → w k i ≡ v k i
+use Rattle.meaning.specs.Scope.{AgreeBelow, NamesKnown}
 
 pub AgreeBelow-sym : {n : ℕ} {w v : Streams} → AgreeBelow n w v → AgreeBelow n v w
 AgreeBelow-sym g = record { same = λ k i l. sym (g .same k i l) }
-
--- Every name in a constraint of the sheet is one of the sheet's streams.
-pub record NamesKnown (s : Sheet) : Type 0 where
-  pub sides : (c : Constraint) → List·Memᴰ c (s .constraints) → SidesBelow (length (s .streams)) c
 
 -- The value of an `if`, and what a sign and an `until` ask, depend only on the values of their parts.
 pub cond-cong : {c c′ a a′ b b′ : Value} → c ≡ c′ → a ≡ a′ → b ≡ b′ → cond (truth c) a b ≡ cond (truth c′) a′ b′

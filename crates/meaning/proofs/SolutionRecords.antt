@@ -16,7 +16,8 @@ use Rattle.meaning.specs.Letter.{Letter, Record, IsLetter, none, more, l
 use Rattle.meaning.specs.Window.{D, allUntils}
 use Rattle.meaning.specs.Situation.{done, permits, lawful, situation}
 use Rattle.meaning.specs.Evaluation.{allDone}
-use Rattle.meaning.proofs.Scope.{AgreeBelow, AgreeBelow-sym, NamesKnown, value-agree, Meets-agree}
+use Rattle.meaning.specs.Scope.{AgreeBelow, NamesKnown}
+use Rattle.meaning.proofs.Scope.{AgreeBelow-sym, value-agree, Meets-agree}
 use Rattle.meaning.proofs.Letter.{letter-within, letterOf-letter}
 use Rattle.meaning.proofs.Facts.{all-at, all-of, everyBefore-at, everyBefore-of, someBefore-cong}
 use Rattle.meaning.proofs.Bounds.{until-member}

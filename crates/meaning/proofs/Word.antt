@@ -12,8 +12,9 @@ use lib.Seq.{ext-getD}
 use Rattle.meaning.specs.Value.{Value, Streams}
 use Rattle.meaning.specs.Arithmetic.{Within, Arithmetic}
 use Rattle.meaning.specs.Expression.{Stream, Sheet, rangeOf, Solution}
-use Rattle.meaning.specs.Letter.{Letter, IsLetter, none, more, letterCount, letterNumber, letterOf, spell, SolutionWord}
-use Rattle.meaning.proofs.Scope.{AgreeBelow, AgreeBelow-sym, NamesKnown, Solution-agree}
+use Rattle.meaning.specs.Letter.{Letter, IsLetter, none, more, letterCount, letterNumber, letterOf, spell, letterWith, wordOf, SolutionWord}
+use Rattle.meaning.specs.Scope.{AgreeBelow, NamesKnown}
+use Rattle.meaning.proofs.Scope.{AgreeBelow-sym, Solution-agree}
 use Rattle.meaning.proofs.Interval.{InRange}
 use Rattle.meaning.proofs.Letter.{letter-within, letterNumber-bound, letterOf-letterNumber, letterOf-letter, letterNumber-letterOf, letter-letterOf}
 
@@ -41,11 +42,6 @@ within-letter [] (v ∷ l) e h = absurd (omega arith)
 within-letter (s ∷ ss) [] e h = absurd (omega arith)
 within-letter (s ∷ ss) (v ∷ l) e h = more (h zero (omega arith)) (within-letter ss l (omega arith) (λ k b. h (suc k) (omega arith)))
 
--- The letter with these values.
-abbrev pub letterWith : List Stream → (ℕ → Value) → Letter
-letterWith [] f = []
-letterWith (s ∷ ss) f = f zero ∷ letterWith ss (λ k. f (suc k))
-
 letterWith-letter : (ss : List Stream) (f : ℕ → Value) → ((k : ℕ) → k < length ss → Within (rangeOf ss k) (f k)) → IsLetter ss (letterWith ss f)
 letterWith-letter [] f h = none
 letterWith-letter (s ∷ ss) f h = more (h zero (omega arith)) (letterWith-letter ss (λ k. f (suc k)) (λ k l. h (suc k) (omega arith)))
@@ -66,10 +62,6 @@ letterOf-injective : (ss : List Stream) (m n : ℕ) → m < letterCount ss → n
 letterOf-injective ss m n h h′ g =
     let e = ext-getD (pos 0) (letterOf ss m) (letterOf ss n) (letterOf-length ss m ∙ sym (letterOf-length ss n)) (λ k l. g k (rw letterOf-length at l)) in
     sym (letterNumber-letterOf ss m h) ∙ ap (letterNumber ss) e ∙ letterNumber-letterOf ss n h′
-
--- The word whose letters have the values of w.
-abbrev pub wordOf : List Stream → Streams → ℕ → ℕ
-wordOf ss w i = letterNumber ss (letterWith ss (λ k. w k i))
 
 pub wordOf-spells : (ss : List Stream) (w : Streams) → InRange ss w → Spells ss (wordOf ss w) w
 wordOf-spells ss w ranged =

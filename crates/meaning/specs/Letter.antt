@@ -1,5 +1,5 @@
 -- Letters and their numbers, records, and the streams that a word of letter numbers spells (document 01, "Letters, situations, table").
-use Prim.Native.Nat.{ℕ, suc, _+_, _*_, _/_, _%_, _<_}
+use Prim.Native.Nat.{ℕ, zero, suc, _+_, _*_, _/_, _%_, _<_}
 use mathlib.Core.Bool.{cond}
 use mathlib.Core.List.{List, [], _∷_, map, List·Memᴰ}
 use lib.IntN.{ℤ, pos, natAbs, _+ℤ_, _-ℤ_}
@@ -48,6 +48,14 @@ letterOf (s ∷ ss) n = (s .range .low +ℤ pos (n / letterCount ss)) ∷ letter
 -- The streams whose letter at each time is the one with the word's number; 0 beyond the sheet's streams, where nothing is read.
 abbrev pub spell : List Stream → (ℕ → ℕ) → Streams
 spell ss x k i = getD (letterOf ss (x i)) k (pos 0)
+
+-- The letter with these values, and the word whose letters have the values of w.
+abbrev pub letterWith : List Stream → (ℕ → Value) → Letter
+letterWith [] f = []
+letterWith (s ∷ ss) f = f zero ∷ letterWith ss (λ k. f (suc k))
+
+abbrev pub wordOf : List Stream → Streams → ℕ → ℕ
+wordOf ss w i = letterNumber ss (letterWith ss (λ k. w k i))
 
 -- A record's values at its times; 0 beyond it, where nothing is judged.
 abbrev pub streamsOf : Record → Streams

@@ -2,6 +2,7 @@ pub mod Value
 pub mod Arithmetic
 pub mod Expression
 pub mod Interval
+pub mod Scope
 pub mod Letter
 pub mod Window
 pub mod Situation

@@ -2,10 +2,11 @@
 use Prim.Native.Nat.{ℕ, zero, suc, _+_}
 use mathlib.Core.List.{List, [], _∷_, _++_, map}
 use lib.ListN.{length}
-use Rattle.meaning.specs.Value.{Comparison, equal}
+use Rattle.meaning.specs.Value.{Comparison, equal, Streams}
 use Rattle.meaning.specs.Arithmetic.{Arithmetic}
-use Rattle.meaning.specs.Expression.{Expression, integer, name, first, next, negation, binary, conditional, fby, Sign, comparison, Constraint, always, until, Stream, Sheet}
+use Rattle.meaning.specs.Expression.{Expression, integer, name, first, next, negation, binary, conditional, fby, Sign, comparison, Constraint, always, until, Stream, Sheet, Solution}
 use Rattle.meaning.specs.Interval.{interval}
+use Rattle.meaning.specs.Scope.{AgreeBelow}
 
 -- What each added stream stands for: "`next` adds two streams [..], `fby` three streams"; "Added streams are numbered as their operators
 -- stand in the sheet, those of one operator as 000 numbers them." The left operand's operators stand before an infix `fby`.
@@ -113,3 +114,10 @@ fbysIn (negation e) = fbysIn e
 fbysIn (binary o a b) = fbysIn a + fbysIn b
 fbysIn (conditional c a b) = fbysIn c + fbysIn a + fbysIn b
 fbysIn (fby a b) = suc (fbysIn a + fbysIn b)
+
+-- "Each solution extends to the normal form in one way only": exactly one solution of the normal form agrees with w on the sheet's streams.
+pub record ExtendsUniquely (A : Arithmetic) (s : Sheet) (w : Streams) : Type 0 where
+  pub extension : Streams
+  pub agrees : AgreeBelow (length (s .streams)) extension w
+  pub solves : Solution A (normalForm A s) extension
+  pub only : (v : Streams) → AgreeBelow (length (s .streams)) v w → Solution A (normalForm A s) v → AgreeBelow (length (normalForm A s .streams)) v extension

@@ -15,7 +15,7 @@ use Rattle.meaning.specs.Expression.{Sheet, rangeOf, Solution}
 use Rattle.meaning.specs.NormalForm.{normalForm}
 use Rattle.meaning.proofs.Arithmetic.{cutTowardZero-lawful}
 use Rattle.meaning.proofs.Lists.{All, All-map}
-use Rattle.meaning.proofs.Scope.{AgreeBelow, NamesKnown}
+use Rattle.meaning.specs.Scope.{AgreeBelow, NamesKnown}
 use Rattle.meaning.proofs.NormalForm.{range-kept, cut-back, extends-uniquely}
 use Rattle.meaning.proofs.NormalForm.Names.{streams-length}
 use Rattle.sheet.specs.Form.{threeHeaderLines}

@@ -19,7 +19,7 @@ use Rattle.meaning.specs.Arithmetic.{Arithmetic}
 use Rattle.meaning.specs.Expression.{Sheet, Solution}
 use Rattle.meaning.specs.Letter.{letterCount, SolutionWord}
 use Rattle.meaning.specs.Situation.{SituationCount, MoreSituations}
-use Rattle.meaning.proofs.Scope.{NamesKnown}
+use Rattle.meaning.specs.Scope.{NamesKnown}
 use Rattle.meaning.proofs.Word.{spelled-once, solution-word}
 use Rattle.meaning.proofs.Exploration.{Situation-discrete, counted-or-more}
 use Rattle.sheet.specs.Form.{Layout}

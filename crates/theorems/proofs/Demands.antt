@@ -19,10 +19,10 @@ use Rattle.meaning.specs.Arithmetic.{cutTowardZero}
 use Rattle.meaning.specs.Expression.{Stream, Sheet, Solution}
 use Rattle.meaning.specs.Letter.{Record, OfLetters, letterCount, letterNumber, SolutionWord}
 use Rattle.meaning.specs.Situation.{SituationCount, MoreSituations}
-use Rattle.meaning.specs.NormalForm.{normalForm}
-use Rattle.meaning.proofs.Scope.{AgreeBelow, NamesKnown}
+use Rattle.meaning.specs.NormalForm.{normalForm, ExtendsUniquely}
+use Rattle.meaning.specs.Scope.{AgreeBelow, NamesKnown}
 use Rattle.meaning.proofs.Arithmetic.{cutTowardZero-lawful}
-use Rattle.meaning.proofs.NormalForm.{ExtendsUniquely, extends-uniquely, cut-back}
+use Rattle.meaning.proofs.NormalForm.{extends-uniquely, cut-back}
 use Rattle.meaning.proofs.Count.{count-unique, count-excludes-more}
 use Rattle.sheet.specs.Form.{threeHeaderLines}
 use Rattle.sheet.specs.Refusal.{refused, sheet, AnswerTo}

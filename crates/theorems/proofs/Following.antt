@@ -20,11 +20,11 @@ use Rattle.automaton.proofs.Paths.{run-walk, path↔begins, follows↔paths}
 use Rattle.meaning.specs.Value.{Streams}
 use Rattle.meaning.specs.Arithmetic.{Arithmetic}
 use Rattle.meaning.specs.Expression.{Stream, Constraint, Sheet, Solution}
-use Rattle.meaning.specs.Letter.{Letter, Record, IsLetter, none, more, OfLetters, letterCount, letterNumber, letterOf, spell, streamsOf, SolutionWord}
+use Rattle.meaning.specs.Letter.{Letter, Record, IsLetter, none, more, OfLetters, letterCount, letterNumber, letterOf, spell, streamsOf, letterWith, wordOf, SolutionWord}
 use Rattle.meaning.proofs.Lists.{getD-map}
-use Rattle.meaning.proofs.Scope.{NamesKnown}
+use Rattle.meaning.specs.Scope.{NamesKnown}
 use Rattle.meaning.proofs.Letter.{letterNumber-bound, letterOf-letterNumber}
-use Rattle.meaning.proofs.Word.{letterWith, wordOf, wordOf-spells, spell-ranged, solution-word}
+use Rattle.meaning.proofs.Word.{wordOf-spells, spell-ranged, solution-word}
 use Rattle.outcome.proofs.SheetWords.{solutions-settle}
 use Rattle.theorems.specs.Following.{FollowedAlong, BeginsSolution, HaveSameSolutions}
 

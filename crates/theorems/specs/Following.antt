@@ -9,8 +9,7 @@ use Rattle.automaton.specs.Stored.{entry-at, final-at}
 use Rattle.meaning.specs.Value.{Streams}
 use Rattle.meaning.specs.Arithmetic.{Arithmetic, Within}
 use Rattle.meaning.specs.Expression.{Stream, Sheet, rangeOf, Solution}
-use Rattle.meaning.specs.Letter.{Record, letterCount, streamsOf}
-use Rattle.meaning.proofs.Word.{wordOf}
+use Rattle.meaning.specs.Letter.{Record, letterCount, streamsOf, wordOf}
 
 -- "the table can be followed along them from its start without a missing entry and meets final states again and again": of streams in their
 -- ranges, since other values have no letter.

@@ -10,7 +10,7 @@ use Rattle.meaning.specs.Expression.{Expression, integer, name, first, n
 use Rattle.meaning.specs.Interval.{NamesBelow, SidesBelow}
 use Rattle.meaning.specs.NormalForm.{added, addedCount, rewritten, addedEntries, addedBy, rewrittenConstraint, entriesBy, allAdded, allRewritten, allEntries, normalForm}
 use Rattle.meaning.proofs.Lists.{All, All-append, All-member, member-All, All-map}
-use Rattle.meaning.proofs.Scope.{NamesKnown}
+use Rattle.meaning.specs.Scope.{NamesKnown}
 
 -- ---- what the added streams stand for
 
