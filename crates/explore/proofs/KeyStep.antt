@@ -95,17 +95,17 @@ module _ {A : Arithmetic} (lawfulA : LawfulArithmetic A) (s : Sheet) (accepted :
 
   longer-lawful : D cs ≤ length r → isLawful A s (r ++ (a ∷ [])) ≡ all (λ c. permits A (streamsOf longer) c now) cs
   longer-lawful h =
-      let rec = recordOf ss r in
-      let more = rec ++ (letterOf ss a ∷ []) in
+      let wholeRecord = recordOf ss r in
+      let more = wholeRecord ++ (letterOf ss a ∷ []) in
       ap (lawful A cs) snoc-record
-      ∙ lawful-snoc A cs rec (letterOf ss a) (omega (arith, record-long A s r))
-      ∙ ap (λ b. b && all (λ c. permits A (streamsOf more) c (length rec - D cs)) cs) is-lawful
+      ∙ lawful-snoc A cs wholeRecord (letterOf ss a) (omega (arith, record-long A s r))
+      ∙ ap (λ b. b && all (λ c. permits A (streamsOf more) c (length wholeRecord - D cs)) cs) is-lawful
       ∙ (λ i. all (λ c. permits A (streamsOf (sym snoc-record i)) c (record-long A s r i - D cs)) cs)
 
   marks-before : untilMarks A cs (recordOf ss r) ≡ marksBefore
   marks-before =
-      let rec = recordOf ss r in
-      untilMarks-begins A cs (streamsOf (rec ++ (letterOf ss a ∷ []))) rec (append-begins rec (letterOf ss a ∷ []))
+      let wholeRecord = recordOf ss r in
+      untilMarks-begins A cs (streamsOf (wholeRecord ++ (letterOf ss a ∷ []))) wholeRecord (append-begins wholeRecord (letterOf ss a ∷ []))
       ∙ (λ i. map (λ c. done A (streamsOf (sym snoc-record i)) c (record-long A s r i - D cs)) (allUntils cs))
 
   longer-marks : D cs ≤ length r → map (λ c. done A (streamsOf longer) c (suc now)) (allUntils cs) ≡ untilMarks A cs longer

@@ -84,7 +84,7 @@ module _ (A : Arithmetic) (s : Sheet) where
   ss = s .streams
 
   shown-situation : (r : List ℕ) → AllBelow (letterNumbers A s) r → isLawful A s r ≡ true → IsSituation A s (situationOf A s r)
-  shown-situation r h e = record { rec = recordOf ss r; letters = below-letters ss r h; isLawful = T-of (isLawful A s r) e; same = refl }
+  shown-situation r h e = record { lawfulRecord = recordOf ss r; letters = below-letters ss r h; isLawful = T-of (isLawful A s r) e; same = refl }
 
   -- ---- rows count the situations
 
@@ -140,31 +140,31 @@ module _ (A : Arithmetic) (s : Sheet) where
   module _ (K : Store) (every : ℕ) (laws : KeyLaws K every) where
     -- a lawful record whose key it is
     record Shows (key : List ℕ) : Type 0 where
-      rec : List ℕ
-      letters : AllBelow (letterNumbers A s) rec
-      is-lawful : isLawful A s rec ≡ true
-      key-is : keyOf A s rec ≡ key
+      lawfulRecord : List ℕ
+      letters : AllBelow (letterNumbers A s) lawfulRecord
+      is-lawful : isLawful A s lawfulRecord ≡ true
+      key-is : keyOf A s lawfulRecord ≡ key
 
     start-shows : Shows startKey
-    start-shows = record { rec = []; letters = tt; is-lawful = true-of-T (isLawful A s []) (lawful-short A (s .constraints) [] (omega arith)); key-is = laws .empty }
+    start-shows = record { lawfulRecord = []; letters = tt; is-lawful = true-of-T (isLawful A s []) (lawful-short A (s .constraints) [] (omega arith)); key-is = laws .empty }
 
     reach-shows : {key : List ℕ} → Reach A K (letterNumbers A s) key → Shows key
     reach-shows start = start-shows
     reach-shows (step {key} a l h e) =
         let x = reach-shows h in
-        let lawful-more : isLawful A s (x .rec ++ (a ∷ [])) ≡ true = sym (laws .allows (x .rec) (x .letters) (x .is-lawful) a l) ∙ ap (λ k. judgedAfter A K k a .ok) (x .key-is) ∙ e in
+        let lawful-more : isLawful A s (x .lawfulRecord ++ (a ∷ [])) ≡ true = sym (laws .allows (x .lawfulRecord) (x .letters) (x .is-lawful) a l) ∙ ap (λ k. judgedAfter A K k a .ok) (x .key-is) ∙ e in
         record {
-          rec = x .rec ++ (a ∷ []);
-          letters = below-snoc (letterNumbers A s) (x .rec) a (x .letters) l;
+          lawfulRecord = x .lawfulRecord ++ (a ∷ []);
+          letters = below-snoc (letterNumbers A s) (x .lawfulRecord) a (x .letters) l;
           is-lawful = lawful-more;
-          key-is = sym (laws .leads (x .rec) (x .letters) (x .is-lawful) a l lawful-more) ∙ ap (λ k. keyAfter A K k a) (x .key-is);
+          key-is = sym (laws .leads (x .lawfulRecord) (x .letters) (x .is-lawful) a l lawful-more) ∙ ap (λ k. keyAfter A K k a) (x .key-is);
         }
 
     module _ {limit n : ℕ} {keys entries flags : List ℕ} {full : Bool} (z : Searched A K (letterNumbers A s) limit every keys entries flags full n) where
       -- the record of a row; that of the first row is the empty one
       pick : (i : ℕ) → Dec (i < n) → List ℕ
       pick zero d = []
-      pick (suc i) (yes h) = reach-shows (z .known .reached (suc i) h) .rec
+      pick (suc i) (yes h) = reach-shows (z .known .reached (suc i) h) .lawfulRecord
       pick (suc i) (no h) = []
 
       pick-shows : (i : ℕ) (h : i < n) (d : Dec (i < n)) → (AllBelow (letterNumbers A s) (pick i d)) × (isLawful A s (pick i d) ≡ true) × (keyOf A s (pick i d) ≡ rowAt keys i)
@@ -226,20 +226,20 @@ module _ (A : Arithmetic) (s : Sheet) where
           let x = reach-shows (o .reached) in
           let f : ℕ → Situation = λ i. situationOf A s (shown i) in
           record {
-            list = situationOf A s (x .rec) ∷ upTo f n;
+            list = situationOf A s (x .lawfulRecord) ∷ upTo f n;
             distinct = (
               λ m.
-                  let p = upTo-origin f n (situationOf A s (x .rec)) m in
+                  let p = upTo-origin f n (situationOf A s (x .lawfulRecord)) m in
                   let y = shown-shows (p .0) (p .1) in
-                  o .new (p .0) (p .1) (sym (y .2) ∙ sym (laws .situation-key (x .rec) (shown (p .0)) (x .letters) (y .0) (p .2)) ∙ x .key-is),
+                  o .new (p .0) (p .1) (sym (y .2) ∙ sym (laws .situation-key (x .lawfulRecord) (shown (p .0)) (x .letters) (y .0) (p .2)) ∙ x .key-is),
               upTo-distinct f n rows-distinct,
             );
             found = λ t m. member t m;
             longer = omega (arith, o .full, upTo-length f n);
           }
         where
-          member : (t : Situation) → List·Memᴰ t (situationOf A s (reach-shows (o .reached) .rec) ∷ upTo (λ i. situationOf A s (shown i)) n) → IsSituation A s t
-          member t (List·Memᴰ·head e) = let x = reach-shows (o .reached) in subst (IsSituation A s) (sym e) (shown-situation (x .rec) (x .letters) (x .is-lawful))
+          member : (t : Situation) → List·Memᴰ t (situationOf A s (reach-shows (o .reached) .lawfulRecord) ∷ upTo (λ i. situationOf A s (shown i)) n) → IsSituation A s t
+          member t (List·Memᴰ·head e) = let x = reach-shows (o .reached) in subst (IsSituation A s) (sym e) (shown-situation (x .lawfulRecord) (x .letters) (x .is-lawful))
           member t (List·Memᴰ·tail m) =
               let p = upTo-origin (λ i. situationOf A s (shown i)) n t m in
               let y = shown-shows (p .0) (p .1) in

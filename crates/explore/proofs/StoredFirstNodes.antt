@@ -94,7 +94,7 @@ first-inside l {p = p} (storedFirst s x) = by (decLt p (length l))
         let e : _≡_ {A = ℕ} 2 0 = sym (x .kind) ∙ List·getD-eq-default (map (λ (y : Node). y .kind) l) 0 {n = p} (omega (arith, length-map l (λ (y : Node). y .kind))) in
         absurd (omega arith)
 
-module _ {A : Arithmetic} (lawful : LawfulArithmetic A) (s : Sheet) (accepted : Accepted A s) (rec : Record) (letters : OfLetters (s .streams) rec) (long : D (s .constraints) < length rec) (stored : List Value) where
+module _ {A : Arithmetic} (lawful : LawfulArithmetic A) (s : Sheet) (accepted : Accepted A s) (lawfulRecord : Record) (letters : OfLetters (s .streams) lawfulRecord) (long : D (s .constraints) < length lawfulRecord) (stored : List Value) where
   abbrev ss : List Stream
   ss = s .streams
 
@@ -102,25 +102,25 @@ module _ {A : Arithmetic} (lawful : LawfulArithmetic A) (s : Sheet) (accepted : 
   cs = s .constraints
 
   abbrev W : View
-  W = view (flat rec) (length ss) stored true
+  W = view (flat lawfulRecord) (length ss) stored true
 
   abbrev Known : Expression → Type 0
   Known e = Fine A ss (first e) × (reach e ≤ D cs)
 
-  first-node : {n k p : ℕ} {e : Expression} → StoredAt (nodesOf (allNodes 0 0 cs)) n k (first e) (suc p) → Known e → nodeValue A (nodesOf (allNodes 0 0 cs)) W p 0 .value ≡ value A (streamsOf rec) e 0
+  first-node : {n k p : ℕ} {e : Expression} → StoredAt (nodesOf (allNodes 0 0 cs)) n k (first e) (suc p) → Known e → nodeValue A (nodesOf (allNodes 0 0 cs)) W p 0 .value ≡ value A (streamsOf lawfulRecord) e 0
   unfolding value reach
   first-node {n} {k} {p} {e} st h =
-      let w = endless s accepted lawful rec letters long in
-      let all-places = record-places ss (accepted .someStream) rec letters stored true in
-      let shown = record-letters ss (accepted .someStream) rec letters stored true in
+      let w = endless s accepted lawful lawfulRecord letters long in
+      let all-places = record-places ss (accepted .someStream) lawfulRecord letters stored true in
+      let shown = record-letters ss (accepted .someStream) lawfulRecord letters stored true in
       let near : 0 + reach (first e) < places W = omega (arith, all-places, h .1) in
       ap (λ v. v .value)
-      (nodeValue-value A (allNodes 0 0 cs) W w (λ k q b l. shown .shows k q b l ∙ sym (lasting-same (streamsOf rec) (length rec) k q (omega (arith, all-places)))) 0 (first e) st (first-inside (allNodes 0 0 cs) st) refl (h .0 .names) near
-      (whole-met lawful ss w (endless-ranged s accepted lawful rec letters long) (first e) 0 (h .0 .names) (h .0 .bounds)))
-      ∙ value-near A w (streamsOf rec) (length rec) (lasting-same (streamsOf rec) (length rec)) e 0 (omega (arith, h .1))
+      (nodeValue-value A (allNodes 0 0 cs) W w (λ k q b l. shown .shows k q b l ∙ sym (lasting-same (streamsOf lawfulRecord) (length lawfulRecord) k q (omega (arith, all-places)))) 0 (first e) st (first-inside (allNodes 0 0 cs) st) refl (h .0 .names) near
+      (whole-met lawful ss w (endless-ranged s accepted lawful lawfulRecord letters long) (first e) 0 (h .0 .names) (h .0 .bounds)))
+      ∙ value-near A w (streamsOf lawfulRecord) (length lawfulRecord) (lasting-same (streamsOf lawfulRecord) (length lawfulRecord)) e 0 (omega (arith, h .1))
 
   -- In a whole record each first's node has its value.
-  pub first-nodes : {Y : Type 0} (f : Value → Y) → map (λ p. f (nodeValue A (nodesOf (allNodes 0 0 cs)) W p 0 .value)) (allFirstPlaces 0 cs) ≡ map (λ e. f (value A (streamsOf rec) e 0)) (allFirsts cs)
+  pub first-nodes : {Y : Type 0} (f : Value → Y) → map (λ p. f (nodeValue A (nodesOf (allNodes 0 0 cs)) W p 0 .value)) (allFirstPlaces 0 cs) ≡ map (λ e. f (value A (streamsOf lawfulRecord) e 0)) (allFirsts cs)
   first-nodes f =
       allPlaces-map (nodesOf (allNodes 0 0 cs)) Known _ _ (λ n k p e st h. ap f (first-node st h)) 0 0 cs
       (subst (λ l. Holds (nodesOf l) 0 (allNodes 0 0 cs)) (append-nil (allNodes 0 0 cs)) (nodes-hold [] (allNodes 0 0 cs) []))

@@ -69,33 +69,33 @@ module _ {A : Arithmetic} (s : Sheet) (accepted : Accepted A s) where
   pub firsts-fine : All (λ f. Fine A (s .streams) (first f)) (allFirsts (s .constraints))
   firsts-fine = firsts-of (s .constraints) (λ c m. m)
 
-  module _ (lawful : LawfulArithmetic A) (rec : Record) (letters : OfLetters (s .streams) rec) (long : D (s .constraints) < length rec) where
+  module _ (lawful : LawfulArithmetic A) (wholeRecord : Record) (letters : OfLetters (s .streams) wholeRecord) (long : D (s .constraints) < length wholeRecord) where
     -- The course that stays at the record's last letter.
     abbrev pub endless : Streams
-    endless = lasting (streamsOf rec) (length rec)
+    endless = lasting (streamsOf wholeRecord) (length wholeRecord)
 
     pub endless-ranged : (k i : ℕ) → k < length (s .streams) → Within (rangeOf (s .streams) k) (endless k i)
-    endless-ranged = lasting-ranged (streamsOf rec) (length rec) (s .streams) (λ k i b h. letter-within (letters (getD rec i []) (getD-member rec i [] h)) k b) (omega arith)
+    endless-ranged = lasting-ranged (streamsOf wholeRecord) (length wholeRecord) (s .streams) (λ k i b h. letter-within (letters (getD wholeRecord i []) (getD-member wholeRecord i [] h)) k b) (omega arith)
 
     -- The value of what a first stands before lies in its interval.
-    pub first-value : (e : Expression) → List·Memᴰ e (allFirsts (s .constraints)) → Within (interval A (s .streams) e) (value A (streamsOf rec) e 0)
+    pub first-value : (e : Expression) → List·Memᴰ e (allFirsts (s .constraints)) → Within (interval A (s .streams) e) (value A (streamsOf wholeRecord) e 0)
     first-value e m =
         let f = All-member (λ f. Fine A (s .streams) (first f)) firsts-fine m in
         let r = first-within (s .constraints) e m in
-        subst (Within (interval A (s .streams) e)) (value-near A endless (streamsOf rec) (length rec) (lasting-same (streamsOf rec) (length rec)) e 0 (omega arith))
+        subst (Within (interval A (s .streams) e)) (value-near A endless (streamsOf wholeRecord) (length wholeRecord) (lasting-same (streamsOf wholeRecord) (length wholeRecord)) e 0 (omega arith))
         (interval-sound lawful (s .streams) endless endless-ranged e (f .names) 0)
 
-    values-bounded : (l : List Expression) → ((e : Expression) → List·Memᴰ e l → List·Memᴰ e (allFirsts (s .constraints))) → AllBounded (map (λ e. value A (streamsOf rec) e 0) l)
+    values-bounded : (l : List Expression) → ((e : Expression) → List·Memᴰ e l → List·Memᴰ e (allFirsts (s .constraints))) → AllBounded (map (λ e. value A (streamsOf wholeRecord) e 0) l)
     unfolding interval subexpressions
     values-bounded [] h = tt
     values-bounded (e ∷ l) h =
         let m = h e (List·Memᴰ·head refl) in
         let f = All-member (λ f. Fine A (s .streams) (first f)) firsts-fine m in (
-          le-leb (natAbs (value A (streamsOf rec) e 0)) magnitudeBound (inBounds-small {I = interval A (s .streams) e} (f .bounds .0) (first-value e m)),
+          le-leb (natAbs (value A (streamsOf wholeRecord) e 0)) magnitudeBound (inBounds-small {I = interval A (s .streams) e} (f .bounds .0) (first-value e m)),
           values-bounded l (λ d k. h d (List·Memᴰ·tail k)),
         )
 
-    pub record-bounded : AllBounded (firstValues A (s .constraints) rec)
+    pub record-bounded : AllBounded (firstValues A (s .constraints) wholeRecord)
     unfolding firstValues
     record-bounded = values-bounded (allFirsts (s .constraints)) (λ e m. m)
 

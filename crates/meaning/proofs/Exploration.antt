@@ -60,15 +60,15 @@ module _ (A : Arithmetic) (s : Sheet) where
 
   -- The situation of the empty record.
   pub start-situation : IsSituation A s (situation A cs [])
-  start-situation = record { rec = []; letters = λ l m. absurd (List·Memᴰ·not-nil m); isLawful = lawful-short A cs [] (omega arith); same = refl }
+  start-situation = record { lawfulRecord = []; letters = λ l m. absurd (List·Memᴰ·not-nil m); isLawful = lawful-short A cs [] (omega arith); same = refl }
 
   -- A successor of a situation by a letter is a situation.
   pub successor-found : (t u : Situation) → IsSituation A s t → (a : ℕ) → a < letterCount ss → successor A cs t (letterOf ss a) ≡ some u → IsSituation A s u
   successor-found t u h a l e =
       let x = letterOf ss a in
-      let p = some-of-cond (lawful A cs (h .rec ++ (x ∷ []))) (situation A cs (h .rec ++ (x ∷ []))) u
-      (sym (successor-situation A cs (h .rec) x (h .isLawful)) ∙ ap (λ z. successor A cs z x) (h .same) ∙ e) in
-      record { rec = h .rec ++ (x ∷ []); letters = OfLetters-snoc ss (h .rec) x (h .letters) (letterOf-letter ss a l); isLawful = p .0; same = p .1 }
+      let p = some-of-cond (lawful A cs (h .lawfulRecord ++ (x ∷ []))) (situation A cs (h .lawfulRecord ++ (x ∷ []))) u
+      (sym (successor-situation A cs (h .lawfulRecord) x (h .isLawful)) ∙ ap (λ z. successor A cs z x) (h .same) ∙ e) in
+      record { lawfulRecord = h .lawfulRecord ++ (x ∷ []); letters = OfLetters-snoc ss (h .lawfulRecord) x (h .letters) (letterOf-letter ss a l); isLawful = p .0; same = p .1 }
 
   -- A list of situations, each once, that of the empty record among them.
   pub record Explored (list : List Situation) : Type 0 where
@@ -99,7 +99,7 @@ module _ (A : Arithmetic) (s : Sheet) where
 
     -- A closed list that holds the situation of the empty record holds every situation.
     pub closed-every : List·Memᴰ (situation A cs []) list → (t : Situation) → IsSituation A s t → List·Memᴰ t list
-    closed-every m t h = Memᴰ·cast (sym (h .same)) (reaches (h .rec) [] (h .letters) (h .isLawful) m)
+    closed-every m t h = Memᴰ·cast (sym (h .same)) (reaches (h .lawfulRecord) [] (h .letters) (h .isLawful) m)
 
     -- A closed list that has been explored counts the situations.
     pub closed-count : Explored list → SituationCount A s (length list)

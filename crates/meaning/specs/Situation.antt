@@ -64,10 +64,10 @@ module _ (A : Arithmetic) where
 
   -- t is the situation of a lawful record of letters in range. "Only lawful records count".
   pub record IsSituation (s : Sheet) (t : Situation) : Type 0 where
-    pub rec : Record
-    pub letters : OfLetters (s .streams) rec
-    pub isLawful : T (lawful (s .constraints) rec)
-    pub same : situation (s .constraints) rec ≡ t
+    pub lawfulRecord : Record
+    pub letters : OfLetters (s .streams) lawfulRecord
+    pub isLawful : T (lawful (s .constraints) lawfulRecord)
+    pub same : situation (s .constraints) lawfulRecord ≡ t
 
   -- "the number of distinct situations": the length of a list without repeats that holds exactly the situations, nothing pruned.
   pub record SituationCount (s : Sheet) (m : ℕ) : Type 0 where

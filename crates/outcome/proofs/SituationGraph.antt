@@ -98,7 +98,7 @@ module _ (decide : Discrete Situation) (A : Arithmetic) (s : Sheet) {m : ℕ} (c
 
   -- A record of letter numbers that leads to each node.
   pub shown : (i : ℕ) → Dec (i < length list) → List ℕ
-  shown i (yes h) = numbersOf ss (is-situation i h .rec)
+  shown i (yes h) = numbersOf ss (is-situation i h .lawfulRecord)
   shown i (no h) = []
 
   abbrev pub shownAt : ℕ → List ℕ
@@ -114,7 +114,7 @@ module _ (decide : Discrete Situation) (A : Arithmetic) (s : Sheet) {m : ℕ} (c
     where
       go : (d : Dec (i < length list)) → Shows i (shown i d)
       go (yes g) =
-          let e = numbersOf-record ss (is-situation i g .rec) (is-situation i g .letters) in
+          let e = numbersOf-record ss (is-situation i g .lawfulRecord) (is-situation i g .letters) in
           record { isLawful = subst (λ r. T (lawful A cs r)) (sym e) (is-situation i g .isLawful); same = ap (situation A cs) e ∙ is-situation i g .same }
       go (no g) = absurd (g h)
 

@@ -102,7 +102,7 @@ module _ (A : Arithmetic) (s : Sheet) {n : ℕ} {entry : ℕ → ℕ → ℕ} {f
       member x r =
           c .every x
           (record {
-            rec = recordOf (s .streams) (t .representative (r .0));
+            lawfulRecord = recordOf (s .streams) (t .representative (r .0));
             letters = recordOf-letters (s .streams) (t .representative (r .0)) (below-member (letterCount (s .streams)) (t .representative (r .0)) (t .letters (r .0) (r .1)));
             isLawful = representative-lawful (r .0) (r .1);
             same = sym (r .2);

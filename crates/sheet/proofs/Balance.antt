@@ -16,7 +16,7 @@ use Rattle.text.proofs.Reflects.{or-reflects, to-false, not-passed}
 use Rattle.text.proofs.Token.{sameBytes-reflects}
 use Rattle.meaning.specs.Expression.{Expression}
 use Rattle.sheet.specs.Vocabulary.{lookUp, operators, operatorOf, prefixes, prefixOf}
-use Rattle.sheet.specs.Grammar.{Phrase, part, expression, Reads, isInt, isStream, isBracketed, isPrefixed, isPart, isOperation, isConditional}
+use Rattle.sheet.specs.Grammar.{Phrase, part, expression, Reads, isIntegerToken, isStream, isBracketed, isPrefixed, isPart, isOperation, isConditional}
 use Rattle.sheet.specs.Parser.{Parsed, parsed, expressionBy, partTo}
 use Rattle.sheet.proofs.Vocabulary.{allKeys, lookUp-key}
 use Rattle.sheet.proofs.Parser.{Split, partTo-sound, expressionTo-sound, partTo-complete, expressionTo-complete}
@@ -51,7 +51,7 @@ leads-append (passes e g) h = passes e (leads-append g h)
 -- What is read leads back to as many open brackets as there were.
 pub reads-leads : {names : List Token} {k : Phrase} {ts : List Token} {e : Expression} → Reads names k ts e → (d : ℕ) → Leads d ts d
 unfolding isInteger isNatural isName prefixOf prefixes operatorOf operators
-reads-leads (isInt {t} h) d = passes (not-bracket isInteger t (λ i. i) (λ i. i) h) ends
+reads-leads (isIntegerToken {t} h) d = passes (not-bracket isInteger t (λ i. i) (λ i. i) h) ends
 reads-leads (isStream {t} h k) d = passes (not-bracket isName t (λ i. i) (λ i. i) h) ends
 reads-leads (isBracketed r) d = opens (leads-append (reads-leads r (suc d)) (closes ends))
 reads-leads (isPrefixed {t} e r) d = passes (table-no-bracket prefixes t tt e) (reads-leads r d)
@@ -164,7 +164,7 @@ record Bracketed (names ts rest : List Token) (e : Expression) : Type 0 where
 
 part-bracketed : {names : List Token} {ts us : List Token} (rest : List Token) {e : Expression} → Reads names part us e → us ++ rest ≡ bytesOf "(" ∷ ts → Bracketed names ts rest e
 unfolding isInteger isNatural isName prefixOf prefixes
-part-bracketed rest (isInt h) q = absurd (subst (λ t. T (isInteger t)) (head-eq-of-cons-eq q) h)
+part-bracketed rest (isIntegerToken h) q = absurd (subst (λ t. T (isInteger t)) (head-eq-of-cons-eq q) h)
 part-bracketed rest (isStream h k) q = absurd (subst (λ t. T (isName t)) (head-eq-of-cons-eq q) h)
 part-bracketed rest (isBracketed {ts} r) q = record { inner = ts; reads = r; whole = sym (tail-eq-of-cons-eq q) ∙ append-assoc ts (bytesOf ")" ∷ []) rest }
 part-bracketed rest (isPrefixed {p = f} h r) q = absurd (Option·none-ne-some f (ap prefixOf (sym (head-eq-of-cons-eq q)) ∙ h))

@@ -8,7 +8,7 @@ use Rattle.text.specs.Bytes.{Token, bytesOf}
 use Rattle.meaning.specs.Expression.{Expression}
 use Rattle.meaning.specs.Interval.{subexpressions}
 use Rattle.sheet.specs.Vocabulary.{Infix, pointwise, followedBy, joined, Prefix, firstPrefix, nextPrefix, notPrefix, prefixed}
-use Rattle.sheet.specs.Grammar.{Phrase, Reads, isInt, isStream, isBracketed, isPrefixed, isPart, isOperation, isConditional}
+use Rattle.sheet.specs.Grammar.{Phrase, Reads, isIntegerToken, isStream, isBracketed, isPrefixed, isPart, isOperation, isConditional}
 
 abbrev expressionCount : Expression → ℕ
 expressionCount e = length (subexpressions e)
@@ -26,7 +26,7 @@ joined-count followedBy a b = ap suc (length-append (subexpressions a) (subexpre
 
 module _ {names : List Token} where
   pub reads-nonempty : {k : Phrase} {ts : List Token} {e : Expression} → Reads names k ts e → 0 < length ts
-  reads-nonempty (isInt h) = omega arith
+  reads-nonempty (isIntegerToken h) = omega arith
   reads-nonempty (isStream h k) = omega arith
   reads-nonempty (isBracketed r) = omega arith
   reads-nonempty (isPrefixed e r) = omega arith
@@ -37,7 +37,7 @@ module _ {names : List Token} where
   -- Every expression inside the tree has a token of its own.
   pub reads-count : {k : Phrase} {ts : List Token} {e : Expression} → Reads names k ts e → length (subexpressions e) ≤ length ts
   unfolding subexpressions
-  reads-count (isInt h) = omega arith
+  reads-count (isIntegerToken h) = omega arith
   reads-count (isStream h k) = omega arith
   reads-count (isBracketed {ts} r) = let z = length-append ts (bytesOf ")" ∷ []) in let h = reads-count r in omega arith
   reads-count (isPrefixed {p = p} {e = a} e r) = let z = prefixed-count p a in let h = reads-count r in omega arith

@@ -13,7 +13,7 @@ use Rattle.text.proofs.Reflects.{from-true}
 use Rattle.text.proofs.Token.{sameBytes-reflects}
 use Rattle.meaning.specs.Expression.{Expression, conditional, Constraint}
 use Rattle.sheet.specs.Vocabulary.{Infix, joined, operatorOf, Relation, related, relationOf, Prefix, prefixed, prefixOf}
-use Rattle.sheet.specs.Grammar.{Phrase, part, expression, Reads, isInt, isStream, isBracketed, isPrefixed, isPart, isOperation, isConditional, ReadsConstraint, isConstraint}
+use Rattle.sheet.specs.Grammar.{Phrase, part, expression, Reads, isIntegerToken, isStream, isBracketed, isPrefixed, isPart, isOperation, isConditional, ReadsConstraint, isConstraint}
 use Rattle.sheet.specs.Parser.{Parsed, parsed, andThen, expect, Reader, operationFrom, afterPart, conditionalBy, expressionBy, Opening, openingOf, wholeLine, constraintFrom, secondSide, partFrom, partTo, parseConstraint}
 use Rattle.sheet.proofs.Vocabulary.{relation-no-operator, bracket-no-operator, Opens, byInteger, byName, byBracket, byPrefix, byNothing, openingOf-opens, opening-integer, opening-name, opening-prefix, opening-bracket, opening-if}
 
@@ -117,7 +117,7 @@ module _ (names : List Token) where
             subst (λ l. Split names expression l x) (sym (s .whole)) (afterPart-sound (y .tree) (y .rest) (s .front) x (s .reads) done)
 
     partFrom-sound : {o : Opening} (t : Token) (ts : List Token) (x : Parsed) → Opens t o → partFrom names p o t ts ≡ some x → Split names part (t ∷ ts) x
-    partFrom-sound t ts x (byInteger h) q = split-parsed (record { front = t ∷ []; whole = refl; reads = isInt h }) q
+    partFrom-sound t ts x (byInteger h) q = split-parsed (record { front = t ∷ []; whole = refl; reads = isIntegerToken h }) q
     partFrom-sound t ts x (byName h k) q = split-parsed (record { front = t ∷ []; whole = refl; reads = isStream h k }) q
     partFrom-sound t ts x (byBracket e) q =
         let (y, read, q₁) = andThen-some (expressionBy p ts) _ q in
@@ -217,8 +217,8 @@ module _ (names : List Token) where
 
   complete : {k : Phrase} {us : List Token} {e : Expression} → Reads names k us e → (n : ℕ) → length us ≤ n → (rest : List Token) → Follows k rest → readTo k n (us ++ rest) ≡ parsed e rest
   unfolding partTo
-  complete (isInt h) zero l rest f = absurd (omega arith)
-  complete (isInt {t} h) (suc n) l rest f = ap (λ o. partFrom names (partTo names n) o t rest) (opening-integer t h)
+  complete (isIntegerToken h) zero l rest f = absurd (omega arith)
+  complete (isIntegerToken {t} h) (suc n) l rest f = ap (λ o. partFrom names (partTo names n) o t rest) (opening-integer t h)
   complete (isStream h k) zero l rest f = absurd (omega arith)
   complete (isStream {t} h k) (suc n) l rest f = ap (λ o. partFrom names (partTo names n) o t rest) (opening-name t h k)
   complete (isBracketed r) zero l rest f = absurd (omega arith)

@@ -16,7 +16,7 @@ pub data Phrase : Type 0 where
 -- The tokens are read as the part or the expression, where `names` are those of line 1.
 pub data Reads (names : List Token) : Phrase → List Token → Expression → Type 0 where
   -- "A part is an integer,"
-  isInt : {t : Token} → T (isInteger t) → Reads names part (t ∷ []) (integer (integerValue t))
+  isIntegerToken : {t : Token} → T (isInteger t) → Reads names part (t ∷ []) (integer (integerValue t))
   -- "a name," ("Reserved words [..] in a constraint they are never names.")
   isStream : {t : Token} → T (isName t) → T (not (isReserved t)) → Reads names part (t ∷ []) (name (placeOf names t))
   -- "an expression in brackets,"

@@ -96,7 +96,7 @@ module _ (A : Arithmetic) (s : Sheet) where
     found x m =
         let r = map-member situationOf rs x m in
         record {
-          rec = recordOf (s .streams) (r .0);
+          lawfulRecord = recordOf (s .streams) (r .0);
           letters = recordOf-letters (s .streams) (r .0) (λ n k. ltb→lt n (letterCount (s .streams)) (all-member (λ a. ltb a (letterCount (s .streams))) (r .0) (all-member (λ r. all (λ a. ltb a (letterCount (s .streams))) r) rs (parts .0) (r .0) (r .1)) n k));
           isLawful = all-member isLawful rs (parts .1) (r .0) (r .1);
           same = sym (r .2);
