@@ -20,6 +20,7 @@ use Rattle.explore.specs.Chains.{keySize, rowAt, Tables, Finds, Inserts}
 use Rattle.explore.specs.Key.{letterRoom, sizeIn}
 use Rattle.explore.specs.Step.{Store, judgedAfter, keyAfter, IsReady, HasValues, IsKey}
 use Rattle.explore.specs.Search.{startKey, everyMark, flagOf, Settled, Followed, Over, Searched, Turn, Reach, Reach.start, Reach.step, Known, IsRow, IsLent}
+use Rattle.explore.proofs.PreparedLaws.{one-more}
 use Rattle.explore.proofs.StepLaws.{keyAfter-key}
 
 -- ---- the marks of all untils
@@ -262,13 +263,13 @@ module _ (A : Arithmetic) (K : Store) (letters limit every : ℕ) where
           }
 
   -- A row is done.
-  pub turn-row : {keys entries flags heads links : List ℕ} {n s a at : ℕ} → letters ≤ a → a ≤ letters → Turn A K letters limit every keys entries flags heads links n s a at → Turn A K letters limit every keys entries flags heads links n (s + 1) 0 ((s + 1) * letters)
+  pub turn-row : {keys entries flags heads links : List ℕ} {n s a at : ℕ} → letters ≤ a → a ≤ letters → Turn A K letters limit every keys entries flags heads links n s a at → Turn A K letters limit every keys entries flags heads links n (s + 1) 0 at
   turn-row {s = s} {a} {at} h k t =
       record {
         tables = t .tables;
         known = t .known;
         n-le = t .n-le;
-        here = omega arith;
+        here = omega (arith, t .here, one-more s letters);
         done = λ s′ a′ l b. ⊎-elim (λ z. elim (ℕ-discrete s′ s) [ yes q ↦ t .done s′ a′ l (inr (q, omega arith)) | no q ↦ t .done s′ a′ l (inl (omega (arith, z, q))) ]) (λ z. absurd (not-suc-le-zero (z .1))) b;
         order = record { met = t .order .met; place = λ j l m. ⊎-elim (λ z. inl (omega (arith, z))) (λ z. inl (omega (arith, z .0))) (t .order .place j l m) };
       }
@@ -284,7 +285,7 @@ module _ (A : Arithmetic) (K : Store) (letters limit every : ℕ) where
         flagged = λ x h. let z : x ≡ 0 = omega arith in ap (λ y. getD (set flags 0 (flagOf every startKey)) y 0) z ∙ getD-set-same flags 0 (flagOf every startKey) 0 room ∙ ap (flagOf every) (sym (ap (rowAt keys′) z ∙ i .new));
       }
 
-  pub turn-begin : {keys entries flags heads links : List ℕ} → 0 < limit → Tables heads links keys 1 → Known A K letters every keys flags 1 → Turn A K letters limit every keys entries flags heads links 1 0 0 (0 * letters)
+  pub turn-begin : {keys entries flags heads links : List ℕ} → 0 < limit → Tables heads links keys 1 → Known A K letters every keys flags 1 → Turn A K letters limit every keys entries flags heads links 1 0 0 0
   turn-begin space t k =
       record {
         tables = t;
@@ -378,6 +379,17 @@ sizes-trans x y =
 
 pub sizes-refl : {keys heads links entries flags : List ℕ} → SameSizes keys heads links entries flags keys heads links entries flags
 sizes-refl = record { keys-long = refl; heads-long = refl; links-long = refl; entries-long = refl; flags-long = refl }
+
+pub sizes-stored : {keys₀ heads₀ links₀ entries₀ flags₀ keys heads links entries flags : List ℕ} (at v : ℕ) → SameSizes keys₀ heads₀ links₀ entries₀ flags₀ keys heads links entries flags
+    → SameSizes keys₀ heads₀ links₀ entries₀ flags₀ keys heads links (set entries at v) flags
+sizes-stored {entries = entries} at v x =
+    record {
+      keys-long = x .keys-long;
+      heads-long = x .heads-long;
+      links-long = x .links-long;
+      entries-long = length-set entries at v ∙ x .entries-long;
+      flags-long = x .flags-long;
+    }
 
 pub sizes-lent : {K : Store} {letters limit : ℕ} {keys₀ heads₀ links₀ entries₀ flags₀ keys heads links entries flags : List ℕ} → SameSizes keys₀ heads₀ links₀ entries₀ flags₀ keys heads links entries flags
     → IsLent K letters limit keys₀ heads₀ links₀ entries₀ flags₀ → IsLent K letters limit keys heads links entries flags

@@ -91,12 +91,6 @@ module _ (A : Arithmetic) (K : Store) (letters limit every : ℕ) where
     pub done : (s′ a′ : ℕ) → a′ < letters → Before s′ a′ s a → IsRow A K letters keys n (rowAt keys s′) a′ (entry-at letters entries s′ a′)
     pub order : Order letters entries n s a
 
-  -- The letters of row s are followed, and n rows are known then: the search stands before the next row, or another key is reached than there is
-  -- room for.
-  abbrev pub RowSearched : Bool → (keys entries flags heads links : List ℕ) (n s : ℕ) → Type 0
-  RowSearched true keys entries flags heads links n s = Searched A K letters limit every keys entries flags true n
-  RowSearched false keys entries flags heads links n s = Turn keys entries flags heads links n (s + 1) 0 ((s + 1) * letters)
-
 -- The lent tables have room for as many rows as the limit, and every letter's values are there.
 pub record IsLent (K : Store) (letters limit : ℕ) (keys heads links entries flags : List ℕ) : Type 0 where
   pub few-letters : letters ≤ 1024

@@ -20,7 +20,7 @@ ghost use Rattle.meaning.specs.Arithmetic.{cutTowardZero};
 ghost use Rattle.explore.specs.Chains.{keySize, rowAt, Tables};
 ghost use Rattle.explore.specs.Key.{digit};
 ghost use Rattle.explore.specs.Step.{storeOf, IsReady, HasValues, IsKey, Prepared};
-ghost use Rattle.explore.specs.Search.{everyMark, Settled, Known, Followed, Searched, Turn, RowSearched, IsLent};
+ghost use Rattle.explore.specs.Search.{everyMark, Settled, Known, Followed, Searched, IsLent};
 ghost use Rattle.explore.specs.Exploration.{lent, ExploresStored};
 
 // The number of situations, or that there are more than the limit.
@@ -146,93 +146,8 @@ fn follow(
     65535
 }
 
-// Follows every letter of row s, or leaves the row when rows run out. What all of them need is prepared once.
-fn search_row(
-    kinds: &[u8],
-    values: &[i64],
-    starts: &[u16],
-    relations: &[u8],
-    lefts: &[u16],
-    rights: &[u16],
-    first_nodes: &[u16],
-    letter_values: &[i64],
-    streams: usize,
-    ahead: usize,
-    width: usize,
-    letters: usize,
-    limit: usize,
-    keys: &mut [u32],
-    heads: &mut [u32],
-    links: &mut [u32],
-    entries: &mut [u16],
-    flags: &mut [u8],
-    every: u32,
-    n: usize,
-    s: usize,
-) -> Explored
-    requires { ⌜ IsReady (storeOf (now kinds) (now values) (now starts) (now relations) (now lefts) (now rights) (now «first_nodes») (now «letter_values») streams ahead width) ⌝ }
-    requires { ⌜ IsLent (storeOf (now kinds) (now values) (now starts) (now relations) (now lefts) (now rights) (now «first_nodes») (now «letter_values») streams ahead width) letters limit (now keys) (now heads) (now links) (now entries) (now flags) ⌝ }
-    requires { ⌜ Turn cutTowardZero (storeOf (now kinds) (now values) (now starts) (now relations) (now lefts) (now rights) (now «first_nodes») (now «letter_values») streams ahead width) letters limit every (now keys) (now entries) (now flags) (now heads) (now links) n s 0 (s * letters) × (s < n) ⌝ }
-    ensures { λ r. ⌜ RowSearched cutTowardZero (storeOf (now (kinds .entry)) (now (values .entry)) (now (starts .entry)) (now (relations .entry)) (now (lefts .entry)) (now (rights .entry)) (now («first_nodes» .entry)) (now («letter_values» .entry)) streams ahead width) letters limit every (r .full) (now (keys .exit)) (now (entries .exit)) (now (flags .exit)) (now (heads .exit)) (now (links .exit)) (r .count) s ⌝ }
-{
-    let start = s * 16;
-    let end = start + 16;
-    let mut recent = [0u32; 7];
-    let mut window = [0i64; 56];
-    let mut firsts = [0i64; 8];
-    prepare(
-        letter_values,
-        streams,
-        width,
-        first_nodes.len(),
-        &keys[start..end],
-        &mut recent,
-        &mut window,
-        &mut firsts,
-    );
-    let mut count = n;
-    let mut at = s * letters;
-    let mut a = 0;
-    while a < letters {
-        let row = follow(
-            kinds,
-            values,
-            starts,
-            relations,
-            lefts,
-            rights,
-            first_nodes,
-            letter_values,
-            streams,
-            ahead,
-            width,
-            limit,
-            keys,
-            heads,
-            links,
-            flags,
-            every,
-            count,
-            s,
-            a as u32,
-            &mut recent,
-            &mut window,
-            &firsts,
-        );
-        if row == count {
-            if count == limit {
-                return Explored { full: true, count };
-            }
-            count += 1;
-        }
-        entries[at] = row as u16;
-        at += 1;
-        a += 1;
-    }
-    Explored { full: false, count }
-}
-
-// Explores row by row from the first row until every row is done, or rows run out.
+// Explores row by row and letter by letter from the first row until every row is done, or rows run out. What the letters of a row need is prepared
+// once.
 fn search(
     kinds: &[u8],
     values: &[i64],
@@ -259,42 +174,67 @@ fn search(
     requires { ⌜ Tables (now heads) (now links) (now keys) 1 × Known cutTowardZero (storeOf (now kinds) (now values) (now starts) (now relations) (now lefts) (now rights) (now «first_nodes») (now «letter_values») streams ahead width) letters every (now keys) (now flags) 1 ⌝ }
     ensures { λ r. ⌜ Searched cutTowardZero (storeOf (now (kinds .entry)) (now (values .entry)) (now (starts .entry)) (now (relations .entry)) (now (lefts .entry)) (now (rights .entry)) (now («first_nodes» .entry)) (now («letter_values» .entry)) streams ahead width) letters limit every (now (keys .exit)) (now (entries .exit)) (now (flags .exit)) (r .full) (r .count) ⌝ }
 {
+    let mut full = false;
     let mut n = 1;
     let mut s = 0;
-    while s < n {
-        let found = search_row(
-            kinds,
-            values,
-            starts,
-            relations,
-            lefts,
-            rights,
-            first_nodes,
+    let mut at = 0;
+    'rows: while s < n {
+        let start = s * 16;
+        let end = start + 16;
+        let mut recent = [0u32; 7];
+        let mut window = [0i64; 56];
+        let mut firsts = [0i64; 8];
+        prepare(
             letter_values,
             streams,
-            ahead,
             width,
-            letters,
-            limit,
-            keys,
-            heads,
-            links,
-            entries,
-            flags,
-            every,
-            n,
-            s,
+            first_nodes.len(),
+            &keys[start..end],
+            &mut recent,
+            &mut window,
+            &mut firsts,
         );
-        if found.full {
-            return found;
+        let mut a = 0;
+        while a < letters {
+            let row = follow(
+                kinds,
+                values,
+                starts,
+                relations,
+                lefts,
+                rights,
+                first_nodes,
+                letter_values,
+                streams,
+                ahead,
+                width,
+                limit,
+                keys,
+                heads,
+                links,
+                flags,
+                every,
+                n,
+                s,
+                a as u32,
+                &mut recent,
+                &mut window,
+                &firsts,
+            );
+            if row == n {
+                if n == limit {
+                    full = true;
+                    break 'rows;
+                }
+                n += 1;
+            }
+            entries[at] = row as u16;
+            at += 1;
+            a += 1;
         }
-        n = found.count;
         s += 1;
     }
-    Explored {
-        full: false,
-        count: n,
-    }
+    Explored { full, count: n }
 }
 
 // Finds all keys that are reached from that of the empty record, or that there are more than the limit.

@@ -1,96 +1,270 @@
--- `search` meets its contract. Before each turn the places of the rows that are done hold the rows of their keys, and every row but the first is
--- met at such a place.
-use Prim.Native.Nat.{_-_, _*_}
+-- `search` meets its contract. Before each row, and before each letter of a row, the places before the present one hold the rows of their keys, and
+-- every row but the first is met at such a place. Before a letter, what the letters of the row need is prepared too. From the laws of the search.
+use Prim.Native.Nat.{ℕ, _+_, _-_, _*_, _≤_, _<_}
+use mathlib.Core.Path.{_≡_, refl, sym, subst}
+use mathlib.Core.Bool.{false}
+use mathlib.Core.Logic.{⊎-elim}
+use mathlib.Core.List.{List}
 use native.Mathlib.Omega.{arith}
+use borrow.Author.Needs.{needs}
+use lib.ListN.{length}
 use Rattle.meaning.specs.Arithmetic.{cutTowardZero}
-use Rattle.explore.specs.Step.{storeOf}
-use Rattle.explore.specs.Search.{Turn}
-use Rattle.explore.proofs.SearchLaws.{turn-begin, turn-end, SameSizes, sizes-refl, sizes-trans, sizes-lent}
+use Rattle.explore.specs.Chains.{rowAt}
+use Rattle.explore.specs.Step.{Store, storeOf, IsKey, lettersStore, Prepared}
+use Rattle.explore.specs.Search.{Known, Turn, IsLent}
+use Rattle.explore.proofs.ChainLaws.{row-part}
+use Rattle.explore.proofs.PreparedLaws.{letters-key}
+use Rattle.explore.proofs.SearchLaws.{row-fits, letter-values, reach-key, turn-begin, turn-row, turn-end, follow-fits, follow-old, follow-new, follow-full, SameSizes, sizes-refl, sizes-trans, sizes-stored, sizes-lent}
 use Rattle.explore.proofs.search.Statement.{statement}
 use Rattle.explore.proofs.search.Tie as tie
 
+-- before a letter; the sizes are those that the tables have before the row
 abbrev Inv-loop : tie.InvT-loop
-Inv-loop kinds values starts relations lefts rights first-nodes letter-values streams ahead width letters limit keys₀ heads₀ links₀ entries₀ flags₀ every n₀ s₀ keys heads links entries flags n s =
-    Turn cutTowardZero (storeOf kinds values starts relations lefts rights first-nodes letter-values streams ahead width) letters limit every keys entries flags heads links n s 0 (s * letters) × SameSizes keys₀ heads₀ links₀ entries₀ flags₀ keys heads links entries flags
+Inv-loop kinds values starts relations lefts rights first-nodes letter-values streams ahead width letters limit keys₀ heads₀ links₀ entries₀ flags₀ every full₀ n₀ s at₀ start end recent₀ window₀ firsts a₀ keys heads links entries flags full n at recent window a =
+    (full ≡ false) × (s < n) × (a ≤ letters) × Turn cutTowardZero (storeOf kinds values starts relations lefts rights first-nodes letter-values streams ahead width) letters limit every keys entries flags heads links n s a at × SameSizes keys₀ heads₀ links₀ entries₀ flags₀ keys heads links entries flags
+    × Prepared letter-values streams width (length first-nodes) (rowAt keys s) recent window firsts
 
 abbrev μ-loop : tie.MeasureT-loop
-μ-loop kinds values starts relations lefts rights first-nodes letter-values streams ahead width letters limit keys₀ heads₀ links₀ entries₀ flags₀ every n₀ s₀ keys heads links entries flags n s = limit - s
+μ-loop kinds values starts relations lefts rights first-nodes letter-values streams ahead width letters limit keys₀ heads₀ links₀ entries₀ flags₀ every full₀ n₀ s at₀ start end recent₀ window₀ firsts a₀ keys heads links entries flags full n at recent window a = letters - a
 
-abbrev start-of : tie.At-loop Inv-loop μ-loop → tie.Start Inv-loop μ-loop
-start-of c = c .before .before .before .before .before .before .before .before .before .before .before .before
+-- before a row
+abbrev Inv-rows : tie.InvT-rows
+Inv-rows kinds values starts relations lefts rights first-nodes letter-values streams ahead width letters limit keys₀ heads₀ links₀ entries₀ flags₀ every full₀ n₀ s₀ at₀ keys heads links entries flags full n s at =
+    (full ≡ false) × Turn cutTowardZero (storeOf kinds values starts relations lefts rights first-nodes letter-values streams ahead width) letters limit every keys entries flags heads links n s 0 at × SameSizes keys₀ heads₀ links₀ entries₀ flags₀ keys heads links entries flags
 
-abbrev in-loop-of : tie.After-search-row Inv-loop μ-loop → tie.In-loop Inv-loop μ-loop
-in-loop-of c = c .before .before .before .before .before .before
+abbrev μ-rows : tie.MeasureT-rows
+μ-rows kinds values starts relations lefts rights first-nodes letter-values streams ahead width letters limit keys₀ heads₀ links₀ entries₀ flags₀ every full₀ n₀ s₀ at₀ keys heads links entries flags full n s at = limit - s
 
--- the sizes of the tables after a row
-sizes : (c : tie.After-search-row Inv-loop μ-loop) → let args = start-of (in-loop-of c .before) .args in SameSizes (args .keys .now) (args .heads .now) (args .links .now) (args .entries .now) (args .flags .now)
-    (c .search-row .last .1 .1 .1 .1 .1 .1 .1 .1 .1 .1 .1 .1 .1 .0) (c .search-row .last .1 .1 .1 .1 .1 .1 .1 .1 .1 .1 .1 .1 .1 .1 .0) (c .search-row .last .1 .1 .1 .1 .1 .1 .1 .1 .1 .1 .1 .1 .1 .1 .1 .0) (c .search-row .last .1 .1 .1 .1 .1 .1 .1 .1 .1 .1 .1 .1 .1 .1 .1 .1 .0) (c .search-row .last .1 .1 .1 .1 .1 .1 .1 .1 .1 .1 .1 .1 .1 .1 .1 .1 .1 .0)
-sizes c =
-    sizes-trans (in-loop-of c .before .loop .inv .1)
-    (record {
-      keys-long = c .search-row .kept .1 .1 .1 .1 .1 .1 .1 .1 .1 .1 .1 .1 .1 .0;
-      heads-long = c .search-row .kept .1 .1 .1 .1 .1 .1 .1 .1 .1 .1 .1 .1 .1 .1 .0;
-      links-long = c .search-row .kept .1 .1 .1 .1 .1 .1 .1 .1 .1 .1 .1 .1 .1 .1 .1 .0;
-      entries-long = c .search-row .kept .1 .1 .1 .1 .1 .1 .1 .1 .1 .1 .1 .1 .1 .1 .1 .1 .0;
-      flags-long = c .search-row .kept .1 .1 .1 .1 .1 .1 .1 .1 .1 .1 .1 .1 .1 .1 .1 .1 .1 .0;
-    })
+-- ---- the places
 
-loop-holds : tie.Need-loop-holds Inv-loop μ-loop
-loop-holds c = let start = c .before .before .before .before .before .before .before .before .before .before .before in (turn-begin _ _ _ _ _ (start .pre .1 .0 .some-row) (start .pre .1 .1 .0) (start .pre .1 .1 .1), sizes-refl)
+abbrev start-of : tie.In-rows Inv-loop μ-loop Inv-rows μ-rows → tie.Start Inv-loop μ-loop Inv-rows μ-rows
+start-of c = c .before .before .before .before .before .before .before .before .before .before .before .before .before
 
-search-row-requires : tie.Need-search-row-requires Inv-loop μ-loop
-search-row-requires c κs =
-    let in-loop = c .before .before .before .before .before in
-    let at-loop = in-loop .before in
-    let start = start-of at-loop in
-    (start .pre .0, (sizes-lent (at-loop .loop .inv .1) (start .pre .1 .0), (at-loop .loop .inv .0, in-loop .loop-test .taken)))
+abbrev in-rows-of : tie.At-loop Inv-loop μ-loop Inv-rows μ-rows → tie.In-rows Inv-loop μ-loop Inv-rows μ-rows
+in-rows-of c = c .before .before .before .before .before .before .before .before .before .before
 
-same-length : tie.Need-same-length Inv-loop μ-loop
-same-length c = sizes (c .before .before .before .before .before .before .before .before .before .before .before) .keys-long
+abbrev in-loop-of : tie.After-follow Inv-loop μ-loop Inv-rows μ-rows → tie.In-loop Inv-loop μ-loop Inv-rows μ-rows
+in-loop-of c = c .before .before .before .before .before .before .before .before
 
-same-length-2 : tie.Need-same-length-2 Inv-loop μ-loop
-same-length-2 c = sizes (c .before .before .before .before .before .before .before .before .before .before .before) .heads-long
+abbrev store : tie.Start Inv-loop μ-loop Inv-rows μ-rows → Store
+store c =
+    let a = c .args in
+    storeOf (a .kinds .now) (a .values .now) (a .starts .now) (a .relations .now) (a .lefts .now) (a .rights .now) (a .first-nodes .now) (a .letter-values .now) (a .streams) (a .ahead) (a .width)
 
-same-length-3 : tie.Need-same-length-3 Inv-loop μ-loop
-same-length-3 c = sizes (c .before .before .before .before .before .before .before .before .before .before .before) .links-long
+-- a row that is known holds a key
+row-key : (c : tie.Start Inv-loop μ-loop Inv-rows μ-rows) {keys flags : List ℕ} {n s : ℕ} → Known cutTowardZero (store c) (c .args .letters) (c .args .every) keys flags n → s < n → IsKey (store c) (rowAt keys s)
+row-key c k h = reach-key cutTowardZero (store c) (c .args .letters) (c .args .limit) (c .args .every) (c .pre .0 .few-letters) (c .pre .1 .0 .values) (k .reached _ h)
 
-same-length-4 : tie.Need-same-length-4 Inv-loop μ-loop
-same-length-4 c = sizes (c .before .before .before .before .before .before .before .before .before .before .before) .entries-long
+-- ---- at the start of a row
 
-same-length-5 : tie.Need-same-length-5 Inv-loop μ-loop
-same-length-5 c = sizes (c .before .before .before .before .before .before .before .before .before .before .before) .flags-long
+-- the tables
+rows-lent : (c : tie.In-rows Inv-loop μ-loop Inv-rows μ-rows) → let r = c .before .rows in IsLent (store (start-of c)) (start-of c .args .letters) (start-of c .args .limit) (r .keys) (r .heads) (r .links) (r .entries) (r .flags)
+rows-lent c = sizes-lent (c .before .rows .inv .2) (start-of c .pre .1 .0)
 
-returns : tie.Need-returns Inv-loop μ-loop
-returns c = rw (c .if1 .taken) (rw (c .if1 .taken) at (c .before .before .before .before .before .before .before .before .before .before .before .search-row .ensures))
+few-rows : (c : tie.In-rows Inv-loop μ-loop Inv-rows μ-rows) → c .before .rows .s < 4096
+few-rows c = omega (arith, c .rows-test .taken, c .before .rows .inv .1 .n-le, rows-lent c .few-rows)
 
-add-s : tie.Need-add-s Inv-loop μ-loop
-add-s c =
-    let in-loop = in-loop-of (c .before .before .before .before .before .before .before .before .before .before .before) in
-    omega (arith, in-loop .loop-test .taken, in-loop .before .loop .inv .0 .n-le, start-of (in-loop .before) .pre .1 .0 .few-rows)
+-- the row's key is within the table, and the row's entries
+key-room : (c : tie.In-rows Inv-loop μ-loop Inv-rows μ-rows) → c .before .rows .s * 16 + 16 ≤ length (c .before .rows .keys)
+key-room c = omega (arith, c .rows-test .taken, c .before .rows .inv .1 .tables .keys-room)
 
-loop-less : tie.Need-loop-less Inv-loop μ-loop
-loop-less c = let in-loop = in-loop-of (c .before .before .before .before .before .before .before .before .before .before .before) in omega (arith, in-loop .loop-test .taken, in-loop .before .loop .inv .0 .n-le)
+entries-room : (c : tie.In-rows Inv-loop μ-loop Inv-rows μ-rows) → c .before .rows .s * start-of c .args .letters + start-of c .args .letters ≤ length (c .before .rows .entries)
+entries-room c = row-fits (c .before .rows .s) (start-of c .args .limit) (start-of c .args .letters) (length (c .before .rows .entries)) (omega (arith, c .rows-test .taken, c .before .rows .inv .1 .n-le)) (rows-lent c .entries-room)
 
-loop-again : tie.Need-loop-again Inv-loop μ-loop
-loop-again c = let at = c .before .before .before .before .before .before .before .before .before .before .before in (rw (c .if1 .left) at (at .search-row .ensures), sizes at)
+-- ---- before a letter
 
-same-length-6 : tie.Need-same-length-6 Inv-loop μ-loop
-same-length-6 c = c .before .loop .inv .1 .keys-long
+-- the tables
+lent : (c : tie.At-loop Inv-loop μ-loop Inv-rows μ-rows) → let start = start-of (in-rows-of c) in IsLent (store start) (start .args .letters) (start .args .limit) (c .loop .keys) (c .loop .heads) (c .loop .links) (c .loop .entries) (c .loop .flags)
+lent c = sizes-lent (c .loop .inv .4) (rows-lent (in-rows-of c))
 
-same-length-7 : tie.Need-same-length-7 Inv-loop μ-loop
-same-length-7 c = c .before .loop .inv .1 .heads-long
+-- the place of the entry is within the table
+within : (c : tie.In-loop Inv-loop μ-loop Inv-rows μ-rows) → c .before .loop .at < length (c .before .loop .entries)
+within c = omega (arith, entries-room (in-rows-of (c .before)), c .before .loop .inv .4 .entries-long, c .before .loop .inv .3 .here, c .loop-test .taken)
 
-same-length-8 : tie.Need-same-length-8 Inv-loop μ-loop
-same-length-8 c = c .before .loop .inv .1 .links-long
+-- the tables keep their sizes when a letter is followed
+follow-sizes : (c : tie.After-follow Inv-loop μ-loop Inv-rows μ-rows) → let loop = in-loop-of c .before .loop in SameSizes (loop .keys) (loop .heads) (loop .links) (loop .entries) (loop .flags)
+    (c .follow .last .1 .1 .1 .1 .1 .1 .1 .1 .1 .1 .1 .1 .0) (c .follow .last .1 .1 .1 .1 .1 .1 .1 .1 .1 .1 .1 .1 .1 .0) (c .follow .last .1 .1 .1 .1 .1 .1 .1 .1 .1 .1 .1 .1 .1 .1 .0) (loop .entries) (c .follow .last .1 .1 .1 .1 .1 .1 .1 .1 .1 .1 .1 .1 .1 .1 .1 .0)
+follow-sizes c =
+    record {
+      keys-long = c .follow .kept .1 .1 .1 .1 .1 .1 .1 .1 .1 .1 .1 .1 .0;
+      heads-long = c .follow .kept .1 .1 .1 .1 .1 .1 .1 .1 .1 .1 .1 .1 .1 .0;
+      links-long = c .follow .kept .1 .1 .1 .1 .1 .1 .1 .1 .1 .1 .1 .1 .1 .1 .0;
+      entries-long = refl;
+      flags-long = c .follow .kept .1 .1 .1 .1 .1 .1 .1 .1 .1 .1 .1 .1 .1 .1 .1 .0;
+    }
 
-same-length-9 : tie.Need-same-length-9 Inv-loop μ-loop
-same-length-9 c = c .before .loop .inv .1 .entries-long
+-- so they have those of the arguments where the search is left
+left-sizes : (c : tie.After-follow Inv-loop μ-loop Inv-rows μ-rows) → let a = start-of (in-rows-of (in-loop-of c .before)) .args in let loop = in-loop-of c .before .loop in SameSizes (a .keys .now) (a .heads .now) (a .links .now) (a .entries .now) (a .flags .now)
+    (c .follow .last .1 .1 .1 .1 .1 .1 .1 .1 .1 .1 .1 .1 .0) (c .follow .last .1 .1 .1 .1 .1 .1 .1 .1 .1 .1 .1 .1 .1 .0) (c .follow .last .1 .1 .1 .1 .1 .1 .1 .1 .1 .1 .1 .1 .1 .1 .0) (loop .entries) (c .follow .last .1 .1 .1 .1 .1 .1 .1 .1 .1 .1 .1 .1 .1 .1 .1 .0)
+left-sizes c = sizes-trans (in-rows-of (in-loop-of c .before) .before .rows .inv .2) (sizes-trans (in-loop-of c .before .loop .inv .4) (follow-sizes c))
 
-same-length-10 : tie.Need-same-length-10 Inv-loop μ-loop
-same-length-10 c = c .before .loop .inv .1 .flags-long
+rows-holds : tie.Need-rows-holds Inv-loop μ-loop Inv-rows μ-rows
+rows-holds c = let start = c .before .before .before .before .before .before .before .before .before .before .before in (refl, turn-begin _ _ _ _ _ (start .pre .1 .0 .some-row) (start .pre .1 .1 .0) (start .pre .1 .1 .1), sizes-refl)
 
-returns-2 : tie.Need-returns-2 Inv-loop μ-loop
-returns-2 c = turn-end _ _ _ _ _ (c .loop-test .left) (c .before .loop .inv .0)
+mul-start : tie.Need-mul-start Inv-loop μ-loop Inv-rows μ-rows
+mul-start c = omega (arith, few-rows c)
+
+add-end : tie.Need-add-end Inv-loop μ-loop Inv-rows μ-rows
+add-end c = omega (arith, few-rows c)
+
+mul-prepare : tie.Need-mul-prepare Inv-loop μ-loop Inv-rows μ-rows
+mul-prepare c = omega (arith, few-rows c)
+
+sub-prepare : tie.Need-sub-prepare Inv-loop μ-loop Inv-rows μ-rows
+sub-prepare c = search needs
+
+part-prepare-start : tie.Need-part-prepare-start Inv-loop μ-loop Inv-rows μ-rows
+part-prepare-start c = omega (arith, key-room (c .before))
+
+part-prepare-end : tie.Need-part-prepare-end Inv-loop μ-loop Inv-rows μ-rows
+part-prepare-end c = key-room (c .before)
+
+slice-aggregate-prepare : tie.Need-slice-aggregate-prepare Inv-loop μ-loop Inv-rows μ-rows
+slice-aggregate-prepare c = search needs
+
+slice-aggregate-prepare-2 : tie.Need-slice-aggregate-prepare-2 Inv-loop μ-loop Inv-rows μ-rows
+slice-aggregate-prepare-2 c = search needs
+
+slice-aggregate-prepare-3 : tie.Need-slice-aggregate-prepare-3 Inv-loop μ-loop Inv-rows μ-rows
+slice-aggregate-prepare-3 c = search needs
+
+prepare-requires : tie.Need-prepare-requires Inv-loop μ-loop Inv-rows μ-rows
+prepare-requires c κs =
+    let in-rows = c .before .before .before .before .before in
+    let rows = in-rows .before .rows in
+    let start = start-of in-rows in
+    let a = start .args in (
+      (start .pre .0 .few-letters, start .pre .0 .few-streams, start .pre .0 .few-firsts),
+      (
+        subst (IsKey (lettersStore (a .letter-values .now) (a .streams) (a .width))) (sym (row-part (rows .keys) (rows .s))) (letters-key (row-key start (rows .inv .1 .known) (in-rows .rows-test .taken))),
+        (refl, refl, refl),
+      ),
+    )
+
+loop-holds : tie.Need-loop-holds Inv-loop μ-loop Inv-rows μ-rows
+loop-holds c =
+    let in-rows = c .before .before .before .before .before .before .before .before .before in
+    let rows = in-rows .before .rows in
+    let a = start-of in-rows .args in
+    let prepare = c .before .before .before .prepare in (
+      rows .inv .0,
+      in-rows .rows-test .taken,
+      omega arith,
+      rows .inv .1,
+      sizes-refl,
+      subst (λ k. Prepared (a .letter-values .now) (a .streams) (a .width) (length (a .first-nodes .now)) k (prepare .last .1 .1 .1 .1 .1 .0) (prepare .last .1 .1 .1 .1 .1 .1 .0) (prepare .last .1 .1 .1 .1 .1 .1 .1 .0)) (row-part (rows .keys) (rows .s)) (prepare .ensures),
+    )
+
+cast-follow : tie.Need-cast-follow Inv-loop μ-loop Inv-rows μ-rows
+cast-follow c = let in-loop = c .before .before .before .before in omega (arith, in-loop .loop-test .taken, lent (in-loop .before) .few-letters)
+
+slice-aggregate-follow : tie.Need-slice-aggregate-follow Inv-loop μ-loop Inv-rows μ-rows
+slice-aggregate-follow c = sym (c .before .before .before .before .before .before .loop .inv .5 .recent-long)
+
+slice-aggregate-follow-2 : tie.Need-slice-aggregate-follow-2 Inv-loop μ-loop Inv-rows μ-rows
+slice-aggregate-follow-2 c = sym (c .before .before .before .before .before .before .before .loop .inv .5 .window-long)
+
+slice-aggregate-follow-3 : tie.Need-slice-aggregate-follow-3 Inv-loop μ-loop Inv-rows μ-rows
+slice-aggregate-follow-3 c = sym (c .before .before .before .before .before .before .before .before .loop .inv .5 .firsts-long)
+
+follow-requires : tie.Need-follow-requires Inv-loop μ-loop Inv-rows μ-rows
+follow-requires c κs =
+    let in-loop = c .before .before .before .before .before .before .before in
+    let loop = in-loop .before .loop in
+    let start = start-of (in-rows-of (in-loop .before)) in
+    let l = lent (in-loop .before) in (
+      start .pre .0,
+      (
+        (row-key start (loop .inv .3 .known) (loop .inv .1), letter-values cutTowardZero (store start) (start .args .letters) (start .args .limit) (start .args .every) (l .values) (loop .a) (in-loop .loop-test .taken), loop .inv .1),
+        (loop .inv .3 .tables, ((l .few-rows, l .links-room, l .keys-room, l .flags-room), loop .inv .5)),
+      ),
+    )
+
+add-n : tie.Need-add-n Inv-loop μ-loop Inv-rows μ-rows
+add-n c = let at-loop = c .before .before .before .before .before .before .before .before .before .before .before .before .before .before .before .before .before .before .before .before .before in omega (arith, at-loop .loop .inv .3 .n-le, lent at-loop .few-rows)
+
+cast-entries : tie.Need-cast-entries Inv-loop μ-loop Inv-rows μ-rows
+cast-entries c =
+    let at = c .before .before .before .before .before .before .before .before .before .before .before in
+    let in-loop = in-loop-of at in
+    let loop = in-loop .before .loop in
+    record { fits = follow-fits _ _ _ _ _ (loop .inv .3) (loop .inv .1) (in-loop .loop-test .taken) (within in-loop) (lent (in-loop .before) .few-rows) (lent (in-loop .before) .flags-room) (at .follow .result) (at .follow .ensures .0) }
+
+mul-entries : tie.Need-mul-entries Inv-loop μ-loop Inv-rows μ-rows
+mul-entries c = let in-loop = c .before .before .before .before .before .before .before .before .before .before .before .before .before .before .before .before .before .before .before in omega (arith, within in-loop, in-loop .before .loop .inv .4 .entries-long, in-rows-of (in-loop .before) .before .rows .inv .2 .entries-long, start-of (in-rows-of (in-loop .before)) .good)
+
+slice-write-entries : tie.Need-slice-write-entries Inv-loop μ-loop Inv-rows μ-rows
+slice-write-entries c = within (c .before .before .before .before .before .before .before .before .before .before .before .before .before .before .before .before .before .before .before)
+
+add-at : tie.Need-add-at Inv-loop μ-loop Inv-rows μ-rows
+add-at c = let in-loop = c .before .before .before .before .before .before .before .before .before .before .before .before .before .before .before .before .before .before .before in omega (arith, within in-loop, in-loop .before .loop .inv .4 .entries-long, in-rows-of (in-loop .before) .before .rows .inv .2 .entries-long, start-of (in-rows-of (in-loop .before)) .good)
+
+add-a : tie.Need-add-a Inv-loop μ-loop Inv-rows μ-rows
+add-a c = let in-loop = c .before .before .before .before .before .before .before .before .before .before .before .before .before .before .before .before .before .before .before in omega (arith, in-loop .loop-test .taken, lent (in-loop .before) .few-letters)
+
+loop-less : tie.Need-loop-less Inv-loop μ-loop Inv-rows μ-rows
+loop-less c = omega (arith, c .before .before .before .before .before .before .before .before .before .before .before .before .before .before .before .before .before .before .before .loop-test .taken)
+
+loop-again : tie.Need-loop-again Inv-loop μ-loop Inv-rows μ-rows
+loop-again c =
+    let at = c .before .before .before .before .before .before .before .before .before .before .before in
+    let in-loop = in-loop-of at in
+    let loop = in-loop .before .loop in
+    ⊎-elim
+    (λ w.
+    (loop .inv .0, rw (w .2) (omega (arith, loop .inv .1)), omega (arith, in-loop .loop-test .taken), rw (w .2) (follow-new _ _ _ _ _ (loop .inv .3) (loop .inv .1) (in-loop .loop-test .taken) (within in-loop) (lent (in-loop .before) .few-rows) (lent (in-loop .before) .flags-room) (at .follow .result) (at .follow .ensures .0) (w .0 .taken) (w .1 .left)), sizes-stored (loop .at) (at .follow .result) (sizes-trans (loop .inv .4) (follow-sizes at)), at .follow .ensures .1))
+    (λ w.
+    (loop .inv .0, rw (w .1) (loop .inv .1), omega (arith, in-loop .loop-test .taken), rw (w .1) (follow-old _ _ _ _ _ (loop .inv .3) (loop .inv .1) (in-loop .loop-test .taken) (within in-loop) (lent (in-loop .before) .few-rows) (lent (in-loop .before) .flags-room) (at .follow .result) (at .follow .ensures .0) (w .0 .left)), sizes-stored (loop .at) (at .follow .result) (sizes-trans (loop .inv .4) (follow-sizes at)), at .follow .ensures .1))
+    (c .if1 .came)
+
+add-s : tie.Need-add-s Inv-loop μ-loop Inv-rows μ-rows
+add-s c = omega (arith, few-rows (in-rows-of (c .before)))
+
+rows-less : tie.Need-rows-less Inv-loop μ-loop Inv-rows μ-rows
+rows-less c = let in-rows = in-rows-of (c .before) in omega (arith, in-rows .rows-test .taken, in-rows .before .rows .inv .1 .n-le)
+
+rows-again : tie.Need-rows-again Inv-loop μ-loop Inv-rows μ-rows
+rows-again c = let loop = c .before .loop in (loop .inv .0, turn-row _ _ _ _ _ (c .loop-test .left) (loop .inv .2) (loop .inv .3), sizes-trans (in-rows-of (c .before) .before .rows .inv .2) (loop .inv .4))
+
+same-length : tie.Need-same-length Inv-loop μ-loop Inv-rows μ-rows
+same-length c = c .before .rows .inv .2 .keys-long
+
+same-length-2 : tie.Need-same-length-2 Inv-loop μ-loop Inv-rows μ-rows
+same-length-2 c = c .before .rows .inv .2 .heads-long
+
+same-length-3 : tie.Need-same-length-3 Inv-loop μ-loop Inv-rows μ-rows
+same-length-3 c = c .before .rows .inv .2 .links-long
+
+same-length-4 : tie.Need-same-length-4 Inv-loop μ-loop Inv-rows μ-rows
+same-length-4 c = c .before .rows .inv .2 .entries-long
+
+same-length-5 : tie.Need-same-length-5 Inv-loop μ-loop Inv-rows μ-rows
+same-length-5 c = c .before .rows .inv .2 .flags-long
+
+returns : tie.Need-returns Inv-loop μ-loop Inv-rows μ-rows
+returns c = let rows = c .before .rows in rw (rows .inv .0) (turn-end _ _ _ _ _ (c .rows-test .left) (rows .inv .1))
+
+same-length-6 : tie.Need-same-length-6 Inv-loop μ-loop Inv-rows μ-rows
+same-length-6 c = left-sizes (c .before .before .before .before .before .before .before .before .before .before .before .before) .keys-long
+
+same-length-7 : tie.Need-same-length-7 Inv-loop μ-loop Inv-rows μ-rows
+same-length-7 c = left-sizes (c .before .before .before .before .before .before .before .before .before .before .before .before) .heads-long
+
+same-length-8 : tie.Need-same-length-8 Inv-loop μ-loop Inv-rows μ-rows
+same-length-8 c = left-sizes (c .before .before .before .before .before .before .before .before .before .before .before .before) .links-long
+
+same-length-9 : tie.Need-same-length-9 Inv-loop μ-loop Inv-rows μ-rows
+same-length-9 c = left-sizes (c .before .before .before .before .before .before .before .before .before .before .before .before) .entries-long
+
+same-length-10 : tie.Need-same-length-10 Inv-loop μ-loop Inv-rows μ-rows
+same-length-10 c = left-sizes (c .before .before .before .before .before .before .before .before .before .before .before .before) .flags-long
+
+returns-2 : tie.Need-returns-2 Inv-loop μ-loop Inv-rows μ-rows
+returns-2 c =
+    let at = c .before .before .before .before .before .before .before .before .before .before .before .before in
+    let in-loop = in-loop-of at in
+    let loop = in-loop .before .loop in
+    follow-full _ _ _ _ _ (loop .inv .3) (loop .inv .1) (in-loop .loop-test .taken) (within in-loop) (lent (in-loop .before) .few-rows) (lent (in-loop .before) .flags-room) (at .follow .result) (at .follow .ensures .0) (c .before .if1 .taken) (c .if2 .taken)
 
 pub search-spec : {M : Type 1} → statement M
 search-spec =
@@ -98,17 +272,42 @@ search-spec =
     (tie.spec
     Inv-loop
     μ-loop
+    Inv-rows
+    μ-rows
+    rows-holds
+    mul-start
+    add-end
+    mul-prepare
+    sub-prepare
+    part-prepare-start
+    part-prepare-end
+    slice-aggregate-prepare
+    slice-aggregate-prepare-2
+    slice-aggregate-prepare-3
+    prepare-requires
     loop-holds
-    search-row-requires
+    cast-follow
+    slice-aggregate-follow
+    slice-aggregate-follow-2
+    slice-aggregate-follow-3
+    follow-requires
+    add-n
+    cast-entries
+    mul-entries
+    slice-write-entries
+    add-at
+    add-a
+    loop-less
+    loop-again
+    add-s
+    rows-less
+    rows-again
     same-length
     same-length-2
     same-length-3
     same-length-4
     same-length-5
     returns
-    add-s
-    loop-less
-    loop-again
     same-length-6
     same-length-7
     same-length-8
