@@ -18,8 +18,10 @@ placeIn text origin starts k = cond (ltb k (length starts)) (getD starts k 0 - o
 unfoldable pub tokensFrom : List ℕ → ℕ → List ℕ → ℕ → List Token
 tokensFrom text origin starts k = tokens (drop (placeIn text origin starts k) text)
 
--- The starts from the number `at` on are those of tokens of the text that stand one after the other, and of tokens after the text.
+-- The starts from the number `at` on are those of tokens of the text that stand one after the other, and of tokens after the text. The line is
+-- short enough for its places to fit the machine.
 pub record Placed (text : List ℕ) (origin : ℕ) (starts : List ℕ) (at : ℕ) : Type 0 where
+  pub short : origin + length text < 9223372036854775808
   pub within : (k : ℕ) → at ≤ k → k < length starts → origin ≤ getD starts k 0
   pub follows : (k : ℕ) → at ≤ k → tokensFrom text origin starts (k + 1) ≡ drop 1 (tokensFrom text origin starts k)
 

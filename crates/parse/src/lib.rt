@@ -7,6 +7,7 @@ ghost use lib.IntN.{pos};
 ghost use lib.ListN.{length};
 ghost use lib.Seq.{sets};
 ghost use Rattle.text.specs.Bytes.{tokens};
+ghost use Rattle.scan.specs.Place.{between};
 ghost use Rattle.scan.specs.Start.{tokenStarts};
 ghost use Rattle.nodes.specs.Postfix.{node};
 ghost use Rattle.sheet.specs.Parser.{partTo, conditionalBy, expressionBy};
@@ -248,10 +249,11 @@ fn part(
         return nothing();
     }
     let inside = &text[from..close];
+    let begin = origin + from;
     let inner = expression(
         names,
         inside,
-        origin + from,
+        begin,
         token_starts,
         token.next,
         kinds,
@@ -263,7 +265,7 @@ fn part(
     if !inner.ok {
         return nothing();
     }
-    let after = token_at(inside, origin + from, token_starts, inner.next);
+    let after = token_at(inside, begin, token_starts, inner.next);
     if after.start != after.end {
         return nothing();
     }
@@ -443,11 +445,13 @@ fn expression(
     }
 }
 
-// The two sides of a constraint line and the relation between them.
+// The two sides of a constraint line and the relation between them, where the starts of its tokens stand from the number of its first node to
+// before `last`.
 fn sides(
     names: &[u8],
     line: &[u8],
-    token_starts: &[usize],
+    all_starts: &[usize],
+    last: usize,
     kinds: &mut [u8; 1024],
     values: &mut [i64; 1024],
     starts: &mut [u16; 1024],
@@ -455,9 +459,10 @@ fn sides(
     firsts: usize,
 ) -> ConstraintRead
     requires { ⌜ Fits (now line) nodes firsts ⌝ }
-    requires { ⌜ now «token_starts» ≡ tokenStarts (now line) ⌝ }
+    requires { ⌜ (nodes ≤ last) × (last ≤ length (now «all_starts»)) × (between (now «all_starts») nodes last ≡ tokenStarts (now line)) ⌝ }
     ensures { λ r. ⌜ ConstraintOutcome (now (names .entry)) (now (line .entry)) nodes firsts (arrays (now (kinds .entry)) (now (values .entry)) (now (starts .entry))) (arrays (now (kinds .exit)) (now (values .exit)) (now (starts .exit))) r ⌝ }
 {
+    let token_starts = &all_starts[nodes..last];
     let left = expression(
         names,
         line,
@@ -558,5 +563,5 @@ pub fn parse_constraint(
     }
     store_token_starts(line, token_starts, from);
     let last = from + count;
-    sides(names, line, &token_starts[from..last], kinds, values, starts, from, firsts)
+    sides(names, line, token_starts, last, kinds, values, starts, from, firsts)
 }
