@@ -1,7 +1,7 @@
 -- The answers of the reader of constraints: each way that it goes gives what its contract says. From the laws of Readers and Trees.
 use Prim.Native.Nat.{ℕ, _+_, _-_, _≤_, _<_}
 use mathlib.Core.Path.{_≡_, refl, sym, ap, ap₂, _∙_}
-use mathlib.Core.Bool.{Bool, true, _||_}
+use mathlib.Core.Bool.{Bool, true, false, _||_}
 use mathlib.Core.List.{List, [], _∷_, _++_}
 use mathlib.Core.Option.{none}
 use native.Mathlib.Omega.{arith}
@@ -23,7 +23,7 @@ use Rattle.parse.specs.declared.ConstraintRead.{ConstraintRead}
 use Rattle.parse.specs.Stored.{Arrays, store, SameBelow}
 use Rattle.parse.specs.Bounded.{bounded, hasBeyond, boundedConstraint}
 use Rattle.parse.specs.Numbered.{TokenNumbered, noneLeft, numbered}
-use Rattle.parse.specs.Reading.{Stores, Found, unread, constraintRead, Fits, ConstraintOutcome, isNoConstraint, isRead}
+use Rattle.parse.specs.Reading.{Stores, Found, unread, constraintRead, Fits, StartsOutcome, areKept, ConstraintOutcome, isTooLong, isNoConstraint, isRead}
 use Rattle.parse.proofs.Trees.{anyOf-append, Row, row-one, row-more}
 use Rattle.parse.proofs.Readers.{wordOf, no-word}
 
@@ -101,6 +101,10 @@ module _ {old mid new : Arrays} {n f m g k h : ℕ} {x y : Bool} {a b : Expressi
       by : (o : Relation) → answer (relationNumber o) (n + left - 1) (n + left + right - 1) (n + length (postfix n f (bounded a) ++ postfix (n + left) (f + length (firsts (bounded a))) (bounded b))) (f + length (firsts (bounded a) ++ firsts (bounded b))) (anyOf isIntegerBeyond (subexpressions a ++ subexpressions b)) ≡ constraintRead n f (related o a b)
       by (sign v) = refl
       by untilSign = refl
+
+-- A line that is too long changes nothing.
+pub too-long : {names line : List ℕ} {n f : ℕ} {places : List ℕ} {old : Arrays} {r : ConstraintRead} → (Fits line n f → ⊥) → r ≡ unread false → StartsOutcome line n f places places × ConstraintOutcome names line n f old old r
+too-long h e = (areKept h refl, isTooLong h e refl)
 
 -- The line as a whole.
 module _ (names line : List ℕ) (rest : ℕ → List Token) (whole : rest 0 ≡ tokens line) {n f : ℕ} (w : Fits line n f) where

@@ -111,16 +111,20 @@ module _ (line : List ℕ) where
           let whole : getD (tokenStarts line) k 0 - 0 ≡ getD (tokenStarts line) k 0 = omega arith in
           tokens-stored line 0 (tokenStarts line) k (omega arith) ∙ ap (λ n. tokens (drop n line)) whole ∙ token-start line k (let z = token-starts-length line in omega arith)
 
-  pub line-placed : length line < 9223372036854775808 → Placed line 0 (tokenStarts line) 0
-  line-placed h =
-      record {
-        short = omega arith;
-        within = λ k m i. omega arith;
-        follows = λ k m. line-tokens (k + 1) ∙ sym (drop-drop 1 k (tokens line)) ∙ ap (drop 1) (sym (line-tokens k));
-      }
+  module _ {starts : List ℕ} (e : starts ≡ tokenStarts line) where
+    starts-tokens : (k : ℕ) → tokensFrom line 0 starts k ≡ drop k (tokens line)
+    starts-tokens k = ap (λ ss. tokensFrom line 0 ss k) e ∙ line-tokens k
 
-  pub line-first : tokensFrom line 0 (tokenStarts line) 0 ≡ tokens line
-  line-first = line-tokens 0
+    pub line-placed : length line < 9223372036854775808 → Placed line 0 starts 0
+    line-placed h =
+        record {
+          short = omega arith;
+          within = λ k m i. omega arith;
+          follows = λ k m. starts-tokens (k + 1) ∙ sym (drop-drop 1 k (tokens line)) ∙ ap (drop 1) (sym (starts-tokens k));
+        }
+
+    pub line-first : tokensFrom line 0 starts 0 ≡ tokens line
+    line-first = starts-tokens 0
 
 -- No more tokens are left from a later place on.
 tokens-add : (c : ByteClass) (g : Bool) (b : ℕ) (ts : List Token) → length ts ≤ length (addToTokens c g b ts)

@@ -1,59 +1,59 @@
+-- `parse::store_token_starts` meets its contract: what is stored and the starts from the loop's place on are all starts of the line's tokens.
+use Prim.Native.Nat.{_-_}
+use mathlib.Core.Path.{sym, _∙_}
+use mathlib.Core.Logic.{⊎-elim}
+use native.Mathlib.Omega.{arith}
+use lib.ListN.{length}
+use borrow.Author.Needs.{needs}
+use Rattle.parse.proofs.Filled.{Filled, filled-start, filled-end, begins-room, filled-begins, filled-passes}
 use Rattle.parse.proofs.store_token_starts.Statement.{statement}
 use Rattle.parse.proofs.store_token_starts.Tie as tie
-use Rattle.parse.proofs.store_token_starts.Reads as reads
-use Rattle.parse.proofs.store_token_starts.Lts as lts
-use Rattle.scan.proofs.begins_token.Reads as begins-token-reads
-use Rattle.scan.proofs.is_inside.Reads as is-inside-reads
 
 abbrev Inv-loop : tie.InvT-loop
-Inv-loop line token-starts₀ from count₀ inside₀ i₀ token-starts count inside i = ?
+Inv-loop line token-starts₀ from count₀ inside₀ i₀ token-starts count inside i = Filled line token-starts₀ token-starts from count inside i
 
 abbrev μ-loop : tie.MeasureT-loop
-μ-loop line token-starts₀ from count₀ inside₀ i₀ token-starts count inside i = ?
+μ-loop line token-starts₀ from count₀ inside₀ i₀ token-starts count inside i = length line - i
 
--- src/lib.rt:522:5
 loop-holds : tie.Need-loop-holds Inv-loop μ-loop
-loop-holds c = ?
+loop-holds c = filled-start _ _ _ (c .before .pre)
 
--- src/lib.rt:523:20
 shared-slice-read-byte : tie.Need-shared-slice-read-byte Inv-loop μ-loop
-shared-slice-read-byte c = ?
+shared-slice-read-byte c = search needs
 
--- src/lib.rt:524:12
 begins-token-requires : tie.Need-begins-token-requires Inv-loop μ-loop
-begins-token-requires c κs = ?
+begins-token-requires c κs = search needs
 
--- src/lib.rt:525:13
 mul-token-starts : tie.Need-mul-token-starts Inv-loop μ-loop
-mul-token-starts c = ?
+mul-token-starts c = let room = begins-room (c .before .before .before .before .loop .inv) (c .before .before .before .loop-test .taken) (sym (c .before .begins-token .ensures) ∙ c .if1 .taken) in omega arith
 
--- src/lib.rt:525:13
 element-write-token-starts : tie.Need-element-write-token-starts Inv-loop μ-loop
-element-write-token-starts c = ?
+element-write-token-starts c = begins-room (c .before .before .before .before .loop .inv) (c .before .before .before .loop-test .taken) (sym (c .before .begins-token .ensures) ∙ c .if1 .taken)
 
--- src/lib.rt:526:13
 add-count : tie.Need-add-count Inv-loop μ-loop
-add-count c = ?
+add-count c = let room = begins-room (c .before .before .before .before .loop .inv) (c .before .before .before .loop-test .taken) (sym (c .before .begins-token .ensures) ∙ c .if1 .taken) in omega arith
 
--- src/lib.rt:528:9
 is-inside-requires : tie.Need-is-inside-requires Inv-loop μ-loop
-is-inside-requires c κs = ?
+is-inside-requires c κs = search needs
 
--- src/lib.rt:529:9
 add-i : tie.Need-add-i Inv-loop μ-loop
-add-i c = ?
+add-i c = search needs
 
--- src/lib.rt:522:5
 loop-less : tie.Need-loop-less Inv-loop μ-loop
-loop-less c = ?
+loop-less c = let more = c .before .before .before .before .loop-test .taken in omega arith
 
--- src/lib.rt:522:5
 loop-again : tie.Need-loop-again Inv-loop μ-loop
-loop-again c = ?
+loop-again c =
+    let filled = c .before .before .before .before .before .loop .inv in
+    let more = c .before .before .before .before .loop-test .taken in
+    let tested = c .before .before .begins-token .ensures in
+    ⊎-elim
+    (λ w. rw (w .1, w .2, c .is-inside .ensures) (filled-begins filled more (sym tested ∙ w .0 .taken)))
+    (λ w. rw (w .1, w .2, c .is-inside .ensures) (filled-passes filled more (sym tested ∙ w .0 .left)))
+    (c .before .if1 .came)
 
--- src/lib.rt:515:1
 returns : tie.Need-returns Inv-loop μ-loop
-returns c = ?
+returns c = filled-end (c .before .loop .inv) (c .loop-test .left)
 
 pub store-token-starts-spec : {M : Type 1} → statement M
 store-token-starts-spec =
