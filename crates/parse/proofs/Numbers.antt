@@ -1,14 +1,14 @@
 -- Tokens by their numbers: what a token found by its number says, that the starts of a line's tokens give each of them, and that they give the
 -- tokens of the text between two brackets too. From the laws of starts and of tokens.
 use Prim.Native.Nat.{ℕ, zero, suc, _+_, _-_, _≤_, _<_}
-use mathlib.Core.Path.{_≡_, refl, sym, ap, ap₂, subst, _∙_}
+use mathlib.Core.Path.{_≡_, refl, sym, ap, ap₂, _∙_}
 use mathlib.Core.Bool.{Bool, true, false, cond}
-use mathlib.Core.List.{List, [], _∷_, _++_, cons≢nil, head-eq-of-cons-eq}
+use mathlib.Core.List.{List, [], _∷_, _++_, cons≢nil}
 use native.Mathlib.Decide.{decLe}
 use native.Mathlib.Omega.{arith}
 use lib.Dec.{T}
-use lib.ListN.{length, take, drop, getD, length-append, length-drop, length-take, drop-of-length-le}
-use lib.Seq.{take-nil, drop-drop, drop-nil, take-append-seam, drop-append-add, drop-append-seam}
+use lib.ListN.{length, take, drop, getD, length-append, length-drop, drop-of-length-le}
+use lib.Seq.{take-nil, drop-drop, drop-nil, take-append-seam, drop-append-seam}
 use borrow.Author.Tests.{lt-ltb, le-ltb}
 use Rattle.text.specs.Bytes as bytes
 use Rattle.text.specs.Bytes.{Token, bytesOf, ByteClass, bracket, inside, isBracket, startsInside, addToTokens, classOf, tokens}
@@ -17,7 +17,7 @@ use Rattle.scan.specs.Place.{between, TokenAt, noToken, aToken}
 use Rattle.scan.specs.declared.Span.{Span}
 use Rattle.scan.specs.Start.{tokenStarts}
 use Rattle.scan.proofs.Starts.{token-starts-length, token-start}
-use Rattle.scan.proofs.Tokens.{between-split, between-length, between-first, drop-at, drop-end}
+use Rattle.scan.proofs.Tokens.{between-split, between-length, drop-at, drop-end}
 use Rattle.parse.specs.declared.NumberedToken.{NumberedToken}
 use Rattle.parse.specs.Numbered.{placeIn, tokensFrom, Placed, TokenNumbered, noneLeft, numbered}
 
@@ -126,19 +126,19 @@ module _ (line : List ℕ) where
     pub line-first : tokensFrom line 0 starts 0 ≡ tokens line
     line-first = starts-tokens 0
 
--- No more tokens are left from a later place on.
-tokens-add : (c : ByteClass) (g : Bool) (b : ℕ) (ts : List Token) → length ts ≤ length (addToTokens c g b ts)
-tokens-add bracket g b ts = omega arith
-tokens-add inside true b [] = omega arith
-tokens-add inside true b (t ∷ ts) = omega arith
-tokens-add inside false b ts = omega arith
-tokens-add bytes.between g b ts = omega arith
+-- A byte more leaves no fewer tokens, so that no more are left from a later place on.
+tokens-more : (c : ByteClass) (g : Bool) (b : ℕ) (ts : List Token) → length ts ≤ length (addToTokens c g b ts)
+tokens-more bracket g b ts = omega arith
+tokens-more inside true b [] = omega arith
+tokens-more inside true b (t ∷ ts) = omega arith
+tokens-more inside false b ts = omega arith
+tokens-more bytes.between g b ts = omega arith
 
 tokens-fewer : (n : ℕ) (l : List ℕ) → length (tokens (drop n l)) ≤ length (tokens l)
 unfolding tokens
 tokens-fewer zero l = omega arith
 tokens-fewer (suc n) [] = omega arith
-tokens-fewer (suc n) (b ∷ l) = let z = tokens-fewer n l in let w = tokens-add (classOf b) (startsInside l) b (tokens l) in omega arith
+tokens-fewer (suc n) (b ∷ l) = let z = tokens-fewer n l in let w = tokens-more (classOf b) (startsInside l) b (tokens l) in omega arith
 
 -- What stands before the last c elements, of a list and of the list without its first element.
 front-rest : (l : List Token) (c : ℕ) → take (length (drop 1 l) - c) (drop 1 l) ≡ drop 1 (take (length l - c) l)

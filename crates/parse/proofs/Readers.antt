@@ -89,7 +89,7 @@ module _ (names : List Token) where
     inner-front : take (length inner) (tokens (drop end text)) ≡ inner
     inner-front = ap (take (length inner)) inner-tokens ∙ take-append-seam inner (bytesOf ")" ∷ tokens (drop (close + 1) text))
 
-    pub inner-after : drop (suc (length inner)) (tokens (drop end text)) ≡ tokens (drop (close + 1) text)
+    inner-after : drop (suc (length inner)) (tokens (drop end text)) ≡ tokens (drop (close + 1) text)
     inner-after =
         let more : suc (length inner) ≡ length inner + 1 = omega arith in
         ap₂ drop more inner-tokens ∙ drop-append-add inner (bytesOf ")" ∷ tokens (drop (close + 1) text)) 1

@@ -15,8 +15,8 @@ ghost use Rattle.parse.specs.Stored.{arrays, store};
 ghost use Rattle.parse.specs.Numbered.{tokensFrom, Placed, TokenNumbered};
 ghost use Rattle.parse.specs.Reading.{Room, Reading, LeafReading, firstsInside, prefixValue, unread, Fits, StartsOutcome, ConstraintOutcome};
 
-// What reading a part or an expression gives: whether there is one, the place after it, the numbers of nodes and of `first`s stored so
-// far, and whether an integer in it is beyond the magnitude bound.
+// What reading a part or an expression gives: whether there is one, the number of the token after it, the numbers of nodes and of `first`s
+// stored so far, and whether an integer in it is beyond the magnitude bound.
 struct Read {
     ok: bool,
     next: usize,
@@ -25,7 +25,8 @@ struct Read {
     beyond: bool,
 }
 
-// The token with a number of the line in the text, and the number after it; start and end are equal where the text has no such token.
+// Where the token with some number begins and ends in a text, and the next number; both places are the text's length where the text has no
+// token with that number.
 struct NumberedToken {
     start: usize,
     end: usize,
@@ -165,7 +166,8 @@ fn prefix_value(kind: u8, firsts: usize) -> i64
     if kind == 2 { value_of(firsts) } else { 0 }
 }
 
-// The token with the number `at`, where `token_starts` holds where the line's tokens begin and the text begins at `origin` in the line.
+// The token with the number `at`, where `token_starts` holds the places of the line at which its tokens begin, and the text is the part of
+// the line that begins at the place `origin`.
 fn token_at(text: &[u8], origin: usize, token_starts: &[usize], at: usize) -> NumberedToken
     requires { ⌜ Placed (now text) origin (now «token_starts») at ⌝ }
     ensures { λ r. ⌜ TokenNumbered (now (text .entry)) (tokensFrom (now (text .entry)) origin (now («token_starts» .entry))) at r ⌝ }
@@ -185,9 +187,9 @@ fn token_at(text: &[u8], origin: usize, token_starts: &[usize], at: usize) -> Nu
     }
 }
 
-// The part that begins with the first token from `at` on. The readers of parts and of expressions call each other, and what they call has
+// The part that begins with the token with the number `at`. The readers of parts and of expressions call each other, and what they call has
 // fewer tokens left to read, or as many where an expression begins with a part. The text between two brackets is passed on as a part of the
-// bytes and read as an expression by itself.
+// bytes and read as an expression by itself; its tokens keep their numbers.
 fn part(
     names: &[u8],
     text: &[u8],
@@ -241,7 +243,16 @@ fn part(
         };
     }
     if !scan::is_opening(word) {
-        return leaf(names, word, token.next, kinds, values, starts, nodes, firsts);
+        return leaf(
+            names,
+            word,
+            token.next,
+            kinds,
+            values,
+            starts,
+            nodes,
+            firsts,
+        );
     }
     let from = start + 1;
     let close = scan::partner(text, from);
@@ -363,7 +374,7 @@ fn conditional(
     }
 }
 
-// The expression that begins with the first token from `at` on.
+// The expression that begins with the token with the number `at`.
 fn expression(
     names: &[u8],
     text: &[u8],
@@ -445,8 +456,8 @@ fn expression(
     }
 }
 
-// The two sides of a constraint line and the relation between them, where the starts of its tokens stand from the number of its first node to
-// before `last`.
+// The two sides of a constraint line and the relation between them. The starts of the line's tokens stand in `all_starts` from the number of
+// the line's first node to before `last`.
 fn sides(
     names: &[u8],
     line: &[u8],
@@ -516,7 +527,7 @@ fn sides(
     }
 }
 
-// Stores the places where the tokens of a line begin.
+// Stores the places where the line's tokens begin, from the place `from` of the array on.
 fn store_token_starts(line: &[u8], token_starts: &mut [usize; 1024], from: usize)
     requires { ⌜ from + length (tokens (now line)) ≤ 1024 ⌝ }
     ensures { λ r. ⌜ now («token_starts» .exit) ≡ sets (now («token_starts» .entry)) from (tokenStarts (now (line .entry))) ⌝ }
@@ -563,5 +574,15 @@ pub fn parse_constraint(
     }
     store_token_starts(line, token_starts, from);
     let last = from + count;
-    sides(names, line, token_starts, last, kinds, values, starts, from, firsts)
+    sides(
+        names,
+        line,
+        token_starts,
+        last,
+        kinds,
+        values,
+        starts,
+        from,
+        firsts,
+    )
 }

@@ -2,7 +2,6 @@
 use Prim.Native.Nat.{_+_, _≤_}
 use mathlib.Core.Path.{sym, ap, _∙_}
 use native.Mathlib.Omega.{arith}
-use lib.ListN.{length}
 use borrow.Author.Needs.{needs}
 use Rattle.scan.specs.Start.{tokenStarts}
 use Rattle.scan.proofs.Starts.{token-starts-length}
@@ -48,9 +47,10 @@ sides-requires c κs =
     let at-store-token-starts = c .before .before .before .before .before .store-token-starts in
     let size = c .before .before .before .sides-arg2 .given .0 in
     let count = at-token-count .ensures ∙ sym (token-starts-length (at-start .args .line .now)) in
-    let room : at-start .args .from + at-token-count .result ≤ 1024 = omega (arith, at-if3 .left) in
-    (record { nodes = omega (arith, at-token-count .ensures); firsts = at-if2 .left },
-    (omega arith, omega arith, stored-starts (at-start .args .token-starts .now) (at-start .args .from) (tokenStarts (at-start .args .line .now)) (at-store-token-starts .ensures) (ap (λ n. at-start .args .from + n) count) (omega arith)))
+    let room : at-start .args .from + at-token-count .result ≤ 1024 = omega (arith, at-if3 .left) in (
+      record { nodes = omega (arith, at-token-count .ensures); firsts = at-if2 .left },
+      (omega arith, omega arith, stored-starts (at-start .args .token-starts .now) (at-start .args .from) (tokenStarts (at-start .args .line .now)) (at-store-token-starts .ensures) (ap (λ n. at-start .args .from + n) count) (omega arith)),
+    )
 
 returns-4 : tie.Need-returns-4
 returns-4 c =

@@ -1,6 +1,5 @@
 -- `parse::sides` meets its contract: both sides are read as expressions, a relation stands between them, and no token is left.
-use Prim.Native.Nat.{_+_}
-use mathlib.Core.Path.{_≡_, sym, ap, _∙_}
+use mathlib.Core.Path.{sym, ap, _∙_}
 use native.Mathlib.Omega.{arith}
 use lib.ListN.{length}
 use borrow.Author.Needs.{needs}
