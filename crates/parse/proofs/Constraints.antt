@@ -1,11 +1,11 @@
 -- The answers of the reader of constraints: each way that it goes gives what its contract says. From the laws of Readers and Trees.
 use Prim.Native.Nat.{ℕ, _+_, _-_, _≤_, _<_}
 use mathlib.Core.Path.{_≡_, refl, sym, ap, ap₂, _∙_}
-use mathlib.Core.Bool.{Bool, true, _||_}
+use mathlib.Core.Bool.{Bool, true, false, _||_}
 use mathlib.Core.List.{List, [], _∷_, _++_}
 use mathlib.Core.Option.{none}
 use native.Mathlib.Omega.{arith}
-use lib.ListN.{length, drop, length-append}
+use lib.ListN.{length, length-append}
 use Rattle.text.specs.Bytes.{Token, tokens}
 use Rattle.meaning.specs.Value.{less, atMost, equal, atLeast, greater, different}
 use Rattle.meaning.specs.Expression.{Expression, comparison, implies}
@@ -15,15 +15,15 @@ use Rattle.nodes.specs.Postfix.{postfix, sideNodes}
 use Rattle.sheet.specs.Vocabulary.{Relation, sign, untilSign, related, relations, relationOf}
 use Rattle.sheet.specs.Reading.{anyOf, isIntegerBeyond}
 use Rattle.sheet.specs.Parser.{andThen, Reader, expressionBy, wholeLine, constraintFrom, secondSide, partTo, parseConstraint}
-use Rattle.scan.specs.Place.{TokenAt, noToken, aToken}
-use Rattle.scan.specs.declared.Span.{Span}
 use Rattle.scan.specs.Word.{codeOr255, relationNumber}
 use Rattle.scan.proofs.Words.{code-none, code-some}
+use Rattle.parse.specs.declared.NumberedToken.{NumberedToken}
 use Rattle.parse.specs.declared.Read.{Read}
 use Rattle.parse.specs.declared.ConstraintRead.{ConstraintRead}
 use Rattle.parse.specs.Stored.{Arrays, store, SameBelow}
 use Rattle.parse.specs.Bounded.{bounded, hasBeyond, boundedConstraint}
-use Rattle.parse.specs.Reading.{Stores, Found, unread, constraintRead, Fits, ConstraintOutcome, isNoConstraint, isRead}
+use Rattle.parse.specs.Numbered.{TokenNumbered, noneLeft, numbered}
+use Rattle.parse.specs.Reading.{Stores, Found, unread, constraintRead, Fits, StartsOutcome, areKept, ConstraintOutcome, isTooLong, isNoConstraint, isRead}
 use Rattle.parse.proofs.Trees.{anyOf-append, Row, row-one, row-more}
 use Rattle.parse.proofs.Readers.{wordOf, no-word}
 
@@ -38,27 +38,29 @@ relation-small (sign implies) = omega arith
 relation-small untilSign = omega arith
 
 -- What stands after the first side: no relation, or one.
-pub no-relation : {line : List ℕ} {at : ℕ} {s : Span} (p : Reader) (a : Expression) → TokenAt line at s → codeOr255 relationNumber (relationOf (wordOf line s)) ≡ 255 → secondSide p a (tokens (drop at line)) ≡ none
-no-relation p a (noToken _ _ e) h = ap (secondSide p a) e
-no-relation {line} {s = s} p a (aToken _ _ _ e) h =
-    ap (secondSide p a) e ∙ ap (λ o. constraintFrom p a o (tokens (drop (s .end) line))) (code-none relationNumber relation-small (relationOf (wordOf line s)) h)
+pub no-relation : {line : List ℕ} {rest : ℕ → List Token} {at : ℕ} {s : NumberedToken} (p : Reader) (a : Expression) → TokenNumbered line rest at s → codeOr255 relationNumber (relationOf (wordOf line s)) ≡ 255 → secondSide p a (rest at) ≡ none
+no-relation p a (noneLeft _ _ e) h = ap (secondSide p a) e
+no-relation {line} {rest} {s = s} p a (numbered _ _ _ e _) h =
+    ap (secondSide p a) e ∙ ap (λ o. constraintFrom p a o (rest (s .next))) (code-none relationNumber relation-small (relationOf (wordOf line s)) h)
 
-pub record Relation-at (line : List ℕ) (at : ℕ) (s : Span) (code : ℕ) : Type 0 where
+pub record Relation-at (line : List ℕ) (rest : ℕ → List Token) (at : ℕ) (s : NumberedToken) (code : ℕ) : Type 0 where
   pub relation : Relation
   pub code-is : code ≡ relationNumber relation
-  pub first : tokens (drop at line) ≡ wordOf line s ∷ tokens (drop (s .end) line)
-  pub goes-on : (p : Reader) (a : Expression) → secondSide p a (tokens (drop at line)) ≡ andThen (expressionBy p (tokens (drop (s .end) line))) (λ y. wholeLine (related relation a (y .tree)) (y .rest))
+  pub first : rest at ≡ wordOf line s ∷ rest (s .next)
+  pub number : s .next ≡ at + 1
+  pub goes-on : (p : Reader) (a : Expression) → secondSide p a (rest at) ≡ andThen (expressionBy p (rest (s .next))) (λ y. wholeLine (related relation a (y .tree)) (y .rest))
 
-pub relation-at : {line : List ℕ} {at : ℕ} {s : Span} {code : ℕ} → TokenAt line at s → code ≡ codeOr255 relationNumber (relationOf (wordOf line s)) → (code ≡ 255 → ⊥) → Relation-at line at s code
+pub relation-at : {line : List ℕ} {rest : ℕ → List Token} {at : ℕ} {s : NumberedToken} {code : ℕ} → TokenNumbered line rest at s → code ≡ codeOr255 relationNumber (relationOf (wordOf line s)) → (code ≡ 255 → ⊥) → Relation-at line rest at s code
 unfolding relationOf relations
-relation-at {line} {s = s} (noToken p q e) c n = absurd (n (c ∙ ap (λ w. codeOr255 relationNumber (relationOf w)) (no-word line s p q)))
-relation-at {line} {s = s} (aToken _ _ _ e) c n =
+relation-at {line} {s = s} (noneLeft p q e) c n = absurd (n (c ∙ ap (λ w. codeOr255 relationNumber (relationOf w)) (no-word line s p q)))
+relation-at {line} {rest} {s = s} (numbered _ _ m e _) c n =
     let (r, is, code) = code-some relationNumber (relationOf (wordOf line s)) (λ h. n (c ∙ h)) in
     record {
       relation = r;
       code-is = c ∙ code;
       first = e;
-      goes-on = λ p a. ap (secondSide p a) e ∙ ap (λ o. constraintFrom p a o (tokens (drop (s .end) line))) is;
+      number = m;
+      goes-on = λ p a. ap (secondSide p a) e ∙ ap (λ o. constraintFrom p a o (rest (s .next))) is;
     }
 
 -- The sides of a constraint and what is stored of them.
@@ -100,43 +102,50 @@ module _ {old mid new : Arrays} {n f m g k h : ℕ} {x y : Bool} {a b : Expressi
       by (sign v) = refl
       by untilSign = refl
 
+-- A line that is too long changes nothing.
+pub too-long : {names line : List ℕ} {n f : ℕ} {places : List ℕ} {old : Arrays} {r : ConstraintRead} → (Fits line n f → ⊥) → r ≡ unread false → StartsOutcome line n f places places × ConstraintOutcome names line n f old old r
+too-long h e = (areKept h refl, isTooLong h e refl)
+
 -- The line as a whole.
-abbrev partsOf : List ℕ → List ℕ → Reader
-partsOf names line = partTo (tokens names) (length (tokens line))
+module _ (names line : List ℕ) (rest : ℕ → List Token) (whole : rest 0 ≡ tokens line) {n f : ℕ} (w : Fits line n f) where
+  abbrev parts : Reader
+  parts = partTo (tokens names) (length (rest 0))
 
-module _ (names line : List ℕ) {n f : ℕ} (w : Fits line n f) where
-  pub side-missing : {old new : Arrays} {r : ConstraintRead} → ((d : ℕ) → length (tokens line) ≤ d → expressionBy (partTo (tokens names) d) (tokens line) ≡ none) → r ≡ unread true → SameBelow n new old → ConstraintOutcome names line n f old new r
+  no-constraint : {old new : Arrays} {r : ConstraintRead} → parseConstraint (tokens names) (rest 0) ≡ none → r ≡ unread true → SameBelow n new old → ConstraintOutcome names line n f old new r
+  no-constraint p e k = isNoConstraint w (ap (parseConstraint (tokens names)) (sym whole) ∙ p) e k
+
+  pub side-missing : {old new : Arrays} {r : ConstraintRead} → ((d : ℕ) → length (rest 0) ≤ d → expressionBy (partTo (tokens names) d) (rest 0) ≡ none) → r ≡ unread true → SameBelow n new old → ConstraintOutcome names line n f old new r
   unfolding parseConstraint
-  side-missing h e k = isNoConstraint w (ap (λ o. andThen o (λ y. secondSide (partsOf names line) (y .tree) (y .rest))) (h (length (tokens line)) (omega arith))) e k
+  side-missing h e k = no-constraint (ap (λ o. andThen o (λ y. secondSide parts (y .tree) (y .rest))) (h (length (rest 0)) (omega arith))) e k
 
-  module _ {old mid : Arrays} {a : Read} (h : Found (λ d. expressionBy (partTo (tokens names) d)) line (tokens line) old mid n f a) {s : Span} (j : TokenAt line (a .next) s) where
-    first-side : parseConstraint (tokens names) (tokens line) ≡ secondSide (partsOf names line) (h .tree) (tokens (drop (a .next) line))
+  module _ {old mid : Arrays} {a : Read} (h : Found (λ d. expressionBy (partTo (tokens names) d)) rest 0 old mid n f a) {s : NumberedToken} (j : TokenNumbered line rest (a .next) s) where
+    first-side : parseConstraint (tokens names) (rest 0) ≡ secondSide parts (h .tree) (rest (a .next))
     unfolding parseConstraint
-    first-side = ap (λ o. andThen o (λ y. secondSide (partsOf names line) (y .tree) (y .rest))) (h .reads (length (tokens line)) (omega arith))
+    first-side = ap (λ o. andThen o (λ y. secondSide parts (y .tree) (y .rest))) (h .reads (length (rest 0)) (omega arith))
 
     pub sign-missing : {new : Arrays} {r : ConstraintRead} → codeOr255 relationNumber (relationOf (wordOf line s)) ≡ 255 → r ≡ unread true → SameBelow n new old → ConstraintOutcome names line n f old new r
-    sign-missing c e k = isNoConstraint w (first-side ∙ no-relation (partsOf names line) (h .tree) j c) e k
+    sign-missing c e k = no-constraint (first-side ∙ no-relation parts (h .tree) j c) e k
 
-    module _ {code : ℕ} (o : Relation-at line (a .next) s code) where
-      second-side : parseConstraint (tokens names) (tokens line) ≡ andThen (expressionBy (partsOf names line) (tokens (drop (s .end) line))) (λ y. wholeLine (related (o .relation) (h .tree) (y .tree)) (y .rest))
-      second-side = first-side ∙ o .goes-on (partsOf names line) (h .tree)
+    module _ {code : ℕ} (o : Relation-at line rest (a .next) s code) where
+      second-side : parseConstraint (tokens names) (rest 0) ≡ andThen (expressionBy parts (rest (s .next))) (λ y. wholeLine (related (o .relation) (h .tree) (y .tree)) (y .rest))
+      second-side = first-side ∙ o .goes-on parts (h .tree)
 
-      pub second-fewer : length (tokens (drop (s .end) line)) < length (tokens line)
+      pub second-fewer : length (rest (s .next)) < length (rest 0)
       second-fewer = omega (arith, ap length (o .first), h .fewer)
 
-      pub second-side-missing : {new : Arrays} {r : ConstraintRead} → ((d : ℕ) → length (tokens (drop (s .end) line)) ≤ d → expressionBy (partTo (tokens names) d) (tokens (drop (s .end) line)) ≡ none) → r ≡ unread true → SameBelow n new old → ConstraintOutcome names line n f old new r
+      pub second-side-missing : {new : Arrays} {r : ConstraintRead} → ((d : ℕ) → length (rest (s .next)) ≤ d → expressionBy (partTo (tokens names) d) (rest (s .next)) ≡ none) → r ≡ unread true → SameBelow n new old → ConstraintOutcome names line n f old new r
       second-side-missing g e k =
           let z = second-fewer in
-          isNoConstraint w (second-side ∙ ap (λ m. andThen m (λ y. wholeLine (related (o .relation) (h .tree) (y .tree)) (y .rest))) (g (length (tokens line)) (omega arith))) e k
+          no-constraint (second-side ∙ ap (λ m. andThen m (λ y. wholeLine (related (o .relation) (h .tree) (y .tree)) (y .rest))) (g (length (rest 0)) (omega arith))) e k
 
-      module _ {new : Arrays} {b : Read} (g : Found (λ d. expressionBy (partTo (tokens names) d)) line (tokens (drop (s .end) line)) mid new (a .nodes) (a .firsts) b) where
-        both-sides : parseConstraint (tokens names) (tokens line) ≡ wholeLine (related (o .relation) (h .tree) (g .tree)) (tokens (drop (b .next) line))
+      module _ {new : Arrays} {b : Read} (g : Found (λ d. expressionBy (partTo (tokens names) d)) rest (s .next) mid new (a .nodes) (a .firsts) b) where
+        both-sides : parseConstraint (tokens names) (rest 0) ≡ wholeLine (related (o .relation) (h .tree) (g .tree)) (rest (b .next))
         both-sides =
             let z = second-fewer in
-            second-side ∙ ap (λ m. andThen m (λ y. wholeLine (related (o .relation) (h .tree) (y .tree)) (y .rest))) (g .reads (length (tokens line)) (omega arith))
+            second-side ∙ ap (λ m. andThen m (λ y. wholeLine (related (o .relation) (h .tree) (y .tree)) (y .rest))) (g .reads (length (rest 0)) (omega arith))
 
-        pub line-longer : {t : Token} {us : List Token} {r : ConstraintRead} → tokens (drop (b .next) line) ≡ t ∷ us → r ≡ unread true → SameBelow n new old → ConstraintOutcome names line n f old new r
-        line-longer m e k = isNoConstraint w (both-sides ∙ ap (wholeLine (related (o .relation) (h .tree) (g .tree))) m) e k
+        pub line-longer : {t : Token} {us : List Token} {r : ConstraintRead} → rest (b .next) ≡ t ∷ us → r ≡ unread true → SameBelow n new old → ConstraintOutcome names line n f old new r
+        line-longer m e k = no-constraint (both-sides ∙ ap (wholeLine (related (o .relation) (h .tree) (g .tree))) m) e k
 
-        pub line-read : {u : Bool} → tokens (drop (b .next) line) ≡ [] → u ≡ (a .beyond || b .beyond) → ConstraintOutcome names line n f old new (answer code (a .nodes - 1) (b .nodes - 1) (b .nodes) (b .firsts) u)
-        line-read m q = isRead w (both-sides ∙ ap (wholeLine (related (o .relation) (h .tree) (g .tree))) m) (related-read (h .stores) (g .stores) (o .relation) (o .code-is) q) (related-arrays (h .stores) (g .stores) (o .relation))
+        pub line-read : {u : Bool} → rest (b .next) ≡ [] → u ≡ (a .beyond || b .beyond) → ConstraintOutcome names line n f old new (answer code (a .nodes - 1) (b .nodes - 1) (b .nodes) (b .firsts) u)
+        line-read m q = isRead w (ap (parseConstraint (tokens names)) (sym whole) ∙ both-sides ∙ ap (wholeLine (related (o .relation) (h .tree) (g .tree))) m) (related-read (h .stores) (g .stores) (o .relation) (o .code-is) q) (related-arrays (h .stores) (g .stores) (o .relation))

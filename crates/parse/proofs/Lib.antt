@@ -1,5 +1,7 @@
 pub mod Store
 pub mod Trees
+pub mod Filled
+pub mod Numbers
 pub mod Readers
 pub mod Parts
 pub mod Expressions

@@ -24,7 +24,7 @@ use Rattle.sheet.proofs.Parser.{parseConstraint-sound}
 use Rattle.parse.specs.declared.ConstraintRead.{ConstraintRead}
 use Rattle.parse.specs.Stored.{Arrays, store, SameBelow}
 use Rattle.parse.specs.Bounded.{bounded, boundedConstraint, constraintBeyond}
-use Rattle.parse.specs.Reading.{constraintRead, ConstraintOutcome, isTooLong, isNoConstraint, isRead}
+use Rattle.parse.specs.Reading.{constraintRead, StartsOutcome, areKept, areStored, ConstraintOutcome, isTooLong, isNoConstraint, isRead}
 use Rattle.parse.proofs.Store.{below-refl, below-store}
 use Rattle.parse.proofs.Trees.{anyOf-append, length-last}
 
@@ -57,6 +57,13 @@ outcome-unique (isRead {c} w p e h) (isNoConstraint w′ p′ e′ h′) = absur
 outcome-unique {n = n} {f = f} {old = old} (isRead {c} w p e h) (isRead {c = c′} w′ p′ e′ h′) =
     let same : c ≡ c′ = Option·some-injective c c′ (sym p ∙ p′) in
     same-arrays (e ∙ ap (constraintRead n f) same ∙ sym e′) (h ∙ ap (λ d. store old n (sideNodes n f (boundedConstraint d))) same ∙ sym h′)
+
+-- The token starts are settled in any case.
+pub starts-unique : {line : List ℕ} {n f : ℕ} {old new new′ : List ℕ} → StartsOutcome line n f old new → StartsOutcome line n f old new′ → new ≡ new′
+starts-unique (areKept u e) (areKept u′ e′) = e ∙ sym e′
+starts-unique (areKept u e) (areStored w e′) = absurd (u w)
+starts-unique (areStored w e) (areKept u e′) = absurd (u w)
+starts-unique (areStored w e) (areStored w′ e′) = e ∙ sym e′
 
 -- In any case the arrays hold below n what they held.
 pub outcome-below : {names line : List ℕ} {n f : ℕ} {old new : Arrays} {r : ConstraintRead} → ConstraintOutcome names line n f old new r → SameBelow n new old

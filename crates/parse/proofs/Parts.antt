@@ -2,42 +2,54 @@
 use Prim.Native.Nat.{ℕ, suc, _+_, _-_, _≤_, _<_}
 use mathlib.Core.Path.{_≡_, sym, ap, subst, _∙_}
 use mathlib.Core.Bool.{Bool, true, false, cond, true≢false}
-use mathlib.Core.List.{List, [], _∷_, cons≢nil}
-use mathlib.Core.Option.{some, none, Option·none-ne-some, Option·some-injective}
+use mathlib.Core.List.{List, [], _∷_, cons≢nil, head-eq-of-cons-eq}
+use mathlib.Core.Option.{Option, some, none, Option·none-ne-some, Option·some-injective}
 use native.Mathlib.Omega.{arith}
 use lib.Dec.{eqb}
 use lib.IntN.{ℤ}
-use lib.ListN.{length, drop}
+use lib.ListN.{length, drop, getD}
+use lib.Seq.{getD-drop}
 use Rattle.text.specs.Bytes.{Token, bytesOf, tokens}
 use Rattle.text.specs.Token.{sameBytes}
 use Rattle.nodes.specs.Postfix.{node, postfix}
 use Rattle.sheet.specs.Vocabulary.{Prefix, firstPrefix, nextPrefix, notPrefix, prefixed, prefixOf}
-use Rattle.sheet.specs.Parser.{parsed, Reader, expressionBy, partTo}
+use Rattle.sheet.specs.Parser.{Parsed, parsed, Reader, expressionBy, partTo}
 use Rattle.sheet.proofs.BracketBytes.{BytePartner}
 use Rattle.scan.specs.Place.{between, PartnerAt, noPartner, aPartner}
 use Rattle.scan.specs.Word.{codeOr255, prefixCode}
+use Rattle.scan.proofs.Tokens.{between-first}
 use Rattle.scan.proofs.Words.{code-none, code-some}
+use Rattle.parse.specs.declared.NumberedToken.{NumberedToken}
 use Rattle.parse.specs.declared.Read.{Read}
 use Rattle.parse.specs.Stored.{Arrays, store, SameBelow}
 use Rattle.parse.specs.Bounded.{bounded}
+use Rattle.parse.specs.Numbered.{tokensFrom, Placed, TokenNumbered}
 use Rattle.parse.specs.Reading.{Stores, Found, Reading, Leaf, LeafReading, firstsInside, prefixValue}
 use Rattle.parse.proofs.Store.{below-store}
 use Rattle.parse.proofs.Trees.{stores-prefix}
-use Rattle.parse.proofs.Readers.{part-by, part-prefix, part-prefix-none, part-none, part-bracket, part-bracket-none, part-open, inner-length}
+use Rattle.parse.proofs.Numbers.{token-within, token-number, placed-later, left-stored, inner-placed, inner-first, closing-token}
+use Rattle.parse.proofs.Readers.{same-word, wordOf, part-by, part-prefix, part-prefix-none, part-none, part-bracket, part-bracket-none, part-open, inner-length, open-bytes, open-tokens}
 
-module _ {R : ℕ → Reader} {text : List ℕ} {ts : List Token} {old new : Arrays} {n f : ℕ} {r : Read} where
+module _ {R : ℕ → Reader} {rest : ℕ → List Token} {at : ℕ} {old new : Arrays} {n f : ℕ} {r : Read} where
   -- Nothing was read.
-  pub reading-missing : r .ok ≡ false → ((d : ℕ) → length ts ≤ d → R d ts ≡ none) → SameBelow n new old → Reading R text ts old new n f r
+  pub reading-missing : r .ok ≡ false → ((d : ℕ) → length (rest at) ≤ d → R d (rest at) ≡ none) → SameBelow n new old → Reading R rest at old new n f r
   reading-missing e h k = record { found = λ t. absurd (true≢false (sym t ∙ e)); missing = λ t. h; kept = k }
 
   -- A tree was read.
-  pub reading-found : r .ok ≡ true → Found R text ts old new n f r → Reading R text ts old new n f r
+  pub reading-found : r .ok ≡ true → Found R rest at old new n f r → Reading R rest at old new n f r
   reading-found e h =
       record {
         found = λ t. h;
         missing = λ t. absurd (true≢false (sym e ∙ t));
         kept = below-store old n (postfix n f (bounded (h .tree))) (h .stores .arrays);
       }
+
+-- The starts that give the tokens from a number on give them from the number on that a reader or a token has gone to.
+pub found-placed : {R : ℕ → Reader} {text : List ℕ} {origin : ℕ} {starts : List ℕ} {at : ℕ} {old new : Arrays} {n f : ℕ} {r : Read} → Placed text origin starts at → Found R (tokensFrom text origin starts) at old new n f r → Placed text origin starts (r .next)
+found-placed p h = placed-later p (omega (arith, h .numbers, h .fewer))
+
+pub number-placed : {text : List ℕ} {origin : ℕ} {starts : List ℕ} {at next : ℕ} → Placed text origin starts at → next ≡ at + 1 → Placed text origin starts next
+number-placed p e = placed-later p (omega arith)
 
 pub firsts-inside-most : (k f : ℕ) → firstsInside k f ≤ f + 1
 firsts-inside-most k f = by (eqb k 2)
@@ -63,10 +75,10 @@ pub record Prefix-at (w : Token) (k : ℕ) : Type 0 where
 pub a-prefix : {w : Token} {k : ℕ} → k ≡ codeOr255 prefixCode (prefixOf w) → (k ≡ 255 → ⊥) → Prefix-at w k
 a-prefix {w} e n = let (p, is, code) = code-some prefixCode (prefixOf w) (λ h. n (e ∙ h)) in record { prefix = p; is = is; code = e ∙ code }
 
-module _ (names : List Token) (text : List ℕ) (end : ℕ) {ts : List Token} {w : Token} (e : ts ≡ w ∷ tokens (drop end text)) where
+module _ (names : List Token) (rest : ℕ → List Token) {at next : ℕ} {w : Token} (number : next ≡ at + 1) (e : rest at ≡ w ∷ rest next) where
   -- `first`, `next` or `not` before a part.
-  pub prefix-found : {old mid new : Arrays} {n f g k : ℕ} {v : ℤ} {r : Read} → Prefix-at w k → g ≡ firstsInside k f → v ≡ prefixValue k f → Found (partTo names) text (tokens (drop end text)) old mid n g r → new ≡ store mid (r .nodes) (node k v n ∷ [])
-      → Found (partTo names) text ts old new n f (record { ok = true; next = r .next; nodes = r .nodes + 1; firsts = r .firsts; beyond = r .beyond })
+  pub prefix-found : {old mid new : Arrays} {n f g k : ℕ} {v : ℤ} {r : Read} → Prefix-at w k → g ≡ firstsInside k f → v ≡ prefixValue k f → Found (partTo names) rest next old mid n g r → new ≡ store mid (r .nodes) (node k v n ∷ [])
+      → Found (partTo names) rest at old new n f (record { ok = true; next = r .next; nodes = r .nodes + 1; firsts = r .firsts; beyond = r .beyond })
   prefix-found {old} {mid} {n = n} {f = f} {k = k} {r = r} p i q h s =
       let z = ap length e in
       let most = firsts-inside-most k f in
@@ -75,74 +87,131 @@ module _ (names : List Token) (text : List ℕ) (end : ℕ) {ts : List Token} {w
         reads = part-prefix names e (p .is) (h .reads);
         stores = stores-prefix (p .prefix) (p .code) q (subst (λ j. Stores (h .tree) old mid n j (r .nodes) (r .firsts) (r .beyond)) i (h .stores)) s;
         fewer = omega (arith, h .fewer);
+        numbers = omega (arith, h .numbers);
         room = omega (arith, h .room);
         roomFirsts = omega (arith, h .roomFirsts);
       }
 
-  pub prefix-missing : {k : ℕ} → Prefix-at w k → ((d : ℕ) → length (tokens (drop end text)) ≤ d → partTo names d (tokens (drop end text)) ≡ none) → (d : ℕ) → length ts ≤ d → partTo names d ts ≡ none
+  pub prefix-missing : {k : ℕ} → Prefix-at w k → ((d : ℕ) → length (rest next) ≤ d → partTo names d (rest next) ≡ none) → (d : ℕ) → length (rest at) ≤ d → partTo names d (rest at) ≡ none
   prefix-missing p h = part-prefix-none names e (p .is) h
 
   -- An integer or a name.
-  pub leaf-reading : {old new : Arrays} {n f : ℕ} {r : Read} → prefixOf w ≡ none → sameBytes (bytesOf "(") w ≡ false → LeafReading names w end old new n f r → Reading (partTo names) text ts old new n f r
+  pub leaf-reading : {old new : Arrays} {n f : ℕ} {r : Read} → prefixOf w ≡ none → sameBytes (bytesOf "(") w ≡ false → LeafReading names w next old new n f r → Reading (partTo names) rest at old new n f r
   leaf-reading {old} {new} {n} {f} {r} p b l = record { found = found; missing = λ t. let (i, s) = l .missing t in part-none names e p i s b; kept = l .kept }
     where
-      found : r .ok ≡ true → Found (partTo names) text ts old new n f r
+      found : r .ok ≡ true → Found (partTo names) rest at old new n f r
       found t =
           let h : Leaf names w old new n f r = l .found t in
           let z = ap length e in
-          let rest : tokens (drop end text) ≡ tokens (drop (r .next) text) = ap (λ k. tokens (drop k text)) (sym (l .place t)) in
-          let size = ap length rest in
+          let same : rest next ≡ rest (r .next) = ap rest (sym (l .place t)) in
+          let size = ap length same in
           record {
             tree = h .tree;
-            reads = λ d m. part-by names e (λ k j. h .reads (partTo names k) (tokens (drop end text))) d m ∙ ap (parsed (h .tree)) rest;
+            reads = λ d m. part-by names e (λ k j. h .reads (partTo names k) (rest next)) d m ∙ ap (parsed (h .tree)) same;
             stores = h .stores;
             fewer = omega arith;
+            numbers = omega (arith, l .place t);
             room = omega (arith, h .one);
             roomFirsts = omega (arith, h .none);
           }
 
-  -- An expression in brackets.
-  module _ {close : ℕ} (b : sameBytes (bytesOf "(") w ≡ true) where
-    pub open-missing : PartnerAt text end close → length text ≤ close → (d : ℕ) → length ts ≤ d → partTo names d ts ≡ none
-    open-missing (noPartner _ g) h d l = part-open names text end e b g d
-    open-missing (aPartner _ i _) h d l = absurd (omega arith)
+-- An expression in brackets, where the opening bracket is the token with the number `at`.
+module _ (names : List Token) {text : List ℕ} {origin : ℕ} {starts : List ℕ} {at : ℕ} {s : NumberedToken} (placed : Placed text origin starts at)
+    (token : TokenNumbered text (tokensFrom text origin starts) at s) (stands : s .start ≡ s .end → ⊥) (b : sameBytes (bytesOf "(") (wordOf text s) ≡ true) where
+  abbrev rest : ℕ → List Token
+  rest = tokensFrom text origin starts
 
-    module _ (k : PartnerAt text end close) (i : close < length text) where
-      pub partner-forward : end ≤ close
-      partner-forward = by k
-        where
-          by : PartnerAt text end close → end ≤ close
-          by (noPartner g _) = absurd (omega arith)
-          by (aPartner g _ _) = g
+  abbrev from : ℕ
+  from = s .start + 1
 
-      partner-bytes : BytePartner (drop end text) (close - end)
-      partner-bytes = by k
-        where
-          by : PartnerAt text end close → BytePartner (drop end text) (close - end)
-          by (noPartner g _) = absurd (omega arith)
-          by (aPartner _ _ p) = p
+  first : rest at ≡ wordOf text s ∷ tokens (drop from text)
+  first = open-tokens token stands b
 
-      pub inside-length : length (tokens (drop end text)) ≡ length (tokens (between text end close)) + suc (length (tokens (drop (close + 1) text)))
-      inside-length = inner-length names text end close partner-forward partner-bytes
+  pub open-missing : {close : ℕ} → PartnerAt text from close → length text ≤ close → (d : ℕ) → length (rest at) ≤ d → partTo names d (rest at) ≡ none
+  open-missing (noPartner _ g) h d l = part-open names text from first b g d
+  open-missing (aPartner _ i _) h d l = absurd (omega arith)
 
-      pub bracket-missing : ((d : ℕ) → length (tokens (between text end close)) ≤ d → expressionBy (partTo names d) (tokens (between text end close)) ≡ none) → (d : ℕ) → length ts ≤ d → partTo names d ts ≡ none
-      bracket-missing h = part-bracket-none names text end close partner-forward partner-bytes e b (λ d l a q. Option·none-ne-some _ (sym (h d l) ∙ q))
+  module _ {close : ℕ} (k : PartnerAt text from close) (i : close < length text) where
+    pub partner-forward : from ≤ close
+    partner-forward = by k
+      where
+        by : PartnerAt text from close → from ≤ close
+        by (noPartner g _) = absurd (omega arith)
+        by (aPartner g _ _) = g
 
-      module _ {old new : Arrays} {n f : ℕ} {r : Read} (h : Found (λ d. expressionBy (partTo names d)) (between text end close) (tokens (between text end close)) old new n f r) where
-        -- The text between the brackets goes on after an expression.
-        pub bracket-longer : {t : Token} {us : List Token} → tokens (drop (r .next) (between text end close)) ≡ t ∷ us → (d : ℕ) → length ts ≤ d → partTo names d ts ≡ none
-        bracket-longer m = part-bracket-none names text end close partner-forward partner-bytes e b (λ d l a q. cons≢nil (sym m ∙ ap (λ y. y .rest) (Option·some-injective _ _ (sym (h .reads d l) ∙ q))))
+    partner-bytes : BytePartner (drop from text) (close - from)
+    partner-bytes = by k
+      where
+        by : PartnerAt text from close → BytePartner (drop from text) (close - from)
+        by (noPartner g _) = absurd (omega arith)
+        by (aPartner _ _ p) = p
 
-        pub bracket-found : tokens (drop (r .next) (between text end close)) ≡ [] → Found (partTo names) text ts old new n f (record { ok = true; next = close + 1; nodes = r .nodes; firsts = r .firsts; beyond = r .beyond })
-        bracket-found m =
-            let z = ap length e in
+    abbrev inner : List ℕ
+    inner = between text from close
+
+    -- The tokens of the text between the brackets, by number.
+    abbrev inside : ℕ → List Token
+    inside = tokensFrom inner (origin + from) starts
+
+    later : Placed text origin starts (s .next)
+    later = placed-later placed (omega (arith, token-number token stands))
+
+    opens : getD text (s .start) 0 ≡ 40
+    opens =
+        let within = token-within token in
+        head-eq-of-cons-eq (sym (between-first text (s .start) (s .end) (omega (arith, stands)) (omega (arith, partner-forward))) ∙ sym (same-word (bytesOf "(") (wordOf text s) b))
+
+    closes : getD text close 0 ≡ 41
+    closes =
+        let there : from + (close - from) ≡ close = omega (arith, partner-forward) in
+        ap (λ n. getD text n 0) (sym there) ∙ sym (getD-drop from text (close - from) 0) ∙ partner-bytes .closing
+
+    pub inside-placed : Placed inner (origin + from) starts (s .next)
+    inside-placed = inner-placed text origin starts (s .next) (s .start) close later (open-bytes token stands b) opens partner-forward i closes
+
+    inside-first : inside (s .next) ≡ tokens inner
+    inside-first = inner-first text origin starts (s .next) (s .start) close later (open-bytes token stands b) opens partner-forward i closes
+
+    pub inside-length : length (rest at) ≡ suc (length (inside (s .next)) + suc (length (tokens (drop (close + 1) text))))
+    inside-length = let z = inner-length names text from close partner-forward partner-bytes in omega (arith, ap length first, ap length inside-first)
+
+    reads-inner : {o : Option Parsed} (d : ℕ) → expressionBy (partTo names d) (inside (s .next)) ≡ o → expressionBy (partTo names d) (tokens inner) ≡ o
+    reads-inner d q = ap (expressionBy (partTo names d)) (sym inside-first) ∙ q
+
+    pub bracket-missing : ((d : ℕ) → length (inside (s .next)) ≤ d → expressionBy (partTo names d) (inside (s .next)) ≡ none) → (d : ℕ) → length (rest at) ≤ d → partTo names d (rest at) ≡ none
+    bracket-missing h = part-bracket-none names text from close partner-forward partner-bytes first b (λ d l a q. Option·none-ne-some _ (sym (reads-inner d (h d (omega (arith, ap length inside-first)))) ∙ q))
+
+    module _ {old new : Arrays} {n f : ℕ} {r : Read} (h : Found (λ d. expressionBy (partTo names d)) inside (s .next) old new n f r) where
+      found-inner : (d : ℕ) → length (tokens inner) ≤ d → expressionBy (partTo names d) (tokens inner) ≡ parsed (h .tree) (inside (r .next))
+      found-inner d l = reads-inner d (h .reads d (omega (arith, ap length inside-first)))
+
+      -- The text between the brackets goes on after an expression.
+      pub bracket-longer : {t : Token} {us : List Token} → inside (r .next) ≡ t ∷ us → (d : ℕ) → length (rest at) ≤ d → partTo names d (rest at) ≡ none
+      bracket-longer m = part-bracket-none names text from close partner-forward partner-bytes first b (λ d l a q. cons≢nil (sym m ∙ ap (λ y. y .rest) (Option·some-injective _ _ (sym (found-inner d l) ∙ q))))
+
+      module _ (m : inside (r .next) ≡ []) where
+        closing : rest (r .next) ≡ bytesOf ")" ∷ tokens (drop (close + 1) text)
+        closing =
+            let there : r .next ≡ s .next + length (tokens inner) = omega (arith, h .numbers, ap length m, ap length inside-first) in
+            ap rest there ∙ closing-token text origin starts (s .next) (s .start) close later (open-bytes token stands b) opens partner-forward i closes
+
+        pub closing-stored : r .next < length starts
+        closing-stored = left-stored text origin starts (r .next) closing
+
+        after-closing : rest (r .next + 1) ≡ tokens (drop (close + 1) text)
+        after-closing = later .follows (r .next) (omega (arith, h .numbers, h .fewer)) ∙ ap (drop 1) closing
+
+        pub bracket-found : Found (partTo names) rest at old new n f (record { ok = true; next = r .next + 1; nodes = r .nodes; firsts = r .firsts; beyond = r .beyond })
+        bracket-found =
             let size = inside-length in
             let none-left = ap length m in
+            let left = ap length after-closing in
             record {
               tree = h .tree;
-              reads = part-bracket names text end close partner-forward partner-bytes e b (λ d l. h .reads d l ∙ ap (parsed (h .tree)) m);
+              reads = λ d l. part-bracket names text from close partner-forward partner-bytes first b (λ j g. found-inner j g ∙ ap (parsed (h .tree)) m) d l ∙ ap (parsed (h .tree)) (sym after-closing);
               stores = h .stores;
               fewer = omega arith;
+              numbers = omega (arith, h .numbers, token-number token stands);
               room = omega (arith, h .room);
               roomFirsts = omega (arith, h .roomFirsts);
             }

@@ -19,11 +19,13 @@ use Rattle.sheet.specs.Parser.{Parsed, parsed, andThen, expect, Reader, operati
 use Rattle.sheet.proofs.Vocabulary.{opening-prefix}
 use Rattle.sheet.proofs.Balance.{Partner, bracket-read, bracket-read-back, no-partner}
 use Rattle.sheet.proofs.BracketBytes.{BytePartner, byte-partner-tokens, byte-partner, partner-bytes}
-use Rattle.scan.specs.Place.{between, TokenAt, noToken, aToken}
-use Rattle.scan.specs.declared.Span.{Span}
+use Rattle.scan.specs.Place.{between}
 use Rattle.scan.specs.Word.{codeOr255, infixCode}
-use Rattle.scan.proofs.Tokens.{between-none, between-length, token-within, token-tokens}
+use Rattle.scan.proofs.Tokens.{between-none, between-length}
 use Rattle.scan.proofs.Words.{code-none, code-some}
+use Rattle.parse.specs.declared.NumberedToken.{NumberedToken}
+use Rattle.parse.specs.Numbered.{TokenNumbered, noneLeft, numbered}
+use Rattle.parse.proofs.Numbers.{token-within, token-bytes, token-tokens}
 
 pub same-word : (w t : Token) → sameBytes w t ≡ true → w ≡ t
 same-word w t e = from-true (sameBytes-reflects w t) e
@@ -114,10 +116,10 @@ module _ (names : List Token) where
       ∙ no-partner names (tokens (drop end text)) d (λ m p. let (k, q) = partner-bytes (drop end text) p in f k q)
 
 -- The bytes of the token at these places.
-abbrev pub wordOf : List ℕ → Span → Token
+abbrev pub wordOf : List ℕ → NumberedToken → Token
 wordOf text r = between text (r .start) (r .end)
 
-pub no-word : (text : List ℕ) (r : Span) → r .start ≡ length text → r .end ≡ length text → wordOf text r ≡ []
+pub no-word : (text : List ℕ) (r : NumberedToken) → r .start ≡ length text → r .end ≡ length text → wordOf text r ≡ []
 no-word text r p q = (λ i. between text (p i) (q i)) ∙ between-none text (length text)
 
 infix-small : (o : Infix) → infixCode o < 255
@@ -137,54 +139,63 @@ infix-small (pointwise or) = omega arith
 infix-small followedBy = omega arith
 
 -- An operator, and what the reader does with it.
-pub record Operator-at (text : List ℕ) (at : ℕ) (r : Span) (code : ℕ) : Type 0 where
+pub record Operator-at (text : List ℕ) (rest : ℕ → List Token) (at : ℕ) (r : NumberedToken) (code : ℕ) : Type 0 where
   pub operator : Infix
   pub code-is : code ≡ infixCode operator
-  pub first : tokens (drop at text) ≡ wordOf text r ∷ tokens (drop (r .end) text)
-  pub goes-on : (p : Reader) (a : Expression) → afterPart p a (tokens (drop at text)) ≡ andThen (p (tokens (drop (r .end) text))) (λ y. parsed (joined operator a (y .tree)) (y .rest))
+  pub first : rest at ≡ wordOf text r ∷ rest (r .next)
+  pub number : r .next ≡ at + 1
+  pub goes-on : (p : Reader) (a : Expression) → afterPart p a (rest at) ≡ andThen (p (rest (r .next))) (λ y. parsed (joined operator a (y .tree)) (y .rest))
 
 -- The first token of a text at a place, compared with a word.
-module _ {text : List ℕ} {at : ℕ} {r : Span} where
-  pub word-is : (w : Token) → TokenAt text at r → (w ≡ [] → ⊥) → sameBytes w (wordOf text r) ≡ true → tokens (drop at text) ≡ w ∷ tokens (drop (r .end) text)
-  word-is w (noToken p q e) n h = absurd (n (same-word w (wordOf text r) h ∙ no-word text r p q))
-  word-is w (aToken f s i e) n h = e ∙ ap (λ t. t ∷ tokens (drop (r .end) text)) (sym (same-word w (wordOf text r) h))
+module _ {text : List ℕ} {rest : ℕ → List Token} {at : ℕ} {r : NumberedToken} where
+  pub word-is : (w : Token) → TokenNumbered text rest at r → (w ≡ [] → ⊥) → sameBytes w (wordOf text r) ≡ true → rest at ≡ w ∷ rest (r .next)
+  word-is w (noneLeft p q e) n h = absurd (n (same-word w (wordOf text r) h ∙ no-word text r p q))
+  word-is w (numbered s i m e j) n h = e ∙ ap (λ t. t ∷ rest (r .next)) (sym (same-word w (wordOf text r) h))
 
-  pub word-is-not : (w : Token) → TokenAt text at r → sameBytes w (wordOf text r) ≡ false → expect w (tokens (drop at text)) ≡ none
-  word-is-not w (noToken p q e) h = ap (expect w) e
-  word-is-not w (aToken f s i e) h = ap (expect w) e ∙ ap (λ m. cond m (some (tokens (drop (r .end) text))) none) h
+  pub word-is-not : (w : Token) → TokenNumbered text rest at r → sameBytes w (wordOf text r) ≡ false → expect w (rest at) ≡ none
+  word-is-not w (noneLeft p q e) h = ap (expect w) e
+  word-is-not w (numbered s i m e j) h = ap (expect w) e ∙ ap (λ m. cond m (some (rest (r .next))) none) h
+
+  pub word-number : (w : Token) → TokenNumbered text rest at r → (w ≡ [] → ⊥) → sameBytes w (wordOf text r) ≡ true → r .next ≡ at + 1
+  word-number w (noneLeft p q e) n h = absurd (n (same-word w (wordOf text r) h ∙ no-word text r p q))
+  word-number w (numbered s i m e j) n h = m
 
   -- An opening bracket is one byte long.
-  pub open-tokens : TokenAt text at r → (r .start ≡ r .end → ⊥) → sameBytes (bytesOf "(") (wordOf text r) ≡ true → tokens (drop at text) ≡ wordOf text r ∷ tokens (drop (r .start + 1) text)
-  open-tokens k n h =
+  pub open-bytes : TokenNumbered text rest at r → (r .start ≡ r .end → ⊥) → sameBytes (bytesOf "(") (wordOf text r) ≡ true → rest (r .next) ≡ tokens (drop (r .start + 1) text)
+  open-bytes k n h =
       let within = token-within k in
       let size : 1 ≡ length (wordOf text r) = ap length (same-word (bytesOf "(") (wordOf text r) h) in
       let long = between-length text (r .start) (r .end) (within .0) (within .1) in
       let end : r .end ≡ r .start + 1 = omega arith in
-      token-tokens k n ∙ ap (λ e. wordOf text r ∷ tokens (drop e text)) end
+      token-bytes k n ∙ ap (λ e. tokens (drop e text)) end
+
+  pub open-tokens : TokenNumbered text rest at r → (r .start ≡ r .end → ⊥) → sameBytes (bytesOf "(") (wordOf text r) ≡ true → rest at ≡ wordOf text r ∷ tokens (drop (r .start + 1) text)
+  open-tokens k n h = token-tokens k n ∙ ap (λ us. wordOf text r ∷ us) (open-bytes k n h)
 
   -- An expression that does not begin with `if` begins with a part.
-  pub expression-part : (p : Reader) → p [] ≡ none → TokenAt text at r → sameBytes (bytesOf "if") (wordOf text r) ≡ false → expressionBy p (tokens (drop at text)) ≡ andThen (p (tokens (drop at text))) (λ y. afterPart p (y .tree) (y .rest))
+  pub expression-part : (p : Reader) → p [] ≡ none → TokenNumbered text rest at r → sameBytes (bytesOf "if") (wordOf text r) ≡ false → expressionBy p (rest at) ≡ andThen (p (rest at)) (λ y. afterPart p (y .tree) (y .rest))
   unfolding expressionBy
-  expression-part p h (noToken _ _ e) n = ap (expressionBy p) e ∙ sym (ap (λ o. andThen o (λ y. afterPart p (y .tree) (y .rest))) (ap p e ∙ h))
-  expression-part p h (aToken _ _ _ e) n =
+  expression-part p h (noneLeft _ _ e) n = ap (expressionBy p) e ∙ sym (ap (λ o. andThen o (λ y. afterPart p (y .tree) (y .rest))) (ap p e ∙ h))
+  expression-part p h (numbered _ _ _ e _) n =
       let after : Option Parsed → Option Parsed = λ o. andThen o (λ y. afterPart p (y .tree) (y .rest)) in
-      ap (expressionBy p) e ∙ ap (λ m. cond m (conditionalBy p (tokens (drop (r .end) text))) (after (p (wordOf text r ∷ tokens (drop (r .end) text))))) n ∙ sym (ap (λ l. after (p l)) e)
+      ap (expressionBy p) e ∙ ap (λ m. cond m (conditionalBy p (rest (r .next))) (after (p (wordOf text r ∷ rest (r .next))))) n ∙ sym (ap (λ l. after (p l)) e)
 
   -- What stands after a part: no operator, or one.
-  pub after-ends : (p : Reader) (a : Expression) → TokenAt text at r → codeOr255 infixCode (operatorOf (wordOf text r)) ≡ 255 → afterPart p a (tokens (drop at text)) ≡ parsed a (tokens (drop at text))
-  after-ends p a (noToken _ _ e) h = ap (afterPart p a) e ∙ sym (ap (parsed a) e)
-  after-ends p a (aToken _ _ _ e) h =
+  pub after-ends : (p : Reader) (a : Expression) → TokenNumbered text rest at r → codeOr255 infixCode (operatorOf (wordOf text r)) ≡ 255 → afterPart p a (rest at) ≡ parsed a (rest at)
+  after-ends p a (noneLeft _ _ e) h = ap (afterPart p a) e ∙ sym (ap (parsed a) e)
+  after-ends p a (numbered _ _ _ e _) h =
       let none-there : operatorOf (wordOf text r) ≡ none = code-none infixCode infix-small (operatorOf (wordOf text r)) h in
-      ap (afterPart p a) e ∙ ap (λ o. operationFrom p a (wordOf text r ∷ tokens (drop (r .end) text)) o (tokens (drop (r .end) text))) none-there ∙ sym (ap (parsed a) e)
+      ap (afterPart p a) e ∙ ap (λ o. operationFrom p a (wordOf text r ∷ rest (r .next)) o (rest (r .next))) none-there ∙ sym (ap (parsed a) e)
 
-  pub operator-at : {code : ℕ} → TokenAt text at r → code ≡ codeOr255 infixCode (operatorOf (wordOf text r)) → (code ≡ 255 → ⊥) → Operator-at text at r code
+  pub operator-at : {code : ℕ} → TokenNumbered text rest at r → code ≡ codeOr255 infixCode (operatorOf (wordOf text r)) → (code ≡ 255 → ⊥) → Operator-at text rest at r code
   unfolding operatorOf operators
-  operator-at (noToken p q e) c n = absurd (n (c ∙ ap (λ w. codeOr255 infixCode (operatorOf w)) (no-word text r p q)))
-  operator-at (aToken _ _ _ e) c n =
+  operator-at (noneLeft p q e) c n = absurd (n (c ∙ ap (λ w. codeOr255 infixCode (operatorOf w)) (no-word text r p q)))
+  operator-at (numbered _ _ m e _) c n =
       let (o, is, code) = code-some infixCode (operatorOf (wordOf text r)) (λ h. n (c ∙ h)) in
       record {
         operator = o;
         code-is = c ∙ code;
         first = e;
-        goes-on = λ p a. ap (afterPart p a) e ∙ ap (λ m. operationFrom p a (wordOf text r ∷ tokens (drop (r .end) text)) m (tokens (drop (r .end) text))) is;
+        number = m;
+        goes-on = λ p a. ap (afterPart p a) e ∙ ap (λ m. operationFrom p a (wordOf text r ∷ rest (r .next)) m (rest (r .next))) is;
       }

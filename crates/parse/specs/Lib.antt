@@ -1,3 +1,4 @@
 pub mod Stored
 pub mod Bounded
+pub mod Numbered
 pub mod Reading

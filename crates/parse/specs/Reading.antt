@@ -6,9 +6,11 @@ use mathlib.Core.List.{List}
 use mathlib.Core.Option.{some, none}
 use lib.Dec.{eqb}
 use lib.IntN.{ℤ, pos}
-use lib.ListN.{length, drop}
+use lib.ListN.{length}
+use lib.Seq.{sets}
 use Rattle.text.specs.Bytes.{Token, tokens}
 use Rattle.text.specs.Token.{isName, isInteger, isReserved}
+use Rattle.scan.specs.Start.{tokenStarts}
 use Rattle.meaning.specs.Expression.{Expression, Constraint}
 use Rattle.meaning.specs.Window.{firsts, sideFirsts}
 use Rattle.nodes.specs.Postfix.{postfix, sideNodes, storedConstraint}
@@ -31,20 +33,22 @@ pub record Stores (tree : Expression) (old new : Arrays) (n f m g : ℕ) (b : Bo
   pub firsts : g ≡ f + length (firsts (bounded tree))
   pub beyond : b ≡ hasBeyond tree
 
--- A tree was read from the tokens ts up to those from r's next place on. Bounds of the reader at least as large as the number of tokens
--- agree. `room` and `roomFirsts` say that no more nodes were stored and `first`s numbered than tokens read.
-pub record Found (R : ℕ → Reader) (text : List ℕ) (ts : List Token) (old new : Arrays) (n f : ℕ) (r : Read) : Type 0 where
+-- A tree was read from the token with the number `at` on, up to before that with r's next number, where `rest` gives the tokens from a
+-- number on. Bounds of the reader at least as large as the number of tokens agree. `numbers` says that one number was passed for each token
+-- read, `room` and `roomFirsts` that no more nodes were stored and `first`s numbered than tokens read.
+pub record Found (R : ℕ → Reader) (rest : ℕ → List Token) (at : ℕ) (old new : Arrays) (n f : ℕ) (r : Read) : Type 0 where
   pub tree : Expression
-  pub reads : (d : ℕ) → length ts ≤ d → R d ts ≡ parsed tree (tokens (drop (r .next) text))
+  pub reads : (d : ℕ) → length (rest at) ≤ d → R d (rest at) ≡ parsed tree (rest (r .next))
   pub stores : Stores tree old new n f (r .nodes) (r .firsts) (r .beyond)
-  pub fewer : length (tokens (drop (r .next) text)) < length ts
-  pub room : r .nodes + length (tokens (drop (r .next) text)) ≤ n + length ts
-  pub roomFirsts : r .firsts + length (tokens (drop (r .next) text)) ≤ f + length ts
+  pub fewer : length (rest (r .next)) < length (rest at)
+  pub numbers : r .next + length (rest (r .next)) ≡ at + length (rest at)
+  pub room : r .nodes + length (rest (r .next)) ≤ n + length (rest at)
+  pub roomFirsts : r .firsts + length (rest (r .next)) ≤ f + length (rest at)
 
--- What a reader's answer says of the tokens ts. Where nothing was read, what stands in the arrays from n on is left open.
-pub record Reading (R : ℕ → Reader) (text : List ℕ) (ts : List Token) (old new : Arrays) (n f : ℕ) (r : Read) : Type 0 where
-  pub found : r .ok ≡ true → Found R text ts old new n f r
-  pub missing : r .ok ≡ false → (d : ℕ) → length ts ≤ d → R d ts ≡ none
+-- What a reader's answer says of the tokens from the number `at` on. Where nothing was read, what stands in the arrays from n on is left open.
+pub record Reading (R : ℕ → Reader) (rest : ℕ → List Token) (at : ℕ) (old new : Arrays) (n f : ℕ) (r : Read) : Type 0 where
+  pub found : r .ok ≡ true → Found R rest at old new n f r
+  pub missing : r .ok ≡ false → (d : ℕ) → length (rest at) ≤ d → R d (rest at) ≡ none
   pub kept : SameBelow n new old
 
 -- An integer or a name by itself: what a part that begins with this token is, whatever stands after it.
@@ -90,6 +94,11 @@ constraintRead n f c =
 pub record Fits (line : List ℕ) (n f : ℕ) : Type 0 where
   pub nodes : n + length (tokens line) ≤ 1024
   pub firsts : f ≤ 1024
+
+-- What the array of token starts holds after a line: it is unchanged where the line is too long, else the line's are stored from n on.
+pub data StartsOutcome (line : List ℕ) (n f : ℕ) (old new : List ℕ) : Type 0 where
+  areKept : (Fits line n f → ⊥) → new ≡ old → StartsOutcome line n f old new
+  areStored : Fits line n f → new ≡ sets old n (tokenStarts line) → StartsOutcome line n f old new
 
 -- The answer to a constraint line and what the arrays hold after it: nothing is changed where the line is too long; where it is no
 -- constraint, the arrays hold below n what they held, and what they hold from n on is left open.

@@ -2,23 +2,35 @@
 ghost use mathlib.Core.Path.{_≡_};
 ghost use mathlib.Core.Bool.{false, _||_};
 ghost use mathlib.Core.List.{[], _∷_};
-ghost use Prim.Native.Nat.{_≤_, _<_};
+ghost use Prim.Native.Nat.{_+_, _≤_, _<_};
 ghost use lib.IntN.{pos};
-ghost use lib.ListN.{drop};
+ghost use lib.ListN.{length};
+ghost use lib.Seq.{sets};
 ghost use Rattle.text.specs.Bytes.{tokens};
+ghost use Rattle.scan.specs.Place.{between};
+ghost use Rattle.scan.specs.Start.{tokenStarts};
 ghost use Rattle.nodes.specs.Postfix.{node};
 ghost use Rattle.sheet.specs.Parser.{partTo, conditionalBy, expressionBy};
 ghost use Rattle.parse.specs.Stored.{arrays, store};
-ghost use Rattle.parse.specs.Reading.{Room, Reading, LeafReading, firstsInside, prefixValue, unread, ConstraintOutcome};
+ghost use Rattle.parse.specs.Numbered.{tokensFrom, Placed, TokenNumbered};
+ghost use Rattle.parse.specs.Reading.{Room, Reading, LeafReading, firstsInside, prefixValue, unread, Fits, StartsOutcome, ConstraintOutcome};
 
-// What reading a part or an expression gives: whether there is one, the place after it, the numbers of nodes and of `first`s stored so
-// far, and whether an integer in it is beyond the magnitude bound.
+// What reading a part or an expression gives: whether there is one, the number of the token after it, the numbers of nodes and of `first`s
+// stored so far, and whether an integer in it is beyond the magnitude bound.
 struct Read {
     ok: bool,
     next: usize,
     nodes: usize,
     firsts: usize,
     beyond: bool,
+}
+
+// Where the token with some number begins and ends in a text, and the next number; both places are the text's length where the text has no
+// token with that number.
+struct NumberedToken {
+    start: usize,
+    end: usize,
+    next: usize,
 }
 
 // What reading a constraint line gives: whether the arrays have room for it, whether it is a constraint, and then its relation, the places
@@ -154,12 +166,35 @@ fn prefix_value(kind: u8, firsts: usize) -> i64
     if kind == 2 { value_of(firsts) } else { 0 }
 }
 
-// The part that begins with the first token from `at` on. The readers of parts and of expressions call each other, and what they call has
+// The token with the number `at`, where `token_starts` holds the places of the line at which its tokens begin, and the text is the part of
+// the line that begins at the place `origin`.
+fn token_at(text: &[u8], origin: usize, token_starts: &[usize], at: usize) -> NumberedToken
+    requires { ⌜ Placed (now text) origin (now «token_starts») at ⌝ }
+    ensures { λ r. ⌜ TokenNumbered (now (text .entry)) (tokensFrom (now (text .entry)) origin (now («token_starts» .entry))) at r ⌝ }
+{
+    if token_starts.len() <= at {
+        return NumberedToken {
+            start: text.len(),
+            end: text.len(),
+            next: at,
+        };
+    }
+    let token = scan::next_token(text, token_starts[at] - origin);
+    NumberedToken {
+        start: token.start,
+        end: token.end,
+        next: at + 1,
+    }
+}
+
+// The part that begins with the token with the number `at`. The readers of parts and of expressions call each other, and what they call has
 // fewer tokens left to read, or as many where an expression begins with a part. The text between two brackets is passed on as a part of the
-// bytes and read as an expression by itself.
+// bytes and read as an expression by itself; its tokens keep their numbers.
 fn part(
     names: &[u8],
     text: &[u8],
+    origin: usize,
+    token_starts: &[usize],
     at: usize,
     kinds: &mut [u8; 1024],
     values: &mut [i64; 1024],
@@ -167,10 +202,11 @@ fn part(
     nodes: usize,
     firsts: usize,
 ) -> Read
-    requires { ⌜ Room (tokens (drop at (now text))) nodes firsts ⌝ }
-    ensures { λ r. ⌜ Reading (partTo (tokens (now (names .entry)))) (now (text .entry)) (tokens (drop at (now (text .entry)))) (arrays (now (kinds .entry)) (now (values .entry)) (now (starts .entry))) (arrays (now (kinds .exit)) (now (values .exit)) (now (starts .exit))) nodes firsts r ⌝ }
+    requires { ⌜ Placed (now text) origin (now «token_starts») at ⌝ }
+    requires { ⌜ Room (tokensFrom (now text) origin (now «token_starts») at) nodes firsts ⌝ }
+    ensures { λ r. ⌜ Reading (partTo (tokens (now (names .entry)))) (tokensFrom (now (text .entry)) origin (now («token_starts» .entry))) at (arrays (now (kinds .entry)) (now (values .entry)) (now (starts .entry))) (arrays (now (kinds .exit)) (now (values .exit)) (now (starts .exit))) nodes firsts r ⌝ }
 {
-    let token = scan::next_token(text, at);
+    let token = token_at(text, origin, token_starts, at);
     let start = token.start;
     let end = token.end;
     if start == end {
@@ -180,7 +216,18 @@ fn part(
     let kind = scan::prefix_code(word);
     if kind != 255 {
         let inside = firsts_inside(kind, firsts);
-        let inner = part(names, text, end, kinds, values, starts, nodes, inside);
+        let inner = part(
+            names,
+            text,
+            origin,
+            token_starts,
+            token.next,
+            kinds,
+            values,
+            starts,
+            nodes,
+            inside,
+        );
         if !inner.ok {
             return nothing();
         }
@@ -196,7 +243,16 @@ fn part(
         };
     }
     if !scan::is_opening(word) {
-        return leaf(names, word, end, kinds, values, starts, nodes, firsts);
+        return leaf(
+            names,
+            word,
+            token.next,
+            kinds,
+            values,
+            starts,
+            nodes,
+            firsts,
+        );
     }
     let from = start + 1;
     let close = scan::partner(text, from);
@@ -204,17 +260,29 @@ fn part(
         return nothing();
     }
     let inside = &text[from..close];
-    let inner = expression(names, inside, 0, kinds, values, starts, nodes, firsts);
+    let begin = origin + from;
+    let inner = expression(
+        names,
+        inside,
+        begin,
+        token_starts,
+        token.next,
+        kinds,
+        values,
+        starts,
+        nodes,
+        firsts,
+    );
     if !inner.ok {
         return nothing();
     }
-    let after = scan::next_token(inside, inner.next);
+    let after = token_at(inside, begin, token_starts, inner.next);
     if after.start != after.end {
         return nothing();
     }
     Read {
         ok: true,
-        next: close + 1,
+        next: inner.next + 1,
         nodes: inner.nodes,
         firsts: inner.firsts,
         beyond: inner.beyond,
@@ -225,6 +293,8 @@ fn part(
 fn conditional(
     names: &[u8],
     text: &[u8],
+    origin: usize,
+    token_starts: &[usize],
     at: usize,
     kinds: &mut [u8; 1024],
     values: &mut [i64; 1024],
@@ -232,14 +302,26 @@ fn conditional(
     nodes: usize,
     firsts: usize,
 ) -> Read
-    requires { ⌜ Room (tokens (drop at (now text))) nodes firsts ⌝ }
-    ensures { λ r. ⌜ Reading (λ d. conditionalBy (partTo (tokens (now (names .entry))) d)) (now (text .entry)) (tokens (drop at (now (text .entry)))) (arrays (now (kinds .entry)) (now (values .entry)) (now (starts .entry))) (arrays (now (kinds .exit)) (now (values .exit)) (now (starts .exit))) nodes firsts r ⌝ }
+    requires { ⌜ Placed (now text) origin (now «token_starts») at ⌝ }
+    requires { ⌜ Room (tokensFrom (now text) origin (now «token_starts») at) nodes firsts ⌝ }
+    ensures { λ r. ⌜ Reading (λ d. conditionalBy (partTo (tokens (now (names .entry))) d)) (tokensFrom (now (text .entry)) origin (now («token_starts» .entry))) at (arrays (now (kinds .entry)) (now (values .entry)) (now (starts .entry))) (arrays (now (kinds .exit)) (now (values .exit)) (now (starts .exit))) nodes firsts r ⌝ }
 {
-    let condition = part(names, text, at, kinds, values, starts, nodes, firsts);
+    let condition = part(
+        names,
+        text,
+        origin,
+        token_starts,
+        at,
+        kinds,
+        values,
+        starts,
+        nodes,
+        firsts,
+    );
     if !condition.ok {
         return nothing();
     }
-    let then = scan::next_token(text, condition.next);
+    let then = token_at(text, origin, token_starts, condition.next);
     let then_start = then.start;
     let then_end = then.end;
     if !scan::is_then(&text[then_start..then_end]) {
@@ -248,7 +330,9 @@ fn conditional(
     let branch = part(
         names,
         text,
-        then_end,
+        origin,
+        token_starts,
+        then.next,
         kinds,
         values,
         starts,
@@ -258,7 +342,7 @@ fn conditional(
     if !branch.ok {
         return nothing();
     }
-    let other = scan::next_token(text, branch.next);
+    let other = token_at(text, origin, token_starts, branch.next);
     let other_start = other.start;
     let other_end = other.end;
     if !scan::is_else(&text[other_start..other_end]) {
@@ -267,7 +351,9 @@ fn conditional(
     let last = part(
         names,
         text,
-        other_end,
+        origin,
+        token_starts,
+        other.next,
         kinds,
         values,
         starts,
@@ -288,10 +374,12 @@ fn conditional(
     }
 }
 
-// The expression that begins with the first token from `at` on.
+// The expression that begins with the token with the number `at`.
 fn expression(
     names: &[u8],
     text: &[u8],
+    origin: usize,
+    token_starts: &[usize],
     at: usize,
     kinds: &mut [u8; 1024],
     values: &mut [i64; 1024],
@@ -299,20 +387,43 @@ fn expression(
     nodes: usize,
     firsts: usize,
 ) -> Read
-    requires { ⌜ Room (tokens (drop at (now text))) nodes firsts ⌝ }
-    ensures { λ r. ⌜ Reading (λ d. expressionBy (partTo (tokens (now (names .entry))) d)) (now (text .entry)) (tokens (drop at (now (text .entry)))) (arrays (now (kinds .entry)) (now (values .entry)) (now (starts .entry))) (arrays (now (kinds .exit)) (now (values .exit)) (now (starts .exit))) nodes firsts r ⌝ }
+    requires { ⌜ Placed (now text) origin (now «token_starts») at ⌝ }
+    requires { ⌜ Room (tokensFrom (now text) origin (now «token_starts») at) nodes firsts ⌝ }
+    ensures { λ r. ⌜ Reading (λ d. expressionBy (partTo (tokens (now (names .entry))) d)) (tokensFrom (now (text .entry)) origin (now («token_starts» .entry))) at (arrays (now (kinds .entry)) (now (values .entry)) (now (starts .entry))) (arrays (now (kinds .exit)) (now (values .exit)) (now (starts .exit))) nodes firsts r ⌝ }
 {
-    let token = scan::next_token(text, at);
+    let token = token_at(text, origin, token_starts, at);
     let start = token.start;
     let end = token.end;
     if scan::is_if(&text[start..end]) {
-        return conditional(names, text, end, kinds, values, starts, nodes, firsts);
+        return conditional(
+            names,
+            text,
+            origin,
+            token_starts,
+            token.next,
+            kinds,
+            values,
+            starts,
+            nodes,
+            firsts,
+        );
     }
-    let left = part(names, text, at, kinds, values, starts, nodes, firsts);
+    let left = part(
+        names,
+        text,
+        origin,
+        token_starts,
+        at,
+        kinds,
+        values,
+        starts,
+        nodes,
+        firsts,
+    );
     if !left.ok {
         return nothing();
     }
-    let sign = scan::next_token(text, left.next);
+    let sign = token_at(text, origin, token_starts, left.next);
     let sign_start = sign.start;
     let sign_end = sign.end;
     let kind = scan::operator_code(&text[sign_start..sign_end]);
@@ -322,7 +433,9 @@ fn expression(
     let right = part(
         names,
         text,
-        sign_end,
+        origin,
+        token_starts,
+        sign.next,
         kinds,
         values,
         starts,
@@ -343,33 +456,40 @@ fn expression(
     }
 }
 
-// Reads a constraint line, where `names` is line 1. The nodes are stored from `from` on and its `first`s numbered from `firsts` on. Nothing
-// is changed where the line has more tokens than there is room for nodes, or where too many `first`s were numbered before.
-pub fn parse_constraint(
+// The two sides of a constraint line and the relation between them. The starts of the line's tokens stand in `all_starts` from the number of
+// the line's first node to before `last`.
+fn sides(
     names: &[u8],
     line: &[u8],
+    all_starts: &[usize],
+    last: usize,
     kinds: &mut [u8; 1024],
     values: &mut [i64; 1024],
     starts: &mut [u16; 1024],
-    from: usize,
+    nodes: usize,
     firsts: usize,
 ) -> ConstraintRead
-    ensures { λ r. ⌜ ConstraintOutcome (now (names .entry)) (now (line .entry)) from firsts (arrays (now (kinds .entry)) (now (values .entry)) (now (starts .entry))) (arrays (now (kinds .exit)) (now (values .exit)) (now (starts .exit))) r ⌝ }
+    requires { ⌜ Fits (now line) nodes firsts ⌝ }
+    requires { ⌜ (nodes ≤ last) × (last ≤ length (now «all_starts»)) × (between (now «all_starts») nodes last ≡ tokenStarts (now line)) ⌝ }
+    ensures { λ r. ⌜ ConstraintOutcome (now (names .entry)) (now (line .entry)) nodes firsts (arrays (now (kinds .entry)) (now (values .entry)) (now (starts .entry))) (arrays (now (kinds .exit)) (now (values .exit)) (now (starts .exit))) r ⌝ }
 {
-    if 1024 < from {
-        return unread(false);
-    }
-    if 1024 < firsts {
-        return unread(false);
-    }
-    if 1024 - from < scan::token_count(line) {
-        return unread(false);
-    }
-    let left = expression(names, line, 0, kinds, values, starts, from, firsts);
+    let token_starts = &all_starts[nodes..last];
+    let left = expression(
+        names,
+        line,
+        0,
+        token_starts,
+        0,
+        kinds,
+        values,
+        starts,
+        nodes,
+        firsts,
+    );
     if !left.ok {
         return unread(true);
     }
-    let sign = scan::next_token(line, left.next);
+    let sign = token_at(line, 0, token_starts, left.next);
     let sign_start = sign.start;
     let sign_end = sign.end;
     let relation = scan::relation_code(&line[sign_start..sign_end]);
@@ -379,7 +499,9 @@ pub fn parse_constraint(
     let right = expression(
         names,
         line,
-        sign_end,
+        0,
+        token_starts,
+        sign.next,
         kinds,
         values,
         starts,
@@ -389,7 +511,7 @@ pub fn parse_constraint(
     if !right.ok {
         return unread(true);
     }
-    let after = scan::next_token(line, right.next);
+    let after = token_at(line, 0, token_starts, right.next);
     if after.start != after.end {
         return unread(true);
     }
@@ -403,4 +525,64 @@ pub fn parse_constraint(
         firsts: right.firsts,
         beyond: either(left.beyond, right.beyond),
     }
+}
+
+// Stores the places where the line's tokens begin, from the place `from` of the array on.
+fn store_token_starts(line: &[u8], token_starts: &mut [usize; 1024], from: usize)
+    requires { ⌜ from + length (tokens (now line)) ≤ 1024 ⌝ }
+    ensures { λ r. ⌜ now («token_starts» .exit) ≡ sets (now («token_starts» .entry)) from (tokenStarts (now (line .entry))) ⌝ }
+{
+    let mut count = from;
+    let mut inside = false;
+    let mut i = 0;
+    while i < line.len() {
+        let byte = line[i];
+        if scan::begins_token(inside, byte) {
+            token_starts[count] = i;
+            count += 1;
+        }
+        inside = scan::is_inside(byte);
+        i += 1;
+    }
+}
+
+// Reads a constraint line, where `names` is line 1. The starts of its tokens and the nodes are stored from `from` on and its `first`s
+// numbered from `firsts` on. Nothing is changed where the line has more tokens than there is room for nodes, or where too many `first`s were
+// numbered before.
+pub fn parse_constraint(
+    names: &[u8],
+    line: &[u8],
+    token_starts: &mut [usize; 1024],
+    kinds: &mut [u8; 1024],
+    values: &mut [i64; 1024],
+    starts: &mut [u16; 1024],
+    from: usize,
+    firsts: usize,
+) -> ConstraintRead
+    ensures { λ r. ⌜ StartsOutcome (now (line .entry)) from firsts (now («token_starts» .entry)) (now («token_starts» .exit)) ⌝ }
+    ensures { λ r. ⌜ ConstraintOutcome (now (names .entry)) (now (line .entry)) from firsts (arrays (now (kinds .entry)) (now (values .entry)) (now (starts .entry))) (arrays (now (kinds .exit)) (now (values .exit)) (now (starts .exit))) r ⌝ }
+{
+    if 1024 < from {
+        return unread(false);
+    }
+    if 1024 < firsts {
+        return unread(false);
+    }
+    let count = scan::token_count(line);
+    if 1024 - from < count {
+        return unread(false);
+    }
+    store_token_starts(line, token_starts, from);
+    let last = from + count;
+    sides(
+        names,
+        line,
+        token_starts,
+        last,
+        kinds,
+        values,
+        starts,
+        from,
+        firsts,
+    )
 }

@@ -51,10 +51,20 @@ fn print_nodes(kinds: &[u8; 1024], values: &[i64; 1024], starts: &[u16; 1024], c
 }
 
 fn print_constraint(names: &[u8], line: &[u8]) {
+    let mut token_starts = [0usize; 1024];
     let mut kinds = [0u8; 1024];
     let mut values = [0i64; 1024];
     let mut starts = [0u16; 1024];
-    let read = parse::parse_constraint(names, line, &mut kinds, &mut values, &mut starts, 0, 0);
+    let read = parse::parse_constraint(
+        names,
+        line,
+        &mut token_starts,
+        &mut kinds,
+        &mut values,
+        &mut starts,
+        0,
+        0,
+    );
     print_flag(read.fits);
     print_flag(read.ok);
     print(read.relation as usize);

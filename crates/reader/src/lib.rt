@@ -370,6 +370,7 @@ fn no_constraints() -> ConstraintsRead
 fn read_constraints(
     names: &[u8],
     text: &[u8],
+    token_starts: &mut [usize; 1024],
     kinds: &mut [u8; 1024],
     values: &mut [i64; 1024],
     starts: &mut [u16; 1024],
@@ -392,6 +393,7 @@ fn read_constraints(
         let read = parse::parse_constraint(
             names,
             &text[at..end],
+            token_starts,
             kinds,
             values,
             starts,
@@ -751,6 +753,7 @@ fn read_lines(names_line: &[u8], lows_line: &[u8], highs_line: &[u8], text: &[u8
     if streams.count == 0 {
         return refused(3);
     }
+    let mut token_starts: [usize; 1024] = [0; 1024];
     let mut kinds: [u8; 1024] = [0; 1024];
     let mut values: [i64; 1024] = [0; 1024];
     let mut starts: [u16; 1024] = [0; 1024];
@@ -760,6 +763,7 @@ fn read_lines(names_line: &[u8], lows_line: &[u8], highs_line: &[u8], text: &[u8
     let constraints = read_constraints(
         names_line,
         text,
+        &mut token_starts,
         &mut kinds,
         &mut values,
         &mut starts,

@@ -4,3 +4,4 @@ pub mod Words
 pub mod Integers
 pub mod Partners
 pub mod Functional
+pub mod Starts

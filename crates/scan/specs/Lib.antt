@@ -1,3 +1,4 @@
 pub mod Place
 pub mod Word
 pub mod Integer
+pub mod Start

@@ -11,6 +11,7 @@ ghost use Rattle.text.specs.Token.{sameBytes, isName, isReserved};
 ghost use Rattle.sheet.specs.Vocabulary.{operatorOf, relationOf, prefixOf, placeOf};
 ghost use Rattle.sheet.specs.Reading.{tooDeepFrom};
 ghost use Rattle.scan.specs.Place.{TokenAt, LineAt, Skipped, RunEnd, PartnerAt};
+ghost use Rattle.scan.specs.Start.{beginsToken};
 ghost use Rattle.scan.specs.Word.{codeOr255, infixCode, prefixCode, relationNumber, TellsWord};
 ghost use Rattle.scan.specs.Integer.{integerRead, naturalRead, signedRead, withSign, cut};
 
@@ -40,7 +41,7 @@ struct NaturalRead {
 }
 
 // "bytes 33 to 126 without brackets"
-fn is_inside(byte: u8) -> bool
+pub fn is_inside(byte: u8) -> bool
     ensures { λ r. ⌜ r ≡ isInside byte ⌝ }
 {
     if byte < 33 {
@@ -50,6 +51,19 @@ fn is_inside(byte: u8) -> bool
         return false;
     }
     !text::is_bracket(byte)
+}
+
+// Whether a token begins with this byte, where `inside` says whether the byte before it is inside a run.
+pub fn begins_token(inside: bool, byte: u8) -> bool
+    ensures { λ r. ⌜ r ≡ beginsToken inside byte ⌝ }
+{
+    if text::is_bracket(byte) {
+        return true;
+    }
+    if inside {
+        return false;
+    }
+    is_inside(byte)
 }
 
 // The first place from `at` on with a byte of a token, or the length.

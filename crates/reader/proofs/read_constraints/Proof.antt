@@ -15,11 +15,11 @@ use Rattle.reader.proofs.read_constraints.Statement.{statement}
 use Rattle.reader.proofs.read_constraints.Tie as tie
 
 abbrev Inv-loop : tie.InvT-loop
-Inv-loop names text kinds₀ values₀ starts₀ relations₀ lefts₀ rights₀ count₀ nodes₀ firsts₀ untils₀ beyond₀ at₀ kinds values starts relations lefts rights count nodes firsts untils beyond at =
+Inv-loop names text token-starts₀ kinds₀ values₀ starts₀ relations₀ lefts₀ rights₀ count₀ nodes₀ firsts₀ untils₀ beyond₀ at₀ token-starts kinds values starts relations lefts rights count nodes firsts untils beyond at =
     SoFar names text (state (arrays kinds₀ values₀ starts₀) relations₀ lefts₀ rights₀ (counts 0 0 0 0 false)) (state (arrays kinds values starts) relations lefts rights (counts count nodes firsts untils beyond)) at
 
 abbrev μ-loop : tie.MeasureT-loop
-μ-loop names text kinds₀ values₀ starts₀ relations₀ lefts₀ rights₀ count₀ nodes₀ firsts₀ untils₀ beyond₀ at₀ kinds values starts relations lefts rights count nodes firsts untils beyond at = length text - at
+μ-loop names text token-starts₀ kinds₀ values₀ starts₀ relations₀ lefts₀ rights₀ count₀ nodes₀ firsts₀ untils₀ beyond₀ at₀ token-starts kinds values starts relations lefts rights count nodes firsts untils beyond at = length text - at
 
 loop-holds : tie.Need-loop-holds Inv-loop μ-loop
 loop-holds c = sofar-start _ _ _ _ _ _ (c .before .before .pre)
@@ -44,18 +44,18 @@ no-constraints-requires c κs = search needs
 
 returns : tie.Need-returns Inv-loop μ-loop
 returns c =
-    let line = c .before .before .before .before .before .before .before .before in
-    sofar-missing (line .before .before .loop .inv) (line .before .loop-test .taken) (line .next-line .ensures) (line-missing (c .before .before .before .parse-constraint .ensures) (line-fits (line .before .before .loop .inv) (line .before .loop-test .taken) (line .next-line .ensures)) (not-true _ (c .before .if1 .taken))) (c .no-constraints .ensures)
+    let line = c .before .before .before .before .before .before .before .before .before in
+    sofar-missing (line .before .before .loop .inv) (line .before .loop-test .taken) (line .next-line .ensures) (line-missing (c .before .before .before .parse-constraint .ensures .1) (line-fits (line .before .before .loop .inv) (line .before .loop-test .taken) (line .next-line .ensures)) (not-true _ (c .before .if1 .taken))) (c .no-constraints .ensures)
 
 put-constraint-requires : tie.Need-put-constraint-requires Inv-loop μ-loop
 put-constraint-requires c κs =
-    let line = c .before .before .before .before .before .before .before .before .before .before in
-    let s = sides-low (line .before .before .loop .inv) (line .before .loop-test .taken) (line .next-line .ensures) (line-read (c .before .before .before .before .before .parse-constraint .ensures) (not-false _ (c .before .before .before .if1 .left))) in
+    let line = c .before .before .before .before .before .before .before .before .before .before .before in
+    let s = sides-low (line .before .before .loop .inv) (line .before .loop-test .taken) (line .next-line .ensures) (line-read (c .before .before .before .before .before .parse-constraint .ensures .1) (not-false _ (c .before .before .before .if1 .left))) in
     (count-low (line .before .before .loop .inv) (line .before .loop-test .taken) (line .next-line .ensures), s .0, s .1)
 
 add-count : tie.Need-add-count Inv-loop μ-loop
 add-count c =
-    let line = c .before .before .before .before .before .before .before .before .before .before .before in
+    let line = c .before .before .before .before .before .before .before .before .before .before .before .before in
     let s = count-low (line .before .before .loop .inv) (line .before .loop-test .taken) (line .next-line .ensures) in
     omega arith
 
@@ -64,7 +64,7 @@ until-count-requires c κs = search needs
 
 add-untils : tie.Need-add-untils Inv-loop μ-loop
 add-untils c =
-    let line = c .before .before .before .before .before .before .before .before .before .before .before .before in
+    let line = c .before .before .before .before .before .before .before .before .before .before .before .before .before in
     let s = count-low (line .before .before .loop .inv) (line .before .loop-test .taken) (line .next-line .ensures) in
     let u = line .before .before .loop .inv .untils in
     let o = at-most-one (eqb (c .before .before .before .before .before .before .before .parse-constraint .result .relation) 7) (c .until-count .ensures) in
@@ -75,7 +75,7 @@ either-requires c κs = search needs
 
 loop-less : tie.Need-loop-less Inv-loop μ-loop
 loop-less c =
-    let line = c .before .before .before .before .before .before .before .before .before .before .before .before .before in
+    let line = c .before .before .before .before .before .before .before .before .before .before .before .before .before .before in
     let w = line-within (line .next-line .ensures) (line .before .before .loop .inv .within) in
     let f = w .further (line .before .loop-test .taken) in
     let i = w .within in
@@ -83,9 +83,9 @@ loop-less c =
 
 loop-again : tie.Need-loop-again Inv-loop μ-loop
 loop-again c =
-    let line = c .before .before .before .before .before .before .before .before .before .before .before .before .before in
+    let line = c .before .before .before .before .before .before .before .before .before .before .before .before .before .before in
     let put = c .before .before .put-constraint .ensures in
-    sofar-step (line .before .before .loop .inv) (line .before .loop-test .taken) (line .next-line .ensures) (line-read (c .before .before .before .before .before .before .before .before .parse-constraint .ensures) (not-false _ (c .before .before .before .before .before .before .if1 .left))) (put .0) (put .1) (put .2) (c .before .until-count .ensures) (c .either .ensures)
+    sofar-step (line .before .before .loop .inv) (line .before .loop-test .taken) (line .next-line .ensures) (line-read (c .before .before .before .before .before .before .before .before .parse-constraint .ensures .1) (not-false _ (c .before .before .before .before .before .before .if1 .left))) (put .0) (put .1) (put .2) (c .before .until-count .ensures) (c .either .ensures)
 
 returns-2 : tie.Need-returns-2 Inv-loop μ-loop
 returns-2 c = sofar-end (c .before .loop .inv) (c .loop-test .left)

@@ -39,7 +39,7 @@ form-refusal-requires c κs = search needs
 
 -- Places passed: there is some stream, the streams are read, the function starts.
 abbrev some-stream-of : tie.After-form-refusal → tie.Else2
-some-stream-of c = c .before .before .before .before .before .before .before .before .before .before
+some-stream-of c = c .before .before .before .before .before .before .before .before .before .before .before
 
 abbrev streams-of : tie.After-form-refusal → tie.After-read-streams
 streams-of c = some-stream-of c .before .before .before .before
@@ -54,7 +54,7 @@ tables-of c = let last = streams-of c .read-streams .last .1 .1 .1 in streamTabl
 abbrev constraints-of : tie.After-form-refusal → State
 constraints-of c =
     let read = c .before .before .before .read-constraints in
-    let last = read .last .1 .1 in
+    let last = read .last .1 .1 .1 in
     state (arrays (last .0) (last .1 .0) (last .1 .1 .0)) (last .1 .1 .1 .0) (last .1 .1 .1 .1 .0) (last .1 .1 .1 .1 .1 .0) (read .result)
 
 lines-read : (c : tie.After-form-refusal) → LinesRead (start-of c .args .names-line .now) (start-of c .args .lows-line .now) (start-of c .args .highs-line .now) (start-of c .args .text .now) (streams-of c .read-streams .result) (tables-of c) (constraints-of c) (c .form-refusal .result)
