@@ -1,7 +1,7 @@
 use nodes::Evaluated;
 ghost use mathlib.Core.Path.{_≡_};
 ghost use mathlib.Core.Bool.{_&&_, _||_};
-ghost use Prim.Native.Nat.{_≤_};
+ghost use Prim.Native.Nat.{_≤_, min};
 ghost use lib.Signed.{ltZ, leZ};
 ghost use Rattle.meaning.specs.Value.{truth, bit, compares, equal};
 ghost use Rattle.meaning.specs.Arithmetic.{add, subtract, multiply, divide, remainder, apply, cutTowardZero};
@@ -50,6 +50,13 @@ pub fn bounded_coded(z: i64) -> i64
     ensures { λ r. ⌜ r ≡ coded (bounded z) ⌝ }
 {
     if in_bound(z) { z } else { absent() }
+}
+
+// The smaller of two counts.
+pub fn fewer(a: usize, b: usize) -> usize
+    ensures { λ r. ⌜ r ≡ min a b ⌝ }
+{
+    if a <= b { a } else { b }
 }
 
 // "any value but 0 is true"

@@ -1,4 +1,5 @@
 // From a sheet's bytes to its table.
+use arithmetic::fewer;
 ghost use mathlib.Core.Path.{_≡_};
 ghost use Prim.Native.Nat.{_/_, _<_, _≤_, min};
 ghost use lib.ListN.{length, replicate};
@@ -29,12 +30,6 @@ fn refused(refusal: u32) -> Compiled
         states: 0,
         situations: 0,
     }
-}
-
-fn fewer(a: usize, b: usize) -> usize
-    ensures { λ r. ⌜ r ≡ min a b ⌝ }
-{
-    if a <= b { a } else { b }
 }
 
 // "the fewest rows any lent table holds", of tables with these lengths

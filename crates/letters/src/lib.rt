@@ -1,3 +1,4 @@
+use arithmetic::fewer;
 ghost use mathlib.Core.Path.{_≡_};
 ghost use Prim.Native.Nat.{_+_, _*_, _≤_, min};
 ghost use lib.IntN.{pos, natAbs, _+ℤ_, _-ℤ_};
@@ -41,15 +42,6 @@ fn product(a: u32, b: u32) -> u32
         return all;
     }
     1025
-}
-
-fn fewer(a: usize, b: usize) -> usize
-    ensures { λ r. ⌜ r ≡ min a b ⌝ }
-{
-    if a <= b {
-        return a;
-    }
-    b
 }
 
 // How many letters there are: exact up to 1,024, and 1,025 where they are more.

@@ -1,5 +1,6 @@
 // Writes the lines that `sluice` prints to lent bytes: the heading, the line of an entry, and the line of a refusal. An answer is how many
 // bytes the line takes, or one more than the lent bytes where it has no room there.
+use arithmetic::fewer;
 ghost use mathlib.Core.Path.{_≡_};
 ghost use mathlib.Core.List.{[], _∷_, _++_, map};
 ghost use Prim.Native.Nat.{suc, _+_, _<_, _≤_, min};
@@ -8,15 +9,6 @@ ghost use lib.ListN.{length, getD};
 ghost use Rattle.print.specs.Append.{Appends};
 ghost use Rattle.print.specs.Text.{digits, decimal, spaced, headingLine, entryLine, refusalLine};
 ghost use Rattle.print.specs.Table.{placeText, storedName, storedNames, rowsLent};
-
-fn fewer(a: usize, b: usize) -> usize
-    ensures { λ r. ⌜ r ≡ min a b ⌝ }
-{
-    if a <= b {
-        return a;
-    }
-    b
-}
 
 // ---- pieces of a line, each from the place where the last one ended
 

@@ -1,17 +1,12 @@
 // Prints what `sluice` prints for a sheet: its table, or the line of its refusal. What is written are the lines of the crate `print`, in
 // order; no contract can say what reaches standard output, but `show` gives back the refusal's number, which its contract fixes.
+use arithmetic::fewer;
 ghost use mathlib.Core.Path.{_≡_};
-ghost use Prim.Native.Nat.{_*_, _≤_, min};
+ghost use Prim.Native.Nat.{_*_, _≤_};
 ghost use lib.ListN.{length};
 ghost use Rattle.compile.specs.Lent.{roomOf};
 ghost use Rattle.show.specs.Answer.{lentRoom, CompiledWith, Shown};
 use libc::STDOUT_FILENO;
-
-fn fewer(a: usize, b: usize) -> usize
-    ensures { λ r. ⌜ r ≡ min a b ⌝ }
-{
-    if a <= b { a } else { b }
-}
 
 // Writes the first bytes of a line. The lines that are printed have room in the bytes lent below (`print`, proofs/Lengths); where one had
 // none, nothing would be written.
