@@ -57,7 +57,7 @@ row-key c k h = reach-key cutTowardZero (store c) (c .args .letters) (c .args .l
 
 -- ---- at the start of a row
 
--- the tables
+-- the tables have room
 rows-lent : (c : tie.In-rows Inv-loop μ-loop Inv-rows μ-rows) → let r = c .before .rows in IsLent (store (start-of c)) (start-of c .args .letters) (start-of c .args .limit) (r .keys) (r .heads) (r .links) (r .entries) (r .flags)
 rows-lent c = sizes-lent (c .before .rows .inv .2) (start-of c .pre .1 .0)
 
@@ -73,9 +73,12 @@ entries-room c = row-fits (c .before .rows .s) (start-of c .args .limit) (start-
 
 -- ---- before a letter
 
--- the tables
+-- the tables have the sizes of the arguments
+sizes : (c : tie.At-loop Inv-loop μ-loop Inv-rows μ-rows) → let a = start-of (in-rows-of c) .args in SameSizes (a .keys .now) (a .heads .now) (a .links .now) (a .entries .now) (a .flags .now) (c .loop .keys) (c .loop .heads) (c .loop .links) (c .loop .entries) (c .loop .flags)
+sizes c = sizes-trans (in-rows-of c .before .rows .inv .2) (c .loop .inv .4)
+
 lent : (c : tie.At-loop Inv-loop μ-loop Inv-rows μ-rows) → let start = start-of (in-rows-of c) in IsLent (store start) (start .args .letters) (start .args .limit) (c .loop .keys) (c .loop .heads) (c .loop .links) (c .loop .entries) (c .loop .flags)
-lent c = sizes-lent (c .loop .inv .4) (rows-lent (in-rows-of c))
+lent c = sizes-lent (sizes c) (start-of (in-rows-of c) .pre .1 .0)
 
 -- the place of the entry is within the table
 within : (c : tie.In-loop Inv-loop μ-loop Inv-rows μ-rows) → c .before .loop .at < length (c .before .loop .entries)
@@ -93,10 +96,12 @@ follow-sizes c =
       flags-long = c .follow .kept .1 .1 .1 .1 .1 .1 .1 .1 .1 .1 .1 .1 .1 .1 .1 .0;
     }
 
--- so they have those of the arguments where the search is left
+-- so they have the sizes of the arguments where rows run out
 left-sizes : (c : tie.After-follow Inv-loop μ-loop Inv-rows μ-rows) → let a = start-of (in-rows-of (in-loop-of c .before)) .args in let loop = in-loop-of c .before .loop in SameSizes (a .keys .now) (a .heads .now) (a .links .now) (a .entries .now) (a .flags .now)
     (c .follow .last .1 .1 .1 .1 .1 .1 .1 .1 .1 .1 .1 .1 .0) (c .follow .last .1 .1 .1 .1 .1 .1 .1 .1 .1 .1 .1 .1 .1 .0) (c .follow .last .1 .1 .1 .1 .1 .1 .1 .1 .1 .1 .1 .1 .1 .1 .0) (loop .entries) (c .follow .last .1 .1 .1 .1 .1 .1 .1 .1 .1 .1 .1 .1 .1 .1 .1 .0)
-left-sizes c = sizes-trans (in-rows-of (in-loop-of c .before) .before .rows .inv .2) (sizes-trans (in-loop-of c .before .loop .inv .4) (follow-sizes c))
+left-sizes c = sizes-trans (sizes (in-loop-of c .before)) (follow-sizes c)
+
+-- ---- the needs
 
 rows-holds : tie.Need-rows-holds Inv-loop μ-loop Inv-rows μ-rows
 rows-holds c = let start = c .before .before .before .before .before .before .before .before .before .before .before in (refl, turn-begin _ _ _ _ _ (start .pre .1 .0 .some-row) (start .pre .1 .1 .0) (start .pre .1 .1 .1), sizes-refl)
@@ -191,13 +196,13 @@ cast-entries c =
     record { fits = follow-fits _ _ _ _ _ (loop .inv .3) (loop .inv .1) (in-loop .loop-test .taken) (within in-loop) (lent (in-loop .before) .few-rows) (lent (in-loop .before) .flags-room) (at .follow .result) (at .follow .ensures .0) }
 
 mul-entries : tie.Need-mul-entries Inv-loop μ-loop Inv-rows μ-rows
-mul-entries c = let in-loop = c .before .before .before .before .before .before .before .before .before .before .before .before .before .before .before .before .before .before .before in omega (arith, within in-loop, in-loop .before .loop .inv .4 .entries-long, in-rows-of (in-loop .before) .before .rows .inv .2 .entries-long, start-of (in-rows-of (in-loop .before)) .good)
+mul-entries c = let in-loop = c .before .before .before .before .before .before .before .before .before .before .before .before .before .before .before .before .before .before .before in omega (arith, within in-loop, sizes (in-loop .before) .entries-long, start-of (in-rows-of (in-loop .before)) .good)
 
 slice-write-entries : tie.Need-slice-write-entries Inv-loop μ-loop Inv-rows μ-rows
 slice-write-entries c = within (c .before .before .before .before .before .before .before .before .before .before .before .before .before .before .before .before .before .before .before)
 
 add-at : tie.Need-add-at Inv-loop μ-loop Inv-rows μ-rows
-add-at c = let in-loop = c .before .before .before .before .before .before .before .before .before .before .before .before .before .before .before .before .before .before .before in omega (arith, within in-loop, in-loop .before .loop .inv .4 .entries-long, in-rows-of (in-loop .before) .before .rows .inv .2 .entries-long, start-of (in-rows-of (in-loop .before)) .good)
+add-at c = let in-loop = c .before .before .before .before .before .before .before .before .before .before .before .before .before .before .before .before .before .before .before in omega (arith, within in-loop, sizes (in-loop .before) .entries-long, start-of (in-rows-of (in-loop .before)) .good)
 
 add-a : tie.Need-add-a Inv-loop μ-loop Inv-rows μ-rows
 add-a c = let in-loop = c .before .before .before .before .before .before .before .before .before .before .before .before .before .before .before .before .before .before .before in omega (arith, in-loop .loop-test .taken, lent (in-loop .before) .few-letters)
@@ -224,7 +229,7 @@ rows-less : tie.Need-rows-less Inv-loop μ-loop Inv-rows μ-rows
 rows-less c = let in-rows = in-rows-of (c .before) in omega (arith, in-rows .rows-test .taken, in-rows .before .rows .inv .1 .n-le)
 
 rows-again : tie.Need-rows-again Inv-loop μ-loop Inv-rows μ-rows
-rows-again c = let loop = c .before .loop in (loop .inv .0, turn-row _ _ _ _ _ (c .loop-test .left) (loop .inv .2) (loop .inv .3), sizes-trans (in-rows-of (c .before) .before .rows .inv .2) (loop .inv .4))
+rows-again c = let loop = c .before .loop in (loop .inv .0, turn-row _ _ _ _ _ (c .loop-test .left) (loop .inv .2) (loop .inv .3), sizes (c .before))
 
 same-length : tie.Need-same-length Inv-loop μ-loop Inv-rows μ-rows
 same-length c = c .before .rows .inv .2 .keys-long
