@@ -94,8 +94,11 @@ returns-5 c =
     let start = c .before .before .before .before .before .before .before .before in
     record {
       broken = λ e. absurd (omega arith);
-      passed = λ h. (omega (arith, start .pre .1 .1 .0 .2), rw add-one (checked-new (start .pre .1 .1 .1) (start .pre .1 .1 .0 .2) (start .pre .1 .1 .0 .1) (omega (arith, c .if5 .taken, c .before .before .before .if3 .left)) (c .if5 .taken)
-          (λ h. flag-stays (start .args .flags .now) (start .args .rows) (start .args .row) _ (start .pre .1 .0) h (c .before .if4 .left))));
+      passed = λ h. (
+        omega (arith, start .pre .1 .1 .0 .2),
+        rw add-one (checked-new (start .pre .1 .1 .1) (start .pre .1 .1 .0 .2) (start .pre .1 .1 .0 .1) (omega (arith, c .if5 .taken, c .before .before .before .if3 .left)) (c .if5 .taken)
+            (λ h. flag-stays (start .args .flags .now) (start .args .rows) (start .args .row) _ (start .pre .1 .0) h (c .before .if4 .left))),
+      );
     }
 
 -- a row that was met before
@@ -104,8 +107,11 @@ returns-6 c =
     let start = c .before .before .before .before .before .before .before .before in
     record {
       broken = λ e. absurd (omega (arith, start .pre .1 .1 .1 .some));
-      passed = λ h. (start .pre .1 .1 .0 .2, checked-old (start .pre .1 .1 .1) (inr (omega (arith, c .if5 .left, c .before .before .before .before .if2 .left)))
-          (λ h. flag-stays (start .args .flags .now) (start .args .rows) (start .args .row) _ (start .pre .1 .0) h (c .before .if4 .left)));
+      passed = λ h. (
+        start .pre .1 .1 .0 .2,
+        checked-old (start .pre .1 .1 .1) (inr (omega (arith, c .if5 .left, c .before .before .before .before .if2 .left)))
+            (λ h. flag-stays (start .args .flags .now) (start .args .rows) (start .args .row) _ (start .pre .1 .0) h (c .before .if4 .left)),
+      );
     }
 
 pub check-entry-spec : {M : Type 1} → statement M
