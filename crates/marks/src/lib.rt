@@ -77,7 +77,8 @@ pub fn prune(entries: &[u16], letters: usize, marks: &mut [u32])
     }
 }
 
-// Rounds until one clears nothing. Each of the others leaves fewer marks, so one for each row and one more are enough.
+// Rounds until one clears nothing. Each of the others leaves fewer marks, so one for each row and one more are enough. Without
+// the count the compiler makes one loop of the rounds and their rows, which takes longer for each row.
 fn prune_rounds(entries: &[u16], letters: usize, marks: &mut [u32])
     requires { ⌜ length (now marks) * letters ≤ length (now entries) ⌝ }
     ensures { λ r. ⌜ Pruned letters (now (entries .entry)) (now (marks .entry)) (now (marks .exit)) ⌝ }
@@ -112,7 +113,8 @@ fn grow_round(entries: &[u16], letters: usize, marks: &mut [u32]) -> bool
     changed
 }
 
-// Rounds until one marks nothing. Each of the others leaves more marks, so one for each row and one more are enough.
+// Rounds until one marks nothing. Each of the others leaves more marks, so one for each row and one more are enough. Without
+// the count the compiler makes one loop of the rounds and their rows, which takes longer for each row.
 fn grow_rounds(entries: &[u16], letters: usize, marks: &mut [u32])
     requires { ⌜ length (now marks) * letters ≤ length (now entries) ⌝ }
     ensures { λ r. ⌜ Grown letters (now (entries .entry)) (now (marks .entry)) (now (marks .exit)) ⌝ }
