@@ -39,7 +39,7 @@ static void grow(const tables *t, uint32_t *marks) {
     }
 }
 
-static uint32_t class_at(const tables *t, uint16_t u) { return u < t->rows ? t->class[u] : 0; }
+static uint32_t class_at(const uint32_t *class, size_t rows, uint16_t u) { return u < rows ? class[u] : 0; }
 
 static void refine(tables *t) {
     uint32_t done = 0, pending = 0;
@@ -49,35 +49,38 @@ static void refine(tables *t) {
         if (*name == 0) *name = s + 1;
         t->class[s] = *name;
     }
-    int changed = 1;
-    while (changed) {
+    // the new classes go into the other list; after a round that changes none, both lists are the same
+    uint32_t *class = t->class, *next = t->next;
+    for (int changed = 1; changed;) {
         changed = 0;
         memset(t->shared, 0, t->rows * 4);
         memset(t->heads, 0, t->rows * 4);
-        for (size_t s = 0; s < t->rows; s++) if (t->class[s] && t->class[s] != s + 1) t->shared[t->class[s] - 1] = 1;
+        for (size_t s = 0; s < t->rows; s++) if (class[s] && class[s] != s + 1) t->shared[class[s] - 1] = 1;
         for (size_t s = 0; s < t->rows; s++) {
-            uint32_t old = t->class[s];
-            t->next[s] = old;
+            uint32_t old = class[s];
+            next[s] = old;
             if (!old || t->shared[old - 1] != 1) continue;
             const uint16_t *row = t->entries + s * t->letters;
             uint64_t h = old;
-            for (size_t a = 0; a < t->letters; a++) h = (h * 2654435761u + class_at(t, row[a])) & 0xffffffffu;
+            for (size_t a = 0; a < t->letters; a++) h = (h * 2654435761u + class_at(class, t->rows, row[a])) & 0xffffffffu;
             size_t b = (h / 32768 + h) % t->rows;
             uint32_t j = t->heads[b];
             while (j) {
-                if (t->class[j - 1] == old) {
+                if (class[j - 1] == old) {
                     const uint16_t *other = t->entries + (j - 1) * t->letters;
                     size_t a = 0;
-                    while (a < t->letters && class_at(t, row[a]) == class_at(t, other[a])) a++;
+                    while (a < t->letters && class_at(class, t->rows, row[a]) == class_at(class, t->rows, other[a])) a++;
                     if (a == t->letters) break;
                 }
                 j = t->links[j - 1];
             }
             if (!j) { t->links[s] = t->heads[b]; t->heads[b] = s + 1; j = s + 1; }
-            t->next[s] = j;
+            next[s] = j;
             if (j != old) changed = 1;
         }
-        memcpy(t->class, t->next, t->rows * 4);
+        uint32_t *swap = class;
+        class = next;
+        next = swap;
     }
 }
 
@@ -97,7 +100,7 @@ minimised plain_reduce(tables *t) {
     for (size_t j = 0; j < n; j++) {
         const uint16_t *from = t->entries + t->heads[j] * t->letters;
         uint16_t *to = t->entries + j * t->letters;
-        for (size_t a = 0; a < t->letters; a++) { uint32_t c = class_at(t, from[a]); to[a] = c ? t->next[c - 1] : NONE; }
+        for (size_t a = 0; a < t->letters; a++) { uint32_t c = class_at(t->class, t->rows, from[a]); to[a] = c ? t->next[c - 1] : NONE; }
         t->flags[j] = t->flags[t->heads[j]];
     }
     r.refusal = 0;

@@ -77,15 +77,18 @@ pub fn prune(entries: &[u16], letters: usize, marks: &mut [u32])
     }
 }
 
-// Rounds until one clears nothing.
+// Rounds until one clears nothing. Each of the others leaves fewer marks, so one for each row and one more are enough. Without
+// the count the compiler makes one loop of the rounds and their rows, which takes longer for each row.
 fn prune_rounds(entries: &[u16], letters: usize, marks: &mut [u32])
     requires { ⌜ length (now marks) * letters ≤ length (now entries) ⌝ }
     ensures { λ r. ⌜ Pruned letters (now (entries .entry)) (now (marks .entry)) (now (marks .exit)) ⌝ }
 {
-    loop {
+    let mut round = 0;
+    while round <= marks.len() {
         if !prune_round(entries, letters, marks) {
-            break;
+            return;
         }
+        round += 1;
     }
 }
 
@@ -110,15 +113,18 @@ fn grow_round(entries: &[u16], letters: usize, marks: &mut [u32]) -> bool
     changed
 }
 
-// Rounds until one marks nothing.
+// Rounds until one marks nothing. Each of the others leaves more marks, so one for each row and one more are enough. Without
+// the count the compiler makes one loop of the rounds and their rows, which takes longer for each row.
 fn grow_rounds(entries: &[u16], letters: usize, marks: &mut [u32])
     requires { ⌜ length (now marks) * letters ≤ length (now entries) ⌝ }
     ensures { λ r. ⌜ Grown letters (now (entries .entry)) (now (marks .entry)) (now (marks .exit)) ⌝ }
 {
-    loop {
+    let mut round = 0;
+    while round <= marks.len() {
         if !grow_round(entries, letters, marks) {
-            break;
+            return;
         }
+        round += 1;
     }
 }
 

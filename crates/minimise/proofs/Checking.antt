@@ -14,7 +14,7 @@ use Rattle.automaton.proofs.Places.{before-extend, before-later, before-row-end
 use Rattle.refine.specs.Classes.{marked}
 use Rattle.refine.proofs.Refinement.{marked-test, test-marked}
 use Rattle.minimise.specs.StoredGraph.{IsStoredGraph}
-use Rattle.minimise.specs.Checking.{HasSizes, AreBits, Checked, CheckedRow}
+use Rattle.minimise.specs.Checking.{HasSizes, AreBits, Checked}
 
 place-order : (i a j b : ℕ) → Before i a j b ⊎ (((i ≡ j) × (a ≡ b)) ⊎ Before j b i a)
 place-order i a j b = go (decLt i j) (decLt j i) (decLt a b) (decLt b a)

@@ -29,7 +29,7 @@ pub record Checked (entries flags : List ℕ) (letters rows i a met : ℕ) : Typ
   pub stays : (s b : ℕ) → b < letters → Before s b i a → entry-at letters entries s b < rows → T (marked flags s) → T (marked flags (entry-at letters entries s b))
   pub first-met : (j : ℕ) → 0 < j → j < met → (f : FirstMet letters (entry-at letters entries) j) × Before (f .state) (f .letter) i a
 
--- the answer of the check of a row: how many rows are met after it, or 0 if the tables are no graph
-pub record CheckedRow (entries flags : List ℕ) (letters rows i met : ℕ) : Type 0 where
+-- the answer of the check of every place before row i and letter a: how many rows are met, or 0 if the tables are no graph
+pub record CheckedTo (entries flags : List ℕ) (letters rows i a met : ℕ) : Type 0 where
   pub broken : met ≡ 0 → ¬ IsStoredGraph entries flags letters rows
-  pub passed : 0 < met → Checked entries flags letters rows i letters met
+  pub passed : 0 < met → (i < met) × Checked entries flags letters rows i a met

@@ -3,13 +3,13 @@
 ghost use mathlib.Core.Path.{_≡_};
 ghost use mathlib.Core.Logic.{_⊎_};
 ghost use mathlib.Core.List.{[], _∷_};
-ghost use Prim.Native.Nat.{ℕ, _+_, _*_, _<_, _≤_};
+ghost use Prim.Native.Nat.{ℕ, suc, _+_, _*_, _<_, _≤_};
 ghost use lib.ListN.{length, getD};
 ghost use Rattle.marks.specs.Answers.{Says};
 ghost use Rattle.marks.specs.Marks.{Marked};
 ghost use Rattle.minimise.specs.StoredGraph.{IsStoredGraph};
 ghost use Rattle.minimise.specs.Outcome.{Tables, HasRoom, MinimiseOutcome};
-ghost use Rattle.minimise.specs.Checking.{HasSizes, AreBits, Checked, CheckedRow};
+ghost use Rattle.minimise.specs.Checking.{HasSizes, AreBits, Checked, CheckedTo};
 ghost use Rattle.minimise.specs.Sets.{IsFlagged, FindsLive, IsSet, LiveWithout, FindsFinals};
 ghost use Rattle.minimise.specs.Compacting.{IsNumbered, IsState, IsNameable, IsMoved, IsCompacted};
 ghost use Rattle.minimise.specs.Reducing.{Reduced, ClearedFrom, Ran};
@@ -26,18 +26,53 @@ fn are_bits(flags: &[u8], rows: usize) -> bool
     requires { ⌜ rows ≤ length (now flags) ⌝ }
     ensures { λ r. ⌜ Says r (AreBits (now (flags .entry)) rows) ⌝ }
 {
-    let mut row = 0;
-    while row < rows {
-        if flags[row] > 1 {
+    let mut index = 0;
+    while index < rows {
+        if flags[index] > 1 {
             return false;
         }
-        row += 1;
+        index += 1;
     }
     true
 }
 
-// Checks the entries of one row, where `known` rows were met before it. Gives how many are met after it, or 0 if an entry names
-// no row, breaks the order or lets the flag fall.
+// Checks the entry of one row and letter, where `known` rows were met before. Gives how many are met after it, or 0 if the entry
+// names no row, breaks the order or lets the flag fall.
+fn check_entry(
+    entries: &[u16],
+    flags: &[u8],
+    letters: usize,
+    rows: usize,
+    row: usize,
+    letter: usize,
+    known: usize,
+) -> usize
+    requires { ⌜ HasSizes (now entries) (now flags) letters rows ⌝ }
+    requires { ⌜ AreBits (now flags) rows ⌝ }
+    requires { ⌜ (row < rows) × (letter < letters) × (row < known) ⌝ }
+    requires { ⌜ Checked (now entries) (now flags) letters rows row letter known ⌝ }
+    ensures { λ r. ⌜ CheckedTo (now (entries .entry)) (now (flags .entry)) letters rows row (suc letter) r ⌝ }
+{
+    let flag = flags[row];
+    let entry = entries[row * letters + letter];
+    if entry == 65535 {
+        return known;
+    }
+    let target = entry as usize;
+    if target > known {
+        return 0;
+    }
+    if target >= rows {
+        return 0;
+    }
+    if flags[target] < flag {
+        return 0;
+    }
+    if target == known { known + 1 } else { known }
+}
+
+// Checks the entries of one row, where `known` rows were met before it. Gives how many are met after it, or 0 if the tables are
+// no graph.
 fn check_row(
     entries: &[u16],
     flags: &[u8],
@@ -50,30 +85,16 @@ fn check_row(
     requires { ⌜ AreBits (now flags) rows ⌝ }
     requires { ⌜ (row < rows) × (row < known) ⌝ }
     requires { ⌜ Checked (now entries) (now flags) letters rows row 0 known ⌝ }
-    ensures { λ r. ⌜ CheckedRow (now (entries .entry)) (now (flags .entry)) letters rows row r ⌝ }
+    ensures { λ r. ⌜ CheckedTo (now (entries .entry)) (now (flags .entry)) letters rows row letters r ⌝ }
 {
-    let start = row * letters;
-    let flag = flags[row];
     let mut met = known;
-    let mut a = 0;
-    while a < letters {
-        let entry = entries[start + a];
-        a += 1;
-        if entry != 65535 {
-            let target = entry as usize;
-            if target > met {
-                return 0;
-            }
-            if target >= rows {
-                return 0;
-            }
-            if flags[target] < flag {
-                return 0;
-            }
-            if target == met {
-                met += 1;
-            }
+    let mut letter = 0;
+    while letter < letters {
+        met = check_entry(entries, flags, letters, rows, row, letter, met);
+        if met == 0 {
+            return 0;
         }
+        letter += 1;
     }
     met
 }

@@ -10,6 +10,7 @@ use native.Mathlib.Omega.{arith}
 use native.Mathlib.Decide.{ℕ-discrete, decLt}
 use lib.Dec.{T, T-not, not-T, eqb, eqb→eq, eqb-refl}
 use lib.ListN.{length, getD, List·getD-eq-default}
+use lib.Seq.{ext-getD}
 use Rattle.automaton.specs.Stored.{entry-at}
 use Rattle.automaton.specs.Graph.{Graph, Member}
 use Rattle.automaton.specs.Fixpoints.{Distinguished, swap, by-final, by-edge, by-letter, SameStep, IsPartition}
@@ -200,6 +201,15 @@ module _ {letters : ℕ} {entries live finals class next : List ℕ} {changed : 
         step = λ m. after s t a ms mt z h;
       }
 
+  -- and they were so before that round
+  pub round-refined-before : changed ≡ false → Refined letters entries live finals class
+  round-refined-before q = subst (λ x. Refined letters entries live finals x) still (round-refined q)
+    where
+      still : next ≡ class
+      still =
+          let m : Moved false class next (length class) = rw q at (R .moved) in
+          ext-getD 0 next class e λ s h. m s (omega (arith, e))
+
 -- the lists between two rounds
 pub record Going (letters : ℕ) (entries live finals class next heads links shared : List ℕ) : Type 0 where
   pub classes : Classes letters entries live finals class
@@ -234,11 +244,15 @@ module _ {letters : ℕ} {entries live finals class next heads links shared : Li
     falling = I .falling;
   }
 
-  pub going-next : {class′ next′ heads′ links′ shared′ : List ℕ} {changed : Bool} → length class′ ≡ length class → length next′ ≡ length next → length heads′ ≡ length heads → length links′ ≡ length links → length shared′ ≡ length shared
-      → Round letters entries class class′ changed → Falling links′ → Going letters entries live finals class′ next′ heads′ links′ shared′
-  going-next a b d e f r g = record {
-    classes = classes-round (I .classes) a r;
-    next-fits = b ∙ I .next-fits;
+  pub next-same : length next ≡ length class
+  next-same = I .next-fits ∙ sym (I .classes .same)
+
+  -- the round puts the new classes into `next`; the lists `class` and `next` change places
+  pub going-next : {next′ heads′ links′ shared′ : List ℕ} {changed : Bool} → length next′ ≡ length next → length heads′ ≡ length heads → length links′ ≡ length links → length shared′ ≡ length shared
+      → Round letters entries class next′ changed → Falling links′ → Going letters entries live finals next′ class heads′ links′ shared′
+  going-next b d e f r g = record {
+    classes = classes-round (I .classes) (b ∙ next-same) r;
+    next-fits = I .classes .same;
     heads-fit = d ∙ I .heads-fit;
     links-fit = e ∙ I .links-fit;
     shared-fits = f ∙ I .shared-fits;

@@ -18,18 +18,6 @@ pub fn class_at(class: &[u32], entry: u16) -> u32
     if row < class.len() { class[row] } else { 0 }
 }
 
-// Copies one list over another of the same length.
-fn copy(from: &[u32], to: &mut [u32])
-    requires { ⌜ length (now to) ≡ length (now from) ⌝ }
-    ensures { λ r. ⌜ now (to .exit) ≡ now (from .entry) ⌝ }
-{
-    let mut i = 0;
-    while i < from.len() {
-        to[i] = from[i];
-        i += 1;
-    }
-}
-
 // The name of a class: the name that it has, or `name` if it has none yet.
 fn first_of(old: u32, name: u32) -> u32
     ensures { λ r. ⌜ (old ≡ 0 → r ≡ name) × ((old ≡ 0 → ⊥) → r ≡ old) ⌝ }
@@ -224,28 +212,28 @@ fn split_round(
     changed
 }
 
-// One round, with the new classes in `class`. Whether some class changed.
+// One round, with the new classes in `next`. Whether some class changed.
 fn round(
     entries: &[u16],
     letters: usize,
-    class: &mut [u32],
+    class: &[u32],
     next: &mut [u32],
     heads: &mut [u32],
     links: &mut [u32],
     shared: &mut [u32],
 ) -> bool
     requires { ⌜ Rounds letters (now entries) (now class) (now next) (now heads) (now links) (now shared) ⌝ }
-    ensures { λ r. ⌜ Round letters (now (entries .entry)) (now (class .entry)) (now (class .exit)) r × Falling (now (links .exit)) ⌝ }
+    ensures { λ r. ⌜ Round letters (now (entries .entry)) (now (class .entry)) (now (next .exit)) r × Falling (now (links .exit)) ⌝ }
 {
     marks::fill(shared, 0);
     mark_shared(class, shared);
     marks::fill(heads, 0);
-    let changed = split_round(entries, letters, class, shared, next, heads, links);
-    copy(next, class);
-    changed
+    split_round(entries, letters, class, shared, next, heads, links)
 }
 
-// Rounds until one changes no class.
+// Rounds until one changes no class, with the new classes in `next` and in `class` by turns. After a round that changes none both
+// hold the same. The two calls also keep the round a function of its own when compiled: inlined here, its loop over the letters
+// has too few registers.
 fn rounds(
     entries: &[u16],
     letters: usize,
@@ -264,6 +252,9 @@ fn rounds(
     marks::fill(links, 0);
     loop {
         if !round(entries, letters, class, next, heads, links, shared) {
+            break;
+        }
+        if !round(entries, letters, next, class, heads, links, shared) {
             break;
         }
     }

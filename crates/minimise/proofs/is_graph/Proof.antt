@@ -43,7 +43,7 @@ loop-less : tie.Need-loop-less Inv-loop μ-loop
 loop-less c = search needs
 
 loop-again : tie.Need-loop-again Inv-loop μ-loop
-loop-again c = (omega arith, rw add-one (checked-row (c .before .check-row .ensures .passed (omega (arith, c .if3 .left)))))
+loop-again c = (omega arith, rw add-one (checked-row (c .before .check-row .ensures .passed (omega (arith, c .if3 .left)) .1)))
 
 returns-4 : tie.Need-returns-4 Inv-loop μ-loop
 returns-4 c = λ G. row-unmet G (c .before .before .loop .inv .1) (c .before .before .loop .met) (omega arith) (omega (arith, c .before .before .loop .inv .1 .most, c .if4 .taken)) (omega (arith, c .before .before .loop .inv .1 .most, c .before .loop-test .left))

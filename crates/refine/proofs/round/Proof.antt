@@ -1,4 +1,4 @@
--- `refine::round` meets its contract: the tables are made ready, the classes are split, and the new ones take their place.
+-- `refine::round` meets its contract: the tables are made ready, and the classes are split.
 use Prim.Native.Nat.{ℕ, suc, _≤_, _<_}
 use mathlib.Core.Path.{_≡_, refl, sym, ap, _∙_}
 use mathlib.Core.List.{List}
@@ -18,29 +18,26 @@ fill-requires : tie.Need-fill-requires
 fill-requires c κs = search needs
 
 mark-shared-requires : tie.Need-mark-shared-requires
-mark-shared-requires c κs = (c .before .before .before .before .fill .kept .0 ∙ c .before .before .before .before .before .before .before .before .before .before .before .before .pre .shared-fits, class-most (c .before .before .before .before .before .before .before .before .before .before .before .before .args .class .now) (c .before .before .before .before .before .before .before .before .before .before .before .before .pre .low))
+mark-shared-requires c κs = (c .before .before .before .fill .kept .0 ∙ c .before .before .before .before .before .before .before .before .before .before .before .pre .shared-fits, class-most (c .before .before .before .before .before .before .before .before .before .before .before .args .class .now) (c .before .before .before .before .before .before .before .before .before .before .before .pre .low))
 
 fill-requires-2 : tie.Need-fill-requires-2
 fill-requires-2 c κs = search needs
 
 split-round-requires : tie.Need-split-round-requires
 split-round-requires c κs =
-    let pre = c .before .before .before .before .before .before .before .before .before .before .before .before .before .before .before .before .before .before .before .before .before .before .before .before .pre in
+    let pre = c .before .before .before .before .before .before .before .before .before .before .before .before .before .before .before .before .before .before .before .before .before .before .pre in
     record {
       few = pre .few;
       entries-fit = pre .entries-fit;
-      shared-fits = c .before .before .before .before .before .before .before .before .before .before .before .mark-shared .kept .1 .0 ∙ (c .before .before .before .before .before .before .before .before .before .before .before .before .before .before .before .before .fill .kept .0 ∙ pre .shared-fits);
+      shared-fits = c .before .before .before .before .before .before .before .before .before .before .mark-shared .kept .1 .0 ∙ (c .before .before .before .before .before .before .before .before .before .before .before .before .before .before .fill .kept .0 ∙ pre .shared-fits);
       next-fits = pre .next-fits;
-      heads-fit = c .before .before .before .before .before .before .before .fill2 .kept .0 ∙ pre .heads-fit;
+      heads-fit = c .before .before .before .before .before .before .fill2 .kept .0 ∙ pre .heads-fit;
       links-fit = pre .links-fit;
       low = pre .low;
-      sharing = c .before .before .before .before .before .before .before .before .before .before .before .mark-shared .ensures;
-      empty = λ k. rw (c .before .before .before .before .before .before .before .fill2 .ensures) (zeros (length (c .before .before .before .before .before .before .before .before .before .before .before .before .before .before .before .before .before .before .before .before .before .before .before .before .args .heads .now)) k);
+      sharing = c .before .before .before .before .before .before .before .before .before .before .mark-shared .ensures;
+      empty = λ k. rw (c .before .before .before .before .before .before .fill2 .ensures) (zeros (length (c .before .before .before .before .before .before .before .before .before .before .before .before .before .before .before .before .before .before .before .before .before .before .args .heads .now)) k);
       falling = pre .falling;
     }
-
-copy-requires : tie.Need-copy-requires
-copy-requires c κs = search needs
 
 same-length : tie.Need-same-length
 same-length c = search needs
@@ -54,11 +51,8 @@ same-length-3 c = search needs
 same-length-4 : tie.Need-same-length-4
 same-length-4 c = search needs
 
-same-length-5 : tie.Need-same-length-5
-same-length-5 c = search needs
-
 returns : tie.Need-returns
-returns c = (rw (c .before .before .copy .ensures) (c .before .before .before .before .before .before .before .before .before .before .before .split-round .ensures .0), c .before .before .before .before .before .before .before .before .before .before .before .split-round .ensures .1)
+returns c = c .before .before .before .before .before .before .split-round .ensures
 
 pub round-spec : {M : Type 1} → statement M
 round-spec =
@@ -68,10 +62,8 @@ round-spec =
     mark-shared-requires
     fill-requires-2
     split-round-requires
-    copy-requires
     same-length
     same-length-2
     same-length-3
     same-length-4
-    same-length-5
     returns)
