@@ -67,7 +67,7 @@ fn prune_round(entries: &[u16], letters: usize, marks: &mut [u32]) -> bool
     changed
 }
 
-// Clears each mark from which no endless path leads through marked rows. If the marked rows are more than the entries have,
+// Clears each mark from which no endless path leads through marked rows. If the rows are more than the entries have,
 // nothing changes.
 pub fn prune(entries: &[u16], letters: usize, marks: &mut [u32])
     ensures { λ r. ⌜ IfFits letters (now (entries .entry)) (now (marks .entry)) (now (marks .exit)) (Pruned letters (now (entries .entry)) (now (marks .entry)) (now (marks .exit))) ⌝ }
