@@ -15,14 +15,18 @@ use Rattle.scan.proofs.Starts.{token-starts-length, starts-next, starts-end}
 pub record Filled (line old new : List ℕ) (from count : ℕ) (inside : Bool) (i : ℕ) : Type 0 where
   pub within : i ≤ length line
   pub room : count + length (tokenStartsFrom inside i (drop i line)) ≤ 1024
+  pub counted : count + length (tokenStartsFrom inside i (drop i line)) ≡ from + length (tokens line)
   pub complete : sets new count (tokenStartsFrom inside i (drop i line)) ≡ sets old from (tokenStarts line)
 
 pub filled-start : (line old : List ℕ) (from : ℕ) → from + length (tokens line) ≤ 1024 → Filled line old old from from false 0
-filled-start line old from h = record { within = omega arith; room = let z = token-starts-length line in omega arith; complete = refl }
+filled-start line old from h = record { within = omega arith; room = let z = token-starts-length line in omega arith; counted = let z = token-starts-length line in omega arith; complete = refl }
 
 module _ {line old new : List ℕ} {from count : ℕ} {inside : Bool} {i : ℕ} (h : Filled line old new from count inside i) where
   pub filled-end : length line ≤ i → new ≡ sets old from (tokenStarts line)
   filled-end e = ap (sets new count) (sym (starts-end inside line i e)) ∙ h .complete
+
+  pub filled-count : length line ≤ i → count ≡ from + length (tokens line)
+  filled-count e = omega (arith, h .counted, ap length (starts-end inside line i e))
 
   module _ (l : i < length line) where
     abbrev later : List ℕ
@@ -42,6 +46,7 @@ module _ {line old new : List ℕ} {from count : ℕ} {inside : Bool} {i : ℕ} 
           record {
             within = omega arith;
             room = omega (arith, h .room, ap length (next e));
+            counted = omega (arith, h .counted, ap length (next e));
             complete = ap (λ n. sets (set new count i) n later) one ∙ sym (ap (sets new count) (next e)) ∙ h .complete;
           }
 
@@ -50,6 +55,7 @@ module _ {line old new : List ℕ} {from count : ℕ} {inside : Bool} {i : ℕ} 
         record {
           within = omega arith;
           room = omega (arith, h .room, ap length (next e));
+          counted = omega (arith, h .counted, ap length (next e));
           complete = sym (ap (sets new count) (next e)) ∙ h .complete;
         }
 

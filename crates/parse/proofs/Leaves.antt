@@ -124,7 +124,7 @@ tokens-add inside true b (t ∷ ts) = omega arith
 tokens-add inside false b ts = omega arith
 tokens-add between g b ts = omega arith
 
-tokens-length : (l : List ℕ) → length (tokens l) ≤ length l
+pub tokens-length : (l : List ℕ) → length (tokens l) ≤ length l
 unfolding tokens
 tokens-length [] = omega arith
 tokens-length (b ∷ l) = let z = tokens-length l in let w = tokens-add (classOf b) (startsInside l) b (tokens l) in omega arith

@@ -3,6 +3,7 @@ ghost use mathlib.Core.Path.{_≡_};
 ghost use mathlib.Core.Bool.{false, _||_};
 ghost use mathlib.Core.List.{[], _∷_};
 ghost use Prim.Native.Nat.{_+_, _≤_, _<_};
+ghost use lib.Dec.{leb};
 ghost use lib.IntN.{pos};
 ghost use lib.ListN.{length};
 ghost use lib.Seq.{sets};
@@ -527,10 +528,21 @@ fn sides(
     }
 }
 
-// Stores the places where the line's tokens begin, from the place `from` of the array on.
-fn store_token_starts(line: &[u8], token_starts: &mut [usize; 1024], from: usize)
+// Whether the line has no more tokens than there is room for. It has no more tokens than bytes, so that they are counted only where the
+// bytes are more.
+fn has_room(line: &[u8], room: usize) -> bool
+    ensures { λ r. ⌜ r ≡ leb (length (tokens (now (line .entry)))) room ⌝ }
+{
+    if line.len() <= room {
+        return true;
+    }
+    scan::token_count(line) <= room
+}
+
+// Stores the places where the line's tokens begin, from the place `from` of the array on, and gives the place after the last.
+fn store_token_starts(line: &[u8], token_starts: &mut [usize; 1024], from: usize) -> usize
     requires { ⌜ from + length (tokens (now line)) ≤ 1024 ⌝ }
-    ensures { λ r. ⌜ now («token_starts» .exit) ≡ sets (now («token_starts» .entry)) from (tokenStarts (now (line .entry))) ⌝ }
+    ensures { λ r. ⌜ (r ≡ from + length (tokens (now (line .entry)))) × (now («token_starts» .exit) ≡ sets (now («token_starts» .entry)) from (tokenStarts (now (line .entry)))) ⌝ }
 {
     let mut count = from;
     let mut inside = false;
@@ -544,6 +556,7 @@ fn store_token_starts(line: &[u8], token_starts: &mut [usize; 1024], from: usize
         inside = scan::is_inside(byte);
         i += 1;
     }
+    count
 }
 
 // Reads a constraint line, where `names` is line 1. The starts of its tokens and the nodes are stored from `from` on and its `first`s
@@ -568,12 +581,10 @@ pub fn parse_constraint(
     if 1024 < firsts {
         return unread(false);
     }
-    let count = scan::token_count(line);
-    if 1024 - from < count {
+    if !has_room(line, 1024 - from) {
         return unread(false);
     }
-    store_token_starts(line, token_starts, from);
-    let last = from + count;
+    let last = store_token_starts(line, token_starts, from);
     sides(
         names,
         line,

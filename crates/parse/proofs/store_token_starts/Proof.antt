@@ -5,7 +5,7 @@ use mathlib.Core.Logic.{⊎-elim}
 use native.Mathlib.Omega.{arith}
 use lib.ListN.{length}
 use borrow.Author.Needs.{needs}
-use Rattle.parse.proofs.Filled.{Filled, filled-start, filled-end, begins-room, filled-begins, filled-passes}
+use Rattle.parse.proofs.Filled.{Filled, filled-start, filled-end, filled-count, begins-room, filled-begins, filled-passes}
 use Rattle.parse.proofs.store_token_starts.Statement.{statement}
 use Rattle.parse.proofs.store_token_starts.Tie as tie
 
@@ -53,7 +53,7 @@ loop-again c =
     (c .before .if1 .came)
 
 returns : tie.Need-returns Inv-loop μ-loop
-returns c = filled-end (c .before .loop .inv) (c .loop-test .left)
+returns c = (filled-count (c .before .loop .inv) (c .loop-test .left), filled-end (c .before .loop .inv) (c .loop-test .left))
 
 pub store-token-starts-spec : {M : Type 1} → statement M
 store-token-starts-spec =
