@@ -14,7 +14,7 @@ use Rattle.text.specs.Token.{sameBytes}
 use Rattle.nodes.specs.Postfix.{node, postfix}
 use Rattle.sheet.specs.Vocabulary.{Prefix, firstPrefix, nextPrefix, notPrefix, prefixed, prefixOf}
 use Rattle.sheet.specs.Parser.{Parsed, parsed, Reader, expressionBy, partTo}
-use Rattle.sheet.proofs.BracketBytes.{BytePartner}
+use Rattle.sheet.specs.Brackets.{BytePartner}
 use Rattle.scan.specs.Place.{between, PartnerAt, noPartner, aPartner}
 use Rattle.scan.specs.Word.{codeOr255, prefixCode}
 use Rattle.scan.proofs.Tokens.{between-first}

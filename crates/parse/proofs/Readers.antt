@@ -18,7 +18,8 @@ use Rattle.sheet.specs.Vocabulary.{Infix, pointwise, followedBy, joined, operat
 use Rattle.sheet.specs.Parser.{Parsed, parsed, andThen, expect, Reader, operationFrom, afterPart, conditionalBy, expressionBy, noOpening, openingFrom, plainOpening, openingOf, partFrom, partTo}
 use Rattle.sheet.proofs.Vocabulary.{opening-prefix}
 use Rattle.sheet.proofs.Balance.{Partner, bracket-read, bracket-read-back, no-partner}
-use Rattle.sheet.proofs.BracketBytes.{BytePartner, byte-partner-tokens, byte-partner, partner-bytes}
+use Rattle.sheet.specs.Brackets.{BytePartner}
+use Rattle.sheet.proofs.BracketBytes.{byte-partner-tokens, byte-partner, partner-bytes}
 use Rattle.scan.specs.Place.{between}
 use Rattle.scan.specs.Word.{codeOr255, infixCode}
 use Rattle.scan.proofs.Tokens.{between-none, between-length}

@@ -11,7 +11,7 @@ use Rattle.text.specs.Bytes.{Token, isBracket, isInside, startsInside, extendFi
 use Rattle.text.specs.Token.{allBytes}
 use Rattle.text.proofs.Reflects.{and-left, and-right, and-both, T-reflects, to-true}
 use Rattle.text.proofs.Bytes.{HasClass, aBracket, anInside, aBetween, classOf-has, IsToken, bracketToken, run, tokens-member}
-use Rattle.sheet.proofs.BracketBytes.{BytePartner}
+use Rattle.sheet.specs.Brackets.{BytePartner}
 use Rattle.scan.specs.declared.Span.{Span}
 use Rattle.scan.specs.declared.LineSpan.{LineSpan}
 use Rattle.scan.specs.Place.{between, TokenAt, noToken, aToken, LineAt, noLine, endedLine, lastLine, PartnerAt, noPartner, aPartner}

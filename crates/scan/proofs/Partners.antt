@@ -12,7 +12,7 @@ use borrow.Author.Tests.{lt-ltb, le-ltb}
 use Rattle.text.proofs.Reflects.{Reflects, holds, fails, eqb-reflects}
 use Rattle.sheet.specs.Refusal.{occurrences}
 use Rattle.sheet.specs.Reading.{tooDeepFrom}
-use Rattle.sheet.proofs.BracketBytes.{BytePartner}
+use Rattle.sheet.specs.Brackets.{BytePartner}
 use Rattle.scan.specs.Place.{between, PartnerAt, noPartner, aPartner}
 use Rattle.scan.proofs.Tokens.{drop-at, drop-end, between-last}
 

@@ -7,7 +7,7 @@ use lib.Dec.{T}
 use lib.ListN.{length, take, drop, getD}
 use Rattle.text.specs.Bytes.{isBracket, isInside, startsInside, lines, tokens}
 use Rattle.text.specs.Token.{allBytes}
-use Rattle.sheet.proofs.BracketBytes.{BytePartner}
+use Rattle.sheet.specs.Brackets.{BytePartner}
 use Rattle.scan.specs.declared.Span.{Span}
 use Rattle.scan.specs.declared.LineSpan.{LineSpan}
 

@@ -16,6 +16,7 @@ use Rattle.text.proofs.Reflects.{Reflects, holds, fails, reflects-same, eqb-ref
 use Rattle.text.proofs.Token.{sameBytes-reflects}
 use Rattle.text.proofs.Bytes.{HasClass, aBracket, anInside, aBetween, classOf-has, inside-not-bracket, BeginsWithRun, begins, tokens-begin, tokens-bracket}
 use Rattle.sheet.specs.Refusal.{occurrences}
+use Rattle.sheet.specs.Brackets.{BytePartner}
 use Rattle.sheet.proofs.Balance.{isBracketToken, not-bracket, neither-counts, no-bracket-counts, opened, closed, Partner, partner-step, balanced-partner}
 
 -- The tokens have as many brackets as the bytes, of either kind.
@@ -81,13 +82,6 @@ pub tokens-same : (l : List ℕ) → SameBrackets (tokens l) l
 unfolding tokens
 tokens-same [] = record { opening = refl; closing = refl }
 tokens-same (b ∷ bs) = addToTokens-same (startsInside bs) b (tokens bs) (classOf-has b) (tokens-begin bs) (tokens-same bs)
-
--- Among the bytes after an opening bracket this place is its partner.
-pub record BytePartner (l : List ℕ) (place : ℕ) : Type 0 where
-  pub inside : place < length l
-  pub closing : getD l place 0 ≡ 41
-  pub equal : occurrences 40 (take place l) ≡ occurrences 41 (take place l)
-  pub before : (n : ℕ) → n ≤ place → occurrences 41 (take n l) ≤ occurrences 40 (take n l)
 
 module _ (l : List ℕ) (place : ℕ) (p : BytePartner l place) where
   -- It parts the tokens into those before it, itself and those after it.
