@@ -1,10 +1,11 @@
--- `evaluate::evaluate` meets its contract: the tests are those of the definition, and the rest is the recursion, whose number is read back (Decoding).
+-- `evaluate::evaluate` meets its contract: the tests are those of the definition, and the rest is a leaf or the recursion, whose number is read back (Decoding).
 use Prim.Native.Nat.{_+_}
 use mathlib.Core.Path.{_∙_}
+use mathlib.Core.Logic.{⊎-elim}
 use borrow.Author.Needs.{needs}
 use Rattle.nodes.specs.Evaluate.{Nodes, View, stored, view}
-use Rattle.evaluate.proofs.Decoding.{held-before}
-use Rattle.evaluate.proofs.Recursion.{no-kind, no-stored, no-start, no-place, root-value}
+use Rattle.evaluate.proofs.Decoding.{read-before}
+use Rattle.evaluate.proofs.Recursion.{part-operand, leaf-operand, no-kind, no-stored, no-start, no-place, root-value}
 use Rattle.evaluate.proofs.evaluate.Statement.{statement}
 use Rattle.evaluate.proofs.evaluate.Tie as tie
 
@@ -49,8 +50,14 @@ returns-4 c =
     let s = c .before .before .before .before .before .before .before .before in
     c .no-value4 .ensures ∙ no-place (nodes s) (seen s) (s .args .root) (s .args .place) (c .before .before .before .before .if1 .left) (c .before .before .before .if2 .left) (c .before .before .if3 .left) (c .before .before .before .before .before .places .ensures) (c .before .if4 .taken)
 
-add-value-before : tie.Need-add-value-before
-add-value-before c = search needs
+add-end : tie.Need-add-end
+add-end c = search needs
+
+is-leaf-requires : tie.Need-is-leaf-requires
+is-leaf-requires c κs = search needs
+
+leaf-requires : tie.Need-leaf-requires
+leaf-requires c κs = search needs
 
 value-before-requires : tie.Need-value-before-requires
 value-before-requires c κs = search needs
@@ -60,10 +67,13 @@ bounded-requires c κs = search needs
 
 returns-5 : tie.Need-returns-5
 returns-5 c =
-    let s = c .before .before .before .before .before .before .before .before .before in
+    let s = c .before .before .before .before .before .before .before .before .before .before in
     c .bounded .ensures
-    ∙ held-before (nodes s) (seen s) (s .args .root + 1) (s .args .place) (record { sfits = c .before .value-before .ok }) (c .before .value-before .ensures)
-    ∙ root-value (nodes s) (seen s) (s .args .root) (s .args .place) (c .before .before .before .before .before .if1 .left) (c .before .before .before .before .if2 .left) (c .before .before .before .if3 .left) (c .before .before .before .before .before .before .places .ensures) (c .before .before .if4 .left)
+    ∙ read-before (nodes s) (seen s) (s .args .root + 1) (s .args .place)
+    (⊎-elim
+    (λ w. leaf-operand (nodes s) (seen s) (s .args .place) (s .args .root + 1) (record { sfits = w .1 .ok }) (w .2) (c .before .before .is-leaf .ensures) (w .0 .taken) (w .1 .ensures))
+    (λ w. part-operand (nodes s) (seen s) (s .args .place) (s .args .root + 1) (record { sfits = w .1 .ok }) (w .2) (w .1 .ensures)) (c .before .if5 .came))
+    ∙ root-value (nodes s) (seen s) (s .args .root) (s .args .place) (c .before .before .before .before .before .before .if1 .left) (c .before .before .before .before .before .if2 .left) (c .before .before .before .before .if3 .left) (c .before .before .before .before .before .before .before .places .ensures) (c .before .before .before .if4 .left)
 
 pub evaluate-spec : {M : Type 1} → statement M
 evaluate-spec =
@@ -78,7 +88,9 @@ evaluate-spec =
     returns-3
     no-value-requires-4
     returns-4
-    add-value-before
+    add-end
+    is-leaf-requires
+    leaf-requires
     value-before-requires
     bounded-requires
     returns-5)
