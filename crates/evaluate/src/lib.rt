@@ -312,7 +312,7 @@ fn value_before(
     }
 }
 
-// The value of the node with the place `root` at a place of the window.
+// The value of the node with the place `root` at a place of the window. A side of a constraint that only reads a value needs no call of the recursion.
 pub fn evaluate(
     kinds: &[u8],
     values: &[i64],
@@ -339,22 +339,28 @@ pub fn evaluate(
     if count <= place {
         return no_value();
     }
-    let end = root + 1;
-    let found = if is_leaf(kinds, end) {
-        leaf(kinds, values, window, streams, end, place)
-    } else {
-        value_before(
-            kinds,
-            values,
-            starts,
-            window,
-            streams,
-            firsts,
-            whole,
-            count,
-            end,
-            place,
-        )
-    };
-    bounded(found)
+    let inner = shifted(kinds, count, root + 1, place);
+    let end = inner.end;
+    let at = inner.place;
+    if is_leaf(kinds, end) {
+        return bounded(leaf(kinds, values, window, streams, end, at));
+    }
+    let i = end - 1;
+    if kinds[i] == 2 {
+        if !whole {
+            return bounded(numbered(firsts, values[i]));
+        }
+    }
+    bounded(value_before(
+        kinds,
+        values,
+        starts,
+        window,
+        streams,
+        firsts,
+        whole,
+        count,
+        end,
+        at,
+    ))
 }
