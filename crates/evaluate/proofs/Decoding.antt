@@ -59,7 +59,7 @@ module _ (N : Nodes) (W : View) where
   pub held-before : (e p : ℕ) {r : ℤ} → SFits w64 r → r ≡ coded (valueBefore cutTowardZero N W e p) → bounded (held r) ≡ valueBefore cutTowardZero N W e p
   held-before e p f h = held-decoded (valueBefore cutTowardZero N W e p) f h (decodes-before e p)
 
-  -- So is the number that a call or a leaf gave.
+  -- The same from a number that is already known to be its own, whether a leaf or a call gave it.
   pub read-before : (e p : ℕ) {z : ℤ} → z ≡ coded (valueBefore cutTowardZero N W e p) → bounded z ≡ valueBefore cutTowardZero N W e p
   read-before e p h = ap bounded h ∙ decodes-before e p
 

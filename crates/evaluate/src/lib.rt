@@ -197,6 +197,7 @@ fn value_before(
                 numbered(firsts, values[i])
             }
         }
+        // A `next` is left only where the window has no next letter, and a `fby` only at place 0.
         3 => absent(),
         4 => {
             let a = value_before(

@@ -1,14 +1,14 @@
-use Prim.Native.Nat.{ℕ, _+_, _-_, _≤_, _<_}
+-- `evaluate::shifted` meets its contract: before each turn the part and the place that the loop has come to have the value that was asked for, and
+-- the loop ends where neither a `next` nor a `fby` can be followed.
+use Prim.Native.Nat.{ℕ}
 use native.Mathlib.Omega.{arith}
-use mathlib.Core.Path.{_≡_, refl, sym, ap, _∙_}
+use mathlib.Core.Path.{_≡_, sym, _∙_}
 use mathlib.Core.Logic.{⊎-elim}
 use borrow.Author.Needs.{needs}
-use Rattle.evaluate.specs.Shift.{Moved, Shifts}
+use Rattle.evaluate.specs.Shift.{Moved}
 use Rattle.evaluate.proofs.Shifting.{moved-none, moved-next, moved-fby}
 use Rattle.evaluate.proofs.shifted.Statement.{statement}
 use Rattle.evaluate.proofs.shifted.Tie as tie
-use Rattle.evaluate.proofs.shifted.Reads as reads
-use Rattle.evaluate.proofs.shifted.Lts as lts
 
 abbrev Inv-loop : tie.InvT-loop
 Inv-loop kinds count end place inner₀ at₀ inner at = Moved kinds count end place inner at
@@ -16,23 +16,18 @@ Inv-loop kinds count end place inner₀ at₀ inner at = Moved kinds count end p
 abbrev μ-loop : tie.MeasureT-loop
 μ-loop kinds count end place inner₀ at₀ inner at = inner
 
--- src/lib.rt:123:5
 loop-holds : tie.Need-loop-holds Inv-loop μ-loop
 loop-holds c = moved-none (c .pre .1)
 
--- src/lib.rt:124:26
 sub-kind : tie.Need-sub-kind Inv-loop μ-loop
 sub-kind c = search needs
 
--- src/lib.rt:124:20
 shared-slice-read-kind : tie.Need-shared-slice-read-kind Inv-loop μ-loop
 shared-slice-read-kind c = search needs
 
--- src/lib.rt:126:25
 add-if2 : tie.Need-add-if2 Inv-loop μ-loop
 add-if2 c = search needs
 
--- src/lib.rt:127:17
 returns : tie.Need-returns Inv-loop μ-loop
 returns c =
     record {
@@ -41,11 +36,9 @@ returns c =
       fby-first = λ h k. let y : _≡_ {A = ℕ} 3 6 = sym (c .before .if1 .taken) ∙ k in omega arith;
     }
 
--- src/lib.rt:132:13
 add-at : tie.Need-add-at Inv-loop μ-loop
 add-at c = search needs
 
--- src/lib.rt:135:17
 returns-2 : tie.Need-returns-2 Inv-loop μ-loop
 returns-2 c =
     record {
@@ -54,7 +47,6 @@ returns-2 c =
       fby-first = λ h k. absurd (c .if3 .taken k);
     }
 
--- src/lib.rt:141:17
 returns-3 : tie.Need-returns-3 Inv-loop μ-loop
 returns-3 c =
     record {
@@ -63,19 +55,15 @@ returns-3 c =
       fby-first = λ h k. c .if4 .taken;
     }
 
--- src/lib.rt:146:13
 sub-at : tie.Need-sub-at Inv-loop μ-loop
 sub-at c = search needs
 
--- src/lib.rt:148:9
 sub-inner : tie.Need-sub-inner Inv-loop μ-loop
 sub-inner c = search needs
 
--- src/lib.rt:123:5
 loop-less : tie.Need-loop-less Inv-loop μ-loop
 loop-less c = search needs
 
--- src/lib.rt:123:5
 loop-again : tie.Need-loop-again Inv-loop μ-loop
 loop-again c =
     ⊎-elim
@@ -83,7 +71,6 @@ loop-again c =
     (λ w. rw (w .3) (moved-fby (c .before .before .before .loop .inv) (c .before .before .loop-test .taken) (w .1 .left) (w .2 .left)))
     (c .if1 .came)
 
--- src/lib.rt:117:1
 returns-4 : tie.Need-returns-4 Inv-loop μ-loop
 returns-4 c =
     record {
