@@ -1,6 +1,6 @@
 -- Every value of a part can be read back from its number, since what each node answers is no value or within the bound.
 use Prim.Native.Nat.{ℕ, zero, suc}
-use mathlib.Core.Path.{_≡_, refl, sym, _∙_}
+use mathlib.Core.Path.{_≡_, refl, sym, _∙_, ap}
 use mathlib.Core.Bool.{Bool, true, false, cond, not, _&&_}
 use lib.Dec.{leb, ltb, eqb}
 use lib.IntN.{ℤ, pos, negsuc}
@@ -58,6 +58,10 @@ module _ (N : Nodes) (W : View) where
   -- The value of a part, read back from the number that a call gave.
   pub held-before : (e p : ℕ) {r : ℤ} → SFits w64 r → r ≡ coded (valueBefore cutTowardZero N W e p) → bounded (held r) ≡ valueBefore cutTowardZero N W e p
   held-before e p f h = held-decoded (valueBefore cutTowardZero N W e p) f h (decodes-before e p)
+
+  -- The same from a number that is already known to be its own, whether a leaf or a call gave it.
+  pub read-before : (e p : ℕ) {z : ℤ} → z ≡ coded (valueBefore cutTowardZero N W e p) → bounded z ≡ valueBefore cutTowardZero N W e p
+  read-before e p h = ap bounded h ∙ decodes-before e p
 
 -- ---- a number that was tested against the bound
 

@@ -1,3 +1,4 @@
 pub mod Leaves
 pub mod Decoding
 pub mod Recursion
+pub mod Shifting

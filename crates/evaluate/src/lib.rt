@@ -17,6 +17,7 @@ ghost use Rattle.nodes.specs.Evaluate.{stored, view, places, numbered, streamAt
 ghost use Rattle.arithmetic.specs.Coded.{coded};
 ghost use Rattle.evaluate.specs.Leaf.{isLeaf, leafValue};
 ghost use Rattle.evaluate.specs.Ready.{Ready};
+ghost use Rattle.evaluate.specs.Shift.{Shifts};
 
 // The private functions answer a value or no value as one number, which comes back in a register.
 
@@ -105,7 +106,55 @@ fn leaf(
     }
 }
 
-// The value of the part that ends before `end`, by recursion into its parts, which end earlier. `count` is the number of the window's letters.
+// A part, by where it ends, and a place at which its value is asked for.
+struct Part {
+    end: usize,
+    place: usize,
+}
+
+// The part and the place that `next`s and the right sides of `fby`s lead to, one after the other: the value is the same there. `count` is the
+// number of the window's letters.
+fn shifted(kinds: &[u8], count: usize, end: usize, place: usize) -> Part
+    requires { ⌜ (end ≤ length (now kinds)) × (place < count) ⌝ }
+    ensures { λ r. ⌜ Shifts (now (kinds .entry)) count end place (r .end) (r .place) ⌝ }
+{
+    let mut inner = end;
+    let mut at = place;
+    while inner != 0 {
+        let kind = kinds[inner - 1];
+        if kind == 3 {
+            if count <= at + 1 {
+                return Part {
+                    end: inner,
+                    place: at,
+                };
+            }
+            at += 1;
+        } else {
+            if kind != 6 {
+                return Part {
+                    end: inner,
+                    place: at,
+                };
+            }
+            if at == 0 {
+                return Part {
+                    end: inner,
+                    place: at,
+                };
+            }
+            at -= 1;
+        }
+        inner -= 1;
+    }
+    Part {
+        end: inner,
+        place: at,
+    }
+}
+
+// The value of the part that ends before `end`, by recursion into its parts, which end earlier. An operand, a condition or a branch that is a
+// leaf is read here, since a call takes longer than reading it.
 fn value_before(
     kinds: &[u8],
     values: &[i64],
@@ -121,10 +170,13 @@ fn value_before(
     requires { ⌜ Ready (stored (now kinds) (now values) (now starts)) (view (now window) streams (now firsts) whole) count end place ⌝ }
     ensures { λ r. ⌜ r ≡ coded (valueBefore cutTowardZero (stored (now (kinds .entry)) (now (values .entry)) (now (starts .entry))) (view (now (window .entry)) streams (now (firsts .entry)) whole) end place) ⌝ }
 {
-    if is_leaf(kinds, end) {
-        return leaf(kinds, values, window, streams, end, place);
+    let inner = shifted(kinds, count, end, place);
+    let last = inner.end;
+    let at = inner.place;
+    if is_leaf(kinds, last) {
+        return leaf(kinds, values, window, streams, last, at);
     }
-    let i = end - 1;
+    let i = last - 1;
     let kind = kinds[i];
     match kind {
         2 => {
@@ -145,40 +197,10 @@ fn value_before(
                 numbered(firsts, values[i])
             }
         }
-        3 => {
-            if place + 1 < count {
-                value_before(
-                    kinds,
-                    values,
-                    starts,
-                    window,
-                    streams,
-                    firsts,
-                    whole,
-                    count,
-                    i,
-                    place + 1,
-                )
-            } else {
-                absent()
-            }
-        }
-        4 => negated(value_before(
-            kinds,
-            values,
-            starts,
-            window,
-            streams,
-            firsts,
-            whole,
-            count,
-            i,
-            place,
-        )),
-        5 => {
-            let middle = left_end(starts, i);
-            let left = left_end(starts, middle);
-            let test = value_before(
+        // A `next` is left only where the window has no next letter, and a `fby` only at place 0.
+        3 => absent(),
+        4 => {
+            let a = value_before(
                 kinds,
                 values,
                 starts,
@@ -187,80 +209,16 @@ fn value_before(
                 firsts,
                 whole,
                 count,
-                left,
-                place,
+                i,
+                at,
             );
-            if in_bound(test) {
-                if truth(test) {
-                    value_before(
-                        kinds,
-                        values,
-                        starts,
-                        window,
-                        streams,
-                        firsts,
-                        whole,
-                        count,
-                        middle,
-                        place,
-                    )
-                } else {
-                    value_before(
-                        kinds,
-                        values,
-                        starts,
-                        window,
-                        streams,
-                        firsts,
-                        whole,
-                        count,
-                        i,
-                        place,
-                    )
-                }
-            } else {
-                absent()
-            }
+            negated(a)
         }
-        6 => {
-            if place == 0 {
-                if whole {
-                    let left = left_end(starts, i);
-                    value_before(
-                        kinds,
-                        values,
-                        starts,
-                        window,
-                        streams,
-                        firsts,
-                        whole,
-                        count,
-                        left,
-                        0,
-                    )
-                } else {
-                    0
-                }
-            } else {
-                value_before(
-                    kinds,
-                    values,
-                    starts,
-                    window,
-                    streams,
-                    firsts,
-                    whole,
-                    count,
-                    i,
-                    place - 1,
-                )
-            }
-        }
-        _ => {
-            let left = left_end(starts, i);
-            // An operand that is a leaf is read here, since a call takes longer than reading it.
-            let a = if is_leaf(kinds, left) {
-                leaf(kinds, values, window, streams, left, place)
+        5 => {
+            let middle = left_end(starts, i);
+            let left = left_end(starts, middle);
+            let test = if is_leaf(kinds, left) {
+                leaf(kinds, values, window, streams, left, at)
             } else {
                 value_before(
                     kinds,
@@ -272,11 +230,70 @@ fn value_before(
                     whole,
                     count,
                     left,
-                    place,
+                    at,
+                )
+            };
+            if in_bound(test) {
+                let branch = if truth(test) { middle } else { i };
+                if is_leaf(kinds, branch) {
+                    leaf(kinds, values, window, streams, branch, at)
+                } else {
+                    value_before(
+                        kinds,
+                        values,
+                        starts,
+                        window,
+                        streams,
+                        firsts,
+                        whole,
+                        count,
+                        branch,
+                        at,
+                    )
+                }
+            } else {
+                absent()
+            }
+        }
+        6 => {
+            if whole {
+                let left = left_end(starts, i);
+                value_before(
+                    kinds,
+                    values,
+                    starts,
+                    window,
+                    streams,
+                    firsts,
+                    whole,
+                    count,
+                    left,
+                    0,
+                )
+            } else {
+                0
+            }
+        }
+        _ => {
+            let left = left_end(starts, i);
+            let a = if is_leaf(kinds, left) {
+                leaf(kinds, values, window, streams, left, at)
+            } else {
+                value_before(
+                    kinds,
+                    values,
+                    starts,
+                    window,
+                    streams,
+                    firsts,
+                    whole,
+                    count,
+                    left,
+                    at,
                 )
             };
             let b = if is_leaf(kinds, i) {
-                leaf(kinds, values, window, streams, i, place)
+                leaf(kinds, values, window, streams, i, at)
             } else {
                 value_before(
                     kinds,
@@ -288,7 +305,7 @@ fn value_before(
                     whole,
                     count,
                     i,
-                    place,
+                    at,
                 )
             };
             apply_coded(kind, a, b)
@@ -296,7 +313,7 @@ fn value_before(
     }
 }
 
-// The value of the node with the place `root` at a place of the window.
+// The value of the node with the place `root` at a place of the window. A side of a constraint that only reads a value needs no call of the recursion.
 pub fn evaluate(
     kinds: &[u8],
     values: &[i64],
@@ -323,6 +340,18 @@ pub fn evaluate(
     if count <= place {
         return no_value();
     }
+    let inner = shifted(kinds, count, root + 1, place);
+    let end = inner.end;
+    let at = inner.place;
+    if is_leaf(kinds, end) {
+        return bounded(leaf(kinds, values, window, streams, end, at));
+    }
+    let i = end - 1;
+    if kinds[i] == 2 {
+        if !whole {
+            return bounded(numbered(firsts, values[i]));
+        }
+    }
     bounded(value_before(
         kinds,
         values,
@@ -332,7 +361,7 @@ pub fn evaluate(
         firsts,
         whole,
         count,
-        root + 1,
-        place,
+        end,
+        at,
     ))
 }

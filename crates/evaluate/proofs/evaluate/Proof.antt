@@ -1,10 +1,15 @@
--- `evaluate::evaluate` meets its contract: the tests are those of the definition, and the rest is the recursion, whose number is read back (Decoding).
-use Prim.Native.Nat.{_+_}
-use mathlib.Core.Path.{_∙_}
+-- `evaluate::evaluate` meets its contract: the tests are those of the definition, and the rest, behind the nodes that only change the place (Shifting), is a
+-- leaf, the stored value of a `first`, or the recursion, whose number is read back (Decoding).
+use native.Mathlib.Omega.{arith}
+use borrow.Author.Tests.{not-true}
+use mathlib.Core.Path.{refl, sym, _∙_, ap}
 use borrow.Author.Needs.{needs}
 use Rattle.nodes.specs.Evaluate.{Nodes, View, stored, view}
-use Rattle.evaluate.proofs.Decoding.{held-before}
-use Rattle.evaluate.proofs.Recursion.{no-kind, no-stored, no-start, no-place, root-value}
+use Rattle.arithmetic.specs.Coded.{coded}
+use Rattle.arithmetic.proofs.Coded.{held-result}
+use Rattle.evaluate.proofs.Leaves.{not-leaf}
+use Rattle.evaluate.proofs.Decoding.{held-before, read-before}
+use Rattle.evaluate.proofs.Recursion.{leaf-before, stored-arm, no-kind, no-stored, no-start, no-place, root-value}
 use Rattle.evaluate.proofs.evaluate.Statement.{statement}
 use Rattle.evaluate.proofs.evaluate.Tie as tie
 
@@ -49,21 +54,87 @@ returns-4 c =
     let s = c .before .before .before .before .before .before .before .before in
     c .no-value4 .ensures ∙ no-place (nodes s) (seen s) (s .args .root) (s .args .place) (c .before .before .before .before .if1 .left) (c .before .before .before .if2 .left) (c .before .before .if3 .left) (c .before .before .before .before .before .places .ensures) (c .before .if4 .taken)
 
-add-value-before : tie.Need-add-value-before
-add-value-before c = search needs
+add-shifted : tie.Need-add-shifted
+add-shifted c = search needs
 
-value-before-requires : tie.Need-value-before-requires
-value-before-requires c κs = search needs
+shifted-requires : tie.Need-shifted-requires
+shifted-requires c κs = search needs
+
+is-leaf-requires : tie.Need-is-leaf-requires
+is-leaf-requires c κs = search needs
+
+leaf-requires : tie.Need-leaf-requires
+leaf-requires c κs = search needs
 
 bounded-requires : tie.Need-bounded-requires
 bounded-requires c κs = search needs
 
 returns-5 : tie.Need-returns-5
 returns-5 c =
-    let s = c .before .before .before .before .before .before .before .before .before in
+    let s = c .before .before .before .before .before .before .before .before .before .before .before .before in
+    let m = c .before .before .before .before .shifted .ensures in
+    let d = c .before .before .before .before .shifted .result .end in
+    let q = c .before .before .before .before .shifted .result .place in
+    let root = m .moved .same-value (nodes s) (seen s) refl (c .before .before .before .before .before .before .before .before .before .places .ensures)
+    ∙ root-value (nodes s) (seen s) (s .args .root) (s .args .place) (c .before .before .before .before .before .before .before .before .if1 .left) (c .before .before .before .before .before .before .before .if2 .left) (c .before .before .before .before .before .before .if3 .left) (c .before .before .before .before .before .before .before .before .before .places .ensures) (c .before .before .before .before .before .if4 .left) in
     c .bounded .ensures
-    ∙ held-before (nodes s) (seen s) (s .args .root + 1) (s .args .place) (record { sfits = c .before .value-before .ok }) (c .before .value-before .ensures)
-    ∙ root-value (nodes s) (seen s) (s .args .root) (s .args .place) (c .before .before .before .before .before .if1 .left) (c .before .before .before .before .if2 .left) (c .before .before .before .if3 .left) (c .before .before .before .before .before .before .places .ensures) (c .before .before .if4 .left)
+    ∙ read-before (nodes s) (seen s) d q (held-result (record { sfits = c .before .leaf .ok }) (c .before .leaf .ensures ∙ ap coded (leaf-before (nodes s) (seen s) q d (sym (c .before .before .before .is-leaf .ensures) ∙ c .before .before .if5 .taken))))
+    ∙ root
+
+sub-i : tie.Need-sub-i
+sub-i c =
+    let s = c .before .before .before .before .before .before .before .before .before .before in
+    let m = c .before .before .shifted .ensures in
+    let d = c .before .before .shifted .result .end in
+    let q = c .before .before .shifted .result .place in
+    let n = not-leaf (s .args .kinds .now) d (sym (c .before .is-leaf .ensures) ∙ c .if5 .left) in
+    omega (arith, n .0)
+
+shared-slice-read-if6 : tie.Need-shared-slice-read-if6
+shared-slice-read-if6 c = search needs
+
+mul-numbered : tie.Need-mul-numbered
+mul-numbered c = search needs
+
+shared-slice-copy-out-numbered : tie.Need-shared-slice-copy-out-numbered
+shared-slice-copy-out-numbered c = search needs
+
+numbered-requires : tie.Need-numbered-requires
+numbered-requires c κs = search needs
+
+bounded-requires-2 : tie.Need-bounded-requires-2
+bounded-requires-2 c κs = search needs
+
+returns-6 : tie.Need-returns-6
+returns-6 c =
+    let s = c .before .before .before .before .before .before .before .before .before .before .before .before .before .before .before .before in
+    let m = c .before .before .before .before .before .before .before .before .shifted .ensures in
+    let d = c .before .before .before .before .before .before .before .before .shifted .result .end in
+    let q = c .before .before .before .before .before .before .before .before .shifted .result .place in
+    let n = not-leaf (s .args .kinds .now) d (sym (c .before .before .before .before .before .before .before .is-leaf .ensures) ∙ c .before .before .before .before .before .before .if5 .left) in
+    let root = m .moved .same-value (nodes s) (seen s) refl (c .before .before .before .before .before .before .before .before .before .before .before .before .before .places .ensures)
+    ∙ root-value (nodes s) (seen s) (s .args .root) (s .args .place) (c .before .before .before .before .before .before .before .before .before .before .before .before .if1 .left) (c .before .before .before .before .before .before .before .before .before .before .before .if2 .left) (c .before .before .before .before .before .before .before .before .before .before .if3 .left) (c .before .before .before .before .before .before .before .before .before .before .before .before .before .places .ensures) (c .before .before .before .before .before .before .before .before .before .if4 .left) in
+    c .bounded2 .ensures
+    ∙ read-before (nodes s) (seen s) d q (held-result (record { sfits = c .before .numbered .ok }) (c .before .numbered .ensures ∙ ap coded (stored-arm (nodes s) (seen s) q d (n .0) (record { sfits = omega (arith, c .before .before .numbered-arg .given) }) (c .before .before .before .before .if6 .taken) (not-true (s .args .whole) (c .before .before .before .if7 .taken)))))
+    ∙ root
+
+value-before-requires : tie.Need-value-before-requires
+value-before-requires c κs = search needs
+
+bounded-requires-3 : tie.Need-bounded-requires-3
+bounded-requires-3 c κs = search needs
+
+returns-7 : tie.Need-returns-7
+returns-7 c =
+    let s = c .before .before .before .before .before .before .before .before .before .before .before .before .before .before in
+    let m = c .before .before .before .before .before .before .shifted .ensures in
+    let d = c .before .before .before .before .before .before .shifted .result .end in
+    let q = c .before .before .before .before .before .before .shifted .result .place in
+    let root = m .moved .same-value (nodes s) (seen s) refl (c .before .before .before .before .before .before .before .before .before .before .before .places .ensures)
+    ∙ root-value (nodes s) (seen s) (s .args .root) (s .args .place) (c .before .before .before .before .before .before .before .before .before .before .if1 .left) (c .before .before .before .before .before .before .before .before .before .if2 .left) (c .before .before .before .before .before .before .before .before .if3 .left) (c .before .before .before .before .before .before .before .before .before .before .before .places .ensures) (c .before .before .before .before .before .before .before .if4 .left) in
+    c .bounded3 .ensures
+    ∙ held-before (nodes s) (seen s) d q (record { sfits = c .before .value-before .ok }) (c .before .value-before .ensures)
+    ∙ root
 
 pub evaluate-spec : {M : Type 1} → statement M
 evaluate-spec =
@@ -78,7 +149,19 @@ evaluate-spec =
     returns-3
     no-value-requires-4
     returns-4
-    add-value-before
-    value-before-requires
+    add-shifted
+    shifted-requires
+    is-leaf-requires
+    leaf-requires
     bounded-requires
-    returns-5)
+    returns-5
+    sub-i
+    shared-slice-read-if6
+    mul-numbered
+    shared-slice-copy-out-numbered
+    numbered-requires
+    bounded-requires-2
+    returns-6
+    value-before-requires
+    bounded-requires-3
+    returns-7)
