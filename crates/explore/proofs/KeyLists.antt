@@ -8,8 +8,8 @@ use native.Mathlib.Nat.{zero-mul, suc-mul}
 use mathlib.Core.Path.{_≡_, refl, sym, _∙_, ap, subst}
 use mathlib.Core.List.{List, [], _∷_, _++_, map, map-append, append-assoc, append-nil}
 use lib.IntN.{ℤ}
-use lib.ListN.{length, getD, take, drop, set, replicate, length-append, length-take, length-replicate, length-set, getD-replicate, List·getD-append, List·getD-eq-default, drop-of-length-le}
-use lib.Seq.{take-suc, take-suc-set, take-set-lt, set-split, getD-take, getD-append-add, length-take-le, take-all, paste, take-paste, length-paste}
+use lib.ListN.{length, getD, take, drop, set, replicate, length-append, length-take, length-replicate, length-set, getD-replicate, replicate-append-replicate, List·getD-append, List·getD-eq-default, drop-of-length-le}
+use lib.Seq.{take-suc, take-suc-set, take-set-lt, set-split, getD-take, getD-append-add, length-take-le, take-all, take-at, drop-at, drop-drop, take-append-add, paste, take-paste, drop-paste, length-paste}
 use Rattle.explore.specs.Chains.{keySize}
 use Rattle.explore.specs.Key.{padded, encoded, letterRoom, firstRoom}
 use Rattle.explore.specs.Step.{letterAt, windowOf}
@@ -51,6 +51,40 @@ getD-padded k l i h = getD-take k (l ++ replicate k 0) i 0 h ∙ by (decLt i (le
         ap (λ n. getD (l ++ replicate k 0) n 0) (sym e) ∙ getD-append-add l (replicate k 0) (i - length l) 0
         ∙ getD-replicate k (i - length l) 0 0 (omega arith) ∙ sym (List·getD-eq-default l 0 {n = i} (omega arith))
 
+abbrev zeros : ℕ → List ℕ
+zeros n = replicate n 0
+
+zeros-split : (n k : ℕ) → n ≤ k → zeros k ≡ zeros n ++ zeros (k - n)
+zeros-split n k h =
+    let e : n + (k - n) ≡ k = omega arith in
+    sym (replicate-append-replicate n (k - n) 0 ∙ ap zeros e)
+
+padded-zeros : (k : ℕ) (l : List ℕ) → length l ≤ k → padded k l ≡ l ++ zeros (k - length l)
+padded-zeros k l h =
+    let e : length l + (k - length l) ≡ k = omega arith in
+    let n = k - length l in
+    ap (λ j. take j (l ++ zeros k)) (sym e) ∙ take-append-add l (zeros k) n
+    ∙ ap (l ++_) (ap (take n) (zeros-split n k (omega arith)) ∙ take-at (zeros n) (zeros (k - n)) n (length-replicate n 0))
+
+-- Numbers that are put over zeros are padded by them.
+module _ (d : List ℕ) (at k m : ℕ) (l : List ℕ) (fits : length l ≤ k) (inside : k ≤ m) (behind : drop at d ≡ zeros m) where
+  zeros-from : (n : ℕ) → n ≤ m → drop (at + n) d ≡ zeros (m - n)
+  zeros-from n h =
+      sym (drop-drop n at d) ∙ ap (drop n) (behind ∙ zeros-split n m h) ∙ drop-at (zeros n) (zeros (m - n)) n (length-replicate n 0)
+
+  beyond : drop (at + length l) d ≡ zeros (k - length l) ++ drop (at + k) d
+  beyond =
+      let e : m - length l - (k - length l) ≡ m - k = omega arith in
+      zeros-from (length l) (omega arith) ∙ zeros-split (k - length l) (m - length l) (omega arith)
+      ∙ ap (zeros (k - length l) ++_) (ap zeros e ∙ sym (zeros-from k inside))
+
+  pub put-over-zeros : paste d at l (length l) ≡ paste d at (padded k l) k
+  put-over-zeros =
+      let pad = zeros (k - length l) in
+      (λ i. (take at d ++ take-all (length l) l (omega arith) i) ++ beyond i)
+      ∙ sym (append-assoc (take at d ++ l) pad (drop (at + k) d))
+      ∙ ap (_++ drop (at + k) d) (append-assoc (take at d) l pad ∙ ap (take at d ++_) (sym (take-all k (padded k l) (omega (arith, length-padded k l)) ∙ padded-zeros k l fits)))
+
 -- ---- a key
 
 module _ (key p q : List ℕ) (size marks : ℕ) (long : length key ≡ keySize) (lp : length p ≡ letterRoom) (lq : length q ≡ firstRoom) where
@@ -79,6 +113,20 @@ module _ (key p q : List ℕ) (size marks : ℕ) (long : length key ≡ keySize)
       set-split (set with-firsts 0 size) 15 marks (omega arith)
       ∙ (λ i. (take-set-lt 15 with-firsts 0 size (omega arith) ∙ ap (λ x. set x 0 size) front) i ++ (marks ∷ rest i))
       ∙ ap (size ∷_) (append-assoc p q (marks ∷ []))
+
+-- A key is written over zeros.
+pub key-over-zeros : (letters firsts : List ℕ) (size marks : ℕ) → length letters ≤ letterRoom → length firsts ≤ firstRoom
+    → set (set (paste (paste (zeros keySize) 1 letters (length letters)) 7 firsts (length firsts)) 0 size) 15 marks ≡ encoded size letters firsts marks
+unfolding encoded
+key-over-zeros letters firsts size marks few-letters few-firsts =
+    let blank = zeros keySize in
+    let p = padded letterRoom letters in
+    let q = padded firstRoom firsts in
+    let lp = length-padded letterRoom letters in
+    ap (λ (k : List ℕ). set (set k 0 size) 15 marks)
+    (ap (λ (k : List ℕ). paste k 7 firsts (length firsts)) (put-over-zeros blank 1 letterRoom 15 letters few-letters (omega arith) refl)
+    ∙ put-over-zeros (paste blank 1 p letterRoom) 7 firstRoom 9 firsts few-firsts (omega arith) (drop-paste blank 1 p letterRoom (omega arith) (omega arith)))
+    ∙ key-written blank p q size marks refl lp (length-padded firstRoom firsts)
 
 -- ---- the letters of a window
 

@@ -24,6 +24,10 @@ last-letters recent width l e =
     let d : length recent - l ≡ length recent - width = omega arith in
     take-all (length recent - (length recent - l)) (drop (length recent - l) recent) (omega (arith, length-drop (length recent - l) recent)) ∙ ap (λ n. drop n recent) d
 
+pub last-letters-few : (recent : List ℕ) (width l : ℕ) → l ≡ min (length recent) width
+    → length (take (length recent - (length recent - l)) (drop (length recent - l) recent)) ≤ width
+last-letters-few recent width l e = omega (arith, ap length (last-letters recent width l e), length-drop (length recent - width) recent)
+
 module _ (K : Store) (key : List ℕ) (a : ℕ) (k : IsKey K key) (room : K .width ≤ letterRoom) where
   abbrev held : ℕ
   held = min (sizeIn key) (K .width)

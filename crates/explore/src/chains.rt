@@ -6,19 +6,20 @@ ghost use lib.Seq.{paste};
 ghost use Rattle.marks.specs.Answers.{Says};
 ghost use Rattle.explore.specs.Chains.{keySize, mixOf, hashFrom, bucketOf, Tables, Finds, Inserts};
 
-// Whether two keys are equal.
+// Whether two keys are equal. Every place is compared, also after a difference: a loop without an early exit is compiled to vector instructions.
 fn same(a: &[u32], b: &[u32]) -> bool
     requires { ⌜ length (now a) ≡ length (now b) ⌝ }
     ensures { λ r. ⌜ Says r (now (a .entry) ≡ now (b .entry)) ⌝ }
 {
+    let mut different = 0u32;
     let mut i = 0;
     while i < a.len() {
         if a[i] != b[i] {
-            return false;
+            different = 1;
         }
         i += 1;
     }
-    true
+    different == 0
 }
 
 fn mix(h: u64, x: u32) -> u64

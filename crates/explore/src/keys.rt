@@ -1,4 +1,5 @@
 // Reading a key, and writing the key of a record with one more letter.
+use crate::chains::clear;
 use crate::chains::put;
 use crate::judge::value_of;
 use arithmetic::in_bound;
@@ -10,7 +11,7 @@ ghost use lib.Seq.{paste};
 ghost use Rattle.meaning.specs.Arithmetic.{cutTowardZero};
 ghost use Rattle.nodes.specs.Evaluate.{stored, view, nodeValue};
 ghost use Rattle.explore.specs.Chains.{keySize};
-ghost use Rattle.explore.specs.Key.{padded, encoded, raised, lowered};
+ghost use Rattle.explore.specs.Key.{letterRoom, firstRoom, encoded, raised, lowered};
 ghost use Rattle.explore.specs.Step.{letterAt, windowOf};
 
 // The smaller of two numbers.
@@ -36,32 +37,14 @@ fn lowered(x: u32) -> i64
     x as i64 - 1000000000
 }
 
-// The number at a place, or 0 beyond the end.
-fn number_at(from: &[u32], i: usize) -> u32
-    ensures { λ r. ⌜ r ≡ getD (now (from .entry)) i 0 ⌝ }
-{
-    if i < from.len() { from[i] } else { 0 }
-}
-
-// Copies numbers into a part of `room` places, and zeros after them.
-fn put_padded(to: &mut [u32], at: usize, from: &[u32], room: usize)
-    requires { ⌜ at + room ≤ length (now to) ⌝ }
-    ensures { λ r. ⌜ now (to .exit) ≡ paste (now (to .entry)) at (padded room (now (from .entry))) room ⌝ }
-{
-    let mut i = 0;
-    while i < room {
-        to[at + i] = number_at(from, i);
-        i += 1;
-    }
-}
-
-// Writes a key.
+// Writes a key: zeros everywhere, and over them its parts.
 pub fn write_key(key: &mut [u32], size: u32, letters: &[u32], firsts: &[u32], marks: u32)
-    requires { ⌜ length (now key) ≡ keySize ⌝ }
+    requires { ⌜ (length (now key) ≡ keySize) × (length (now letters) ≤ letterRoom) × (length (now firsts) ≤ firstRoom) ⌝ }
     ensures { λ r. ⌜ now (key .exit) ≡ encoded size (now (letters .entry)) (now (firsts .entry)) marks ⌝ }
 {
-    put_padded(key, 1, letters, 6);
-    put_padded(key, 7, firsts, 8);
+    clear(key);
+    put(key, 1, letters);
+    put(key, 7, firsts);
     key[0] = size;
     key[15] = marks;
 }

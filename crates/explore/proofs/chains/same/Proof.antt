@@ -1,26 +1,38 @@
--- `chains::same` meets its contract: before each turn the keys agree at the places passed.
+-- `chains::same` meets its contract: before each turn `different` is 0 just where the keys agree at the places passed.
 use Prim.Native.Nat.{ℕ, _≤_, _<_, _-_, _*_, _+_}
 use mathlib.Core.Path.{_≡_, refl, sym, ap, _∙_}
 use mathlib.Core.List.{List}
 use native.Mathlib.Omega.{arith}
-use native.Mathlib.Numerals.{add-one}
+use native.Mathlib.Decide.{ℕ-discrete}
+use mathlib.Core.Logic.{⊎-elim}
+use lib.Dec.{eqb}
+use borrow.Author.Tests.{ne-eqb}
 use borrow.Author.Count.{below-more, below-none}
-use lib.ListN.{length, getD, take, drop, set, length-set, drop-of-length-le}
-use lib.Seq.{ext-getD, drop-cons, paste, paste-zero, paste-suc}
+use lib.ListN.{length, getD}
+use lib.Seq.{ext-getD}
 use borrow.Author.Needs.{needs}
+use Rattle.marks.specs.Answers.{Says}
 use Rattle.explore.proofs.chains.same.Statement.{statement}
 use Rattle.explore.proofs.chains.same.Tie as tie
 use Rattle.explore.proofs.chains.same.Reads as reads
 use Rattle.explore.proofs.chains.same.Lts as lts
 
+-- A property that holds just where the number is 0 is answered by the test for 0.
+answered : (n : ℕ) {P : Type 0} → (n ≡ 0 → P) → (P → n ≡ 0) → Says (eqb n 0) P
+answered n {P} to from = by (ℕ-discrete n 0)
+  where
+    by : Dec (n ≡ 0) → Says (eqb n 0) P
+    by (yes e) = rw e (to e)
+    by (no e) = rw (ne-eqb n 0 e) (λ p. e (from p))
+
 abbrev Inv-loop : tie.InvT-loop
-Inv-loop a b i₀ i = (i ≤ length a) × ((k : ℕ) → k < i → getD a k 0 ≡ getD b k 0)
+Inv-loop a b different₀ i₀ different i = (i ≤ length a) × (different ≡ 0 → (k : ℕ) → k < i → getD a k 0 ≡ getD b k 0) × (a ≡ b → different ≡ 0)
 
 abbrev μ-loop : tie.MeasureT-loop
-μ-loop a b i₀ i = length a - i
+μ-loop a b different₀ i₀ different i = length a - i
 
 loop-holds : tie.Need-loop-holds Inv-loop μ-loop
-loop-holds c = search needs
+loop-holds c = (search needs, λ e. below-none _, λ e. refl)
 
 mul-if1 : tie.Need-mul-if1 Inv-loop μ-loop
 mul-if1 c = search needs
@@ -34,9 +46,6 @@ mul-if1-2 c = search needs
 shared-slice-read-if1-2 : tie.Need-shared-slice-read-if1-2 Inv-loop μ-loop
 shared-slice-read-if1-2 c = search needs
 
-returns : tie.Need-returns Inv-loop μ-loop
-returns c = λ e. c .if1 .taken (ap (λ (l : List ℕ). getD l (c .before .before .before .before .loop .i) 0) e)
-
 add-i : tie.Need-add-i Inv-loop μ-loop
 add-i c = search needs
 
@@ -44,13 +53,19 @@ loop-less : tie.Need-loop-less Inv-loop μ-loop
 loop-less c = search needs
 
 loop-again : tie.Need-loop-again Inv-loop μ-loop
-loop-again c = (
-  search needs,
-  below-more (λ (k : ℕ). getD (c .before .before .before .before .before .args .a .now) k 0 ≡ getD (c .before .before .before .before .before .args .b .now) k 0) _ (c .before .before .before .before .loop .inv .1) (c .if1 .left),
-)
+loop-again c =
+    let at-loop = c .before .before .before .before in
+    let args = at-loop .before .args in (
+      search needs,
+      λ e. ⊎-elim (λ w. absurd (omega (arith, e, w .1)))
+          (λ w. below-more (λ (k : ℕ). getD (args .a .now) k 0 ≡ getD (args .b .now) k 0) _ (at-loop .loop .inv .1 (sym (w .1) ∙ e)) (w .0 .left)) (c .if1 .came),
+      λ e. ⊎-elim (λ w. absurd (w .0 .taken (ap (λ (l : List ℕ). getD l (at-loop .loop .i) 0) e))) (λ w. w .1 ∙ at-loop .loop .inv .2 e) (c .if1 .came),
+    )
 
-returns-2 : tie.Need-returns-2 Inv-loop μ-loop
-returns-2 c = ext-getD 0 _ _ (c .before .before .pre) (λ k h. c .before .loop .inv .1 k (omega arith))
+returns : tie.Need-returns Inv-loop μ-loop
+returns c =
+    let found = c .before .loop in
+    answered (found .different) (λ e. ext-getD 0 _ _ (c .before .before .pre) (λ k h. found .inv .1 e k (omega arith))) (found .inv .2)
 
 pub same-spec : {M : Type 1} → statement M
 same-spec =
@@ -63,8 +78,7 @@ same-spec =
     shared-slice-read-if1
     mul-if1-2
     shared-slice-read-if1-2
-    returns
     add-i
     loop-less
     loop-again
-    returns-2)
+    returns)

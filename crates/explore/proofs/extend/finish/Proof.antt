@@ -2,11 +2,11 @@
 use Prim.Native.Nat.{ℕ}
 use mathlib.Core.Path.{_≡_, _∙_, sym, ap}
 use native.Mathlib.Omega.{arith}
-use lib.ListN.{length}
+use lib.ListN.{length, length-take}
 use lib.Seq.{length-take-le}
 use borrow.Author.Tests.{not-true, not-false}
 use Rattle.explore.specs.Key.{encoded}
-use Rattle.explore.proofs.StepLaws.{last-letters}
+use Rattle.explore.proofs.StepLaws.{last-letters, last-letters-few}
 use borrow.Author.Needs.{needs}
 use Rattle.explore.proofs.extend.finish.Statement.{statement}
 use Rattle.explore.proofs.extend.finish.Tie as tie
@@ -60,7 +60,14 @@ slice-aggregate-write-key c =
     sym (length-take-le (after .result) (after .last .1 .1 .1 .1 .1 .1 .1 .1 .1 .1 .1 .0) (omega (arith, after .ensures .1, after .kept .1 .1 .1 .1 .1 .1 .1 .1 .1 .1 .1 .0)))
 
 write-key-requires : tie.Need-write-key-requires
-write-key-requires c κs = c .before .before .before .before .before .before .before .before .before .before .before .before .before .before .before .before .before .before .before .pre .1 .3
+write-key-requires c κs =
+    let start = c .before .before .before .before .before .before .before .before .before .before .before .before .before .before .before .before .before .before .before in
+    let after = c .before .before .before .before .before .firsts-after in
+    let shorter = c .before .before .before .least in (
+      start .pre .1 .3,
+      omega (arith, last-letters-few (start .args .recent .now) (start .args .width) (shorter .result) (shorter .ensures), start .pre .0 .few-letters),
+      omega (arith, length-take (after .result) (after .last .1 .1 .1 .1 .1 .1 .1 .1 .1 .1 .1 .0), after .ensures .1),
+    )
 
 same-length : tie.Need-same-length
 same-length c = search needs
