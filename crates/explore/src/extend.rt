@@ -4,10 +4,10 @@ use crate::judge::Judged;
 use crate::judge::judge;
 use crate::keys::add_letter;
 use crate::keys::fill_window;
-use crate::keys::least;
 use crate::keys::lower_all;
 use crate::keys::raise_all;
 use crate::keys::write_key;
+use arithmetic::fewer;
 ghost use mathlib.Core.Path.{_≡_};
 ghost use mathlib.Core.Bool.{cond};
 ghost use mathlib.Core.List.{[], map};
@@ -157,7 +157,7 @@ fn finish(
         held_firsts,
         &mut numbers,
     );
-    let shift = count - least(count, width);
+    let shift = count - fewer(count, width);
     let told = judged.marks;
     write_key(
         fresh,
@@ -185,7 +185,7 @@ pub fn prepare(
     requires { ⌜ (length (now recent) ≡ 7) × (length (now window) ≡ 56) × (length (now firsts) ≡ 8) ⌝ }
     ensures { λ r. ⌜ Prepared (now («letter_values» .entry)) streams width count (now (key .entry)) (now (recent .exit)) (now (window .exit)) (now (firsts .exit)) ⌝ }
 {
-    let held = least(key[0] as usize, width);
+    let held = fewer(key[0] as usize, width);
     let end = held + 1;
     put(recent, 0, &key[1..end]);
     fill_window(window, letter_values, streams, &key[1..end]);
@@ -223,7 +223,7 @@ pub fn extend(
     ensures { λ r. ⌜ Prepared (now («letter_values» .entry)) streams width (length (now («first_nodes» .entry))) (now (key .entry)) (now (recent .exit)) (now (window .exit)) (now (firsts .entry)) ⌝ }
 {
     let size = key[0] as usize;
-    let held = least(size, width);
+    let held = fewer(size, width);
     add_letter(recent, window, letter_values, streams, held, letter);
     let count = held + 1;
     let end = count * streams;

@@ -5,7 +5,7 @@ use crate::judge::value_of;
 use arithmetic::in_bound;
 ghost use mathlib.Core.Path.{_≡_};
 ghost use mathlib.Core.List.{[], _∷_, _++_, map};
-ghost use Prim.Native.Nat.{ℕ, _+_, _*_, _<_, _≤_, min};
+ghost use Prim.Native.Nat.{ℕ, _+_, _*_, _<_, _≤_};
 ghost use lib.ListN.{length, getD, take, drop};
 ghost use lib.Seq.{paste};
 ghost use Rattle.meaning.specs.Arithmetic.{cutTowardZero};
@@ -13,13 +13,6 @@ ghost use Rattle.nodes.specs.Evaluate.{stored, view, nodeValue};
 ghost use Rattle.explore.specs.Chains.{keySize};
 ghost use Rattle.explore.specs.Key.{letterRoom, firstRoom, encoded, raised, lowered};
 ghost use Rattle.explore.specs.Step.{letterAt, windowOf};
-
-// The smaller of two numbers.
-pub fn least(a: usize, b: usize) -> usize
-    ensures { λ r. ⌜ r ≡ min a b ⌝ }
-{
-    if a < b { a } else { b }
-}
 
 // A value within the magnitude bound as a natural number, and back.
 fn raised(z: i64) -> u32

@@ -27,10 +27,10 @@ store c =
 
 -- how many letters the key holds
 abbrev held : tie.After-add-letter → ℕ
-held c = c .before .before .before .least .result
+held c = c .before .before .before .fewer .result
 
 few : (c : tie.After-add-letter) → held c ≤ letterRoom
-few c = omega (arith, c .before .before .before .least .ensures, start-of c .pre .0 .few-letters)
+few c = omega (arith, c .before .before .before .fewer .ensures, start-of c .pre .0 .few-letters)
 
 window-fits : (c : tie.After-add-letter) → (held c + 1) * start-of c .args .streams ≤ length (c .add-letter .last .1 .0)
 window-fits c = omega (arith, one-more (held c) (start-of c .args .streams), window-room {n = held c} (start-of c .pre .0 .few-streams) (few c), c .add-letter .kept .1 .0, start-of c .pre .1 .1 .1 .0 .window-long)
@@ -43,7 +43,7 @@ letters-long : (c : tie.After-add-letter) → length (letters c) ≡ held c + 1
 letters-long c = length-take-le (held c + 1) (c .add-letter .last .0) (omega (arith, few c, c .add-letter .kept .0, start-of c .pre .1 .1 .1 .0 .recent-long))
 
 letters-are : (c : tie.After-add-letter) → letters c ≡ lettersAfter (store (start-of c)) (start-of c .args .key .now) (start-of c .args .letter)
-letters-are c = letters-after (start-of c .pre .1 .1 .1 .0) (held c) (start-of c .args .letter) (c .before .before .before .least .ensures) (c .add-letter .last .0) (c .add-letter .ensures .0)
+letters-are c = letters-after (start-of c .pre .1 .1 .1 .0) (held c) (start-of c .args .letter) (c .before .before .before .fewer .ensures) (c .add-letter .last .0) (c .add-letter .ensures .0)
 
 -- the numbers of the firsts that the key holds
 firsts-part : (c : tie.Start) → take (7 + length (c .args .first-nodes .now) - 7) (drop 7 (c .args .key .now)) ≡ firstsIn (length (c .args .first-nodes .now)) (c .args .key .now)
@@ -60,16 +60,16 @@ shared-slice-read-size c = search needs
 cast-size : tie.Need-cast-size
 cast-size c = omega (arith, c .shared-slice-known8 .given 0)
 
-least-requires : tie.Need-least-requires
-least-requires c κs = search needs
+fewer-requires : tie.Need-fewer-requires
+fewer-requires c κs = search needs
 
 add-letter-requires : tie.Need-add-letter-requires
 add-letter-requires c κs =
     let start = c .before .before .before .before .before .before .before .before .before .before .before .before .before in
     let prepared = start .pre .1 .1 .1 .0 in
-    let least = c .before .before .least in
-    let some : least .result ≤ letterRoom = omega (arith, least .ensures, start .pre .0 .few-letters) in
-    (omega (arith, some, prepared .recent-long), omega (arith, window-room {n = least .result} (start .pre .0 .few-streams) some, prepared .window-long), start .pre .1 .1 .0 .inside)
+    let fewer = c .before .before .fewer in
+    let some : fewer .result ≤ letterRoom = omega (arith, fewer .ensures, start .pre .0 .few-letters) in
+    (omega (arith, some, prepared .recent-long), omega (arith, window-room {n = fewer .result} (start .pre .0 .few-streams) some, prepared .window-long), start .pre .1 .1 .0 .inside)
 
 add-count : tie.Need-add-count
 add-count c = search needs
@@ -131,7 +131,7 @@ returns c =
     let at = c .before .before .before .before .before .before .before .before .before .before .before .before in
     let start = start-of at in
     let prepared = start .pre .1 .1 .1 .0 in
-    let is = at .before .before .before .least .ensures in
+    let is = at .before .before .before .fewer .ensures in
     let put = at .add-letter in (
       finished-extended _ _ _ _ _ _ _ (start .args .letter-values .now) _ _ _ cutTowardZero (start .args .key .now) (start .args .letter)
           (values-after prepared (held at) (start .args .letter) is (put .last .1 .0) (put .ensures .1))
@@ -148,7 +148,7 @@ extend-spec =
     (tie.spec
     shared-slice-read-size
     cast-size
-    least-requires
+    fewer-requires
     add-letter-requires
     add-count
     mul-end

@@ -30,8 +30,8 @@ slice-aggregate-firsts-after c = search needs
 firsts-after-requires : tie.Need-firsts-after-requires
 firsts-after-requires c κs = search needs
 
-least-requires : tie.Need-least-requires
-least-requires c κs = search needs
+fewer-requires : tie.Need-fewer-requires
+fewer-requires c κs = search needs
 
 sub-shift : tie.Need-sub-shift
 sub-shift c = search needs
@@ -63,7 +63,7 @@ write-key-requires : tie.Need-write-key-requires
 write-key-requires c κs =
     let start = c .before .before .before .before .before .before .before .before .before .before .before .before .before .before .before .before .before .before .before in
     let after = c .before .before .before .before .before .firsts-after in
-    let shorter = c .before .before .before .least in (
+    let shorter = c .before .before .before .fewer in (
       start .pre .1 .3,
       omega (arith, last-letters-few (start .args .recent .now) (start .args .width) (shorter .result) (shorter .ensures), start .pre .0 .few-letters),
       omega (arith, length-take (after .result) (after .last .1 .1 .1 .1 .1 .1 .1 .1 .1 .1 .1 .0), after .ensures .1),
@@ -80,7 +80,7 @@ returns-2 c =
       answer = sym (not-false _ (c .before .before .before .before .before .before .before .before .before .before .if1 .left)) ∙ ap (λ j. j .ok) (judged .ensures);
       new = λ e.
           c .before .before .write-key .ensures
-          ∙ (λ i. encoded (length (args .recent .now)) (last-letters (args .recent .now) (args .width) (c .before .before .before .before .before .before .least .result) (c .before .before .before .before .before .before .least .ensures) i) (c .before .before .before .before .before .before .before .before .firsts-after .ensures .0 i) (judged .ensures i .marks));
+          ∙ (λ i. encoded (length (args .recent .now)) (last-letters (args .recent .now) (args .width) (c .before .before .before .before .before .before .fewer .result) (c .before .before .before .before .before .before .fewer .ensures) i) (c .before .before .before .before .before .before .before .before .firsts-after .ensures .0 i) (judged .ensures i .marks));
     }
 
 pub finish-spec : {M : Type 1} → statement M
@@ -92,7 +92,7 @@ finish-spec =
     returns
     slice-aggregate-firsts-after
     firsts-after-requires
-    least-requires
+    fewer-requires
     sub-shift
     cast-write-key
     mul-write-key

@@ -6,14 +6,14 @@ use borrow.Author.Needs.{needs}
 use Rattle.explore.proofs.extend.prepare.Statement.{statement}
 use Rattle.explore.proofs.extend.prepare.Tie as tie
 
-shared-slice-read-least : tie.Need-shared-slice-read-least
-shared-slice-read-least c = search needs
+shared-slice-read-fewer : tie.Need-shared-slice-read-fewer
+shared-slice-read-fewer c = search needs
 
-cast-least : tie.Need-cast-least
-cast-least c = omega (arith, c .shared-slice-known2 .given 0)
+cast-fewer : tie.Need-cast-fewer
+cast-fewer c = omega (arith, c .shared-slice-known2 .given 0)
 
-least-requires : tie.Need-least-requires
-least-requires c κs = search needs
+fewer-requires : tie.Need-fewer-requires
+fewer-requires c κs = search needs
 
 add-end : tie.Need-add-end
 add-end c = search needs
@@ -44,9 +44,9 @@ fill-window-requires c κs =
     let at = c .before .before .before .before .before .before .before in
     let start = at .before .before .before .before in
     let args = start .args in
-    let long = letters-part-long (args .letter-values .now) (args .streams) (args .width) (args .count) (at .least .result) (args .key .now) (args .recent .now) (at .least .ensures) (start .pre .1 .0) (start .pre .0 .0) (start .pre .0 .2) in (
-      rw long (omega (arith, window-room {n = at .least .result} (start .pre .0 .1) (omega (arith, at .least .ensures, start .pre .0 .0)), start .pre .1 .1 .1)),
-      part-values (args .letter-values .now) (args .streams) (args .width) (args .count) (at .least .result) (args .key .now) (args .recent .now) (at .least .ensures) (start .pre .1 .0) (start .pre .0 .0) (start .pre .0 .2),
+    let long = letters-part-long (args .letter-values .now) (args .streams) (args .width) (args .count) (at .fewer .result) (args .key .now) (args .recent .now) (at .fewer .ensures) (start .pre .1 .0) (start .pre .0 .0) (start .pre .0 .2) in (
+      rw long (omega (arith, window-room {n = at .fewer .result} (start .pre .0 .1) (omega (arith, at .fewer .ensures, start .pre .0 .0)), start .pre .1 .1 .1)),
+      part-values (args .letter-values .now) (args .streams) (args .width) (args .count) (at .fewer .result) (args .key .now) (args .recent .now) (at .fewer .ensures) (start .pre .1 .0) (start .pre .0 .0) (start .pre .0 .2),
     )
 
 add-firsts-end : tie.Need-add-firsts-end
@@ -81,16 +81,16 @@ returns c =
     let copy = c .before .before .before .before .before .before .before .before .before .before .put in
     let fill = c .before .before .before .before .before .fill-window in
     let lowers = c .before .lower-all in
-    prepared (args .letter-values .now) (args .streams) (args .width) (args .count) (at .least .result) (args .key .now) (args .recent .now) (at .least .ensures) (start .pre .1 .0) (start .pre .0 .0) (start .pre .0 .2)
+    prepared (args .letter-values .now) (args .streams) (args .width) (args .count) (at .fewer .result) (args .key .now) (args .recent .now) (at .fewer .ensures) (start .pre .1 .0) (start .pre .0 .0) (start .pre .0 .2)
     (start .pre .1 .1 .0) (copy .ensures) (fill .ensures) (lowers .ensures) (copy .kept .0 ∙ start .pre .1 .1 .0) (fill .kept .0 ∙ start .pre .1 .1 .1) (lowers .kept .0 ∙ start .pre .1 .1 .2)
 
 pub prepare-spec : {M : Type 1} → statement M
 prepare-spec =
     tie.close
     (tie.spec
-    shared-slice-read-least
-    cast-least
-    least-requires
+    shared-slice-read-fewer
+    cast-fewer
+    fewer-requires
     add-end
     sub-put
     part-put-start
