@@ -122,11 +122,11 @@ key-over-zeros letters firsts size marks few-letters few-firsts =
     let blank = zeros keySize in
     let p = padded letterRoom letters in
     let q = padded firstRoom firsts in
-    let lp = length-padded letterRoom letters in
+    let letters-padded = length-padded letterRoom letters in
     ap (λ (k : List ℕ). set (set k 0 size) 15 marks)
     (ap (λ (k : List ℕ). paste k 7 firsts (length firsts)) (put-over-zeros blank 1 letterRoom 15 letters few-letters (omega arith) refl)
     ∙ put-over-zeros (paste blank 1 p letterRoom) 7 firstRoom 9 firsts few-firsts (omega arith) (drop-paste blank 1 p letterRoom (omega arith) (omega arith)))
-    ∙ key-written blank p q size marks refl lp (length-padded firstRoom firsts)
+    ∙ key-written blank p q size marks refl letters-padded (length-padded firstRoom firsts)
 
 -- ---- the letters of a window
 

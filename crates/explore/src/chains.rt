@@ -93,7 +93,7 @@ pub fn insert(heads: &mut [u32], links: &mut [u32], keys: &mut [u32], n: usize, 
     heads[h] = (n + 1) as u32;
 }
 
-// Empties every chain.
+// Sets every number to 0; so all chains are empty.
 pub fn clear(heads: &mut [u32])
     ensures { λ r. ⌜ now (heads .exit) ≡ replicate (length (now (heads .entry))) 0 ⌝ }
 {

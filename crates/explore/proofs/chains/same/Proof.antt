@@ -1,5 +1,5 @@
--- `chains::same` meets its contract: before each turn `different` is 0 just where the keys agree at the places passed.
-use Prim.Native.Nat.{ℕ, _≤_, _<_, _-_, _*_, _+_}
+-- `chains::same` meets its contract: before each turn, if `different` is 0 the keys agree at the places passed, and if the keys are equal `different` is 0.
+use Prim.Native.Nat.{ℕ, _≤_, _<_, _-_}
 use mathlib.Core.Path.{_≡_, refl, sym, ap, _∙_}
 use mathlib.Core.List.{List}
 use native.Mathlib.Omega.{arith}
@@ -14,8 +14,6 @@ use borrow.Author.Needs.{needs}
 use Rattle.marks.specs.Answers.{Says}
 use Rattle.explore.proofs.chains.same.Statement.{statement}
 use Rattle.explore.proofs.chains.same.Tie as tie
-use Rattle.explore.proofs.chains.same.Reads as reads
-use Rattle.explore.proofs.chains.same.Lts as lts
 
 -- A property that holds just where the number is 0 is answered by the test for 0.
 answered : (n : ℕ) {P : Type 0} → (n ≡ 0 → P) → (P → n ≡ 0) → Says (eqb n 0) P
