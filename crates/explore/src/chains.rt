@@ -1,7 +1,7 @@
 // Keys in rows, found again by chains of rows in the same bucket.
 ghost use mathlib.Core.Path.{_≡_};
 ghost use Prim.Native.Nat.{_+_, _*_, _<_, _≤_};
-ghost use lib.ListN.{length, replicate};
+ghost use lib.ListN.{length};
 ghost use lib.Seq.{paste};
 ghost use Rattle.marks.specs.Answers.{Says};
 ghost use Rattle.explore.specs.Chains.{keySize, mixOf, hashFrom, bucketOf, Tables, Finds, Inserts};
@@ -91,15 +91,4 @@ pub fn insert(heads: &mut [u32], links: &mut [u32], keys: &mut [u32], n: usize, 
     put(keys, n * 16, key);
     links[n] = heads[h];
     heads[h] = (n + 1) as u32;
-}
-
-// Sets every number to 0; so all chains are empty.
-pub fn clear(heads: &mut [u32])
-    ensures { λ r. ⌜ now (heads .exit) ≡ replicate (length (now (heads .entry))) 0 ⌝ }
-{
-    let mut i = 0;
-    while i < heads.len() {
-        heads[i] = 0;
-        i += 1;
-    }
 }

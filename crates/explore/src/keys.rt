@@ -1,5 +1,4 @@
 // Reading a key, and writing the key of a record with one more letter.
-use crate::chains::clear;
 use crate::chains::put;
 use crate::judge::value_of;
 use arithmetic::in_bound;
@@ -35,7 +34,7 @@ pub fn write_key(key: &mut [u32], size: u32, letters: &[u32], firsts: &[u32], ma
     requires { ⌜ (length (now key) ≡ keySize) × (length (now letters) ≤ letterRoom) × (length (now firsts) ≤ firstRoom) ⌝ }
     ensures { λ r. ⌜ now (key .exit) ≡ encoded size (now (letters .entry)) (now (firsts .entry)) marks ⌝ }
 {
-    clear(key);
+    marks::fill(key, 0);
     put(key, 1, letters);
     put(key, 7, firsts);
     key[0] = size;

@@ -5,7 +5,6 @@ mod judge;
 mod keys;
 mod sizes;
 
-use chains::clear;
 use chains::find;
 use chains::insert;
 use extend::extend;
@@ -264,7 +263,7 @@ fn explore(
 {
     let every = every_mark(relations);
     let empty = [0u32; 16];
-    clear(heads);
+    marks::fill(heads, 0);
     settle(heads, links, keys, flags, 0, limit, every, &empty);
     search(
         kinds,

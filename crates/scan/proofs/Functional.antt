@@ -15,12 +15,9 @@ use Rattle.sheet.specs.Brackets.{BytePartner}
 use Rattle.scan.specs.declared.Span.{Span}
 use Rattle.scan.specs.declared.LineSpan.{LineSpan}
 use Rattle.scan.specs.Place.{between, TokenAt, noToken, aToken, LineAt, noLine, endedLine, lastLine, PartnerAt, noPartner, aPartner}
+use Rattle.scan.specs.Start.{isVisible}
 use Rattle.scan.proofs.Tokens.{between-split, between-last, between-length, drop-at}
 use Rattle.scan.proofs.Partners.{partner-more}
-
--- A byte of a token.
-abbrev isVisible : ℕ → Bool
-isVisible b = isBracket b || isInside b
 
 -- How many bytes of tokens this byte is.
 abbrev visibleBytes : Bool → ℕ

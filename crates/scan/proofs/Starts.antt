@@ -11,7 +11,7 @@ use Rattle.text.specs.Bytes.{Token, ByteClass, inside, isBracket, isInside, sta
 use Rattle.text.proofs.Reflects.{to-true, T-reflects}
 use Rattle.text.proofs.Bytes.{HasClass, aBracket, anInside, aBetween, classOf-has, inside-not-bracket, bracket-not-inside}
 use Rattle.scan.proofs.Tokens.{drop-at}
-use Rattle.scan.specs.Start.{beginsToken, tokenStartsFrom, tokenStarts}
+use Rattle.scan.specs.Start.{isVisible, beginsToken, tokenStartsFrom, tokenStarts}
 
 -- The tokens that begin in these bytes, where `g` says whether the byte before them is inside a run.
 abbrev without : Bool → List Token → List Token
@@ -21,13 +21,10 @@ without false ts = ts
 abbrev begun : Bool → List ℕ → List Token
 begun g l = without (g && startsInside l) (tokens l)
 
-abbrev pub visible : ℕ → Bool
-visible b = isBracket b || isInside b
-
 -- One byte more before bytes, where `m` says whether a token begins with it: ts are the tokens of all, us those that begin in all, vs those
 -- that begin after the byte.
 data Step (b : ℕ) (ts us vs : List Token) (m : Bool) : Type 0 where
-  begins : {w : Token} → m ≡ true → T (visible b) → us ≡ ts → ts ≡ w ∷ vs → Step b ts us vs m
+  begins : {w : Token} → m ≡ true → T (isVisible b) → us ≡ ts → ts ≡ w ∷ vs → Step b ts us vs m
   goes-on : m ≡ false → us ≡ vs → Step b ts us vs m
 
 extend-rest : (b : ℕ) (ts : List Token) → drop 1 (extendFirst b ts) ≡ drop 1 ts
@@ -61,7 +58,7 @@ step-class true b run ts (anInside h) =
 step-class false b run ts (anInside h) =
     let is : isInside b ≡ true = to-true (T-reflects (isInside b)) h in
     let (w, e) = run-first b run ts in
-    let seen : visible b ≡ true = ap₂ _||_ (inside-not-bracket b h) is in
+    let seen : isVisible b ≡ true = ap₂ _||_ (inside-not-bracket b h) is in
     begins seen (rw seen tt) refl (e ∙ ap (λ m. w ∷ without (m && run) ts) (sym is))
 step-class g b run ts (aBetween p q) = goes-on (ap₂ (λ m n. m || (not g && n)) p q ∙ none g) (no-run g ts q ∙ ap (λ m. without (m && run) ts) (sym q))
   where
@@ -93,7 +90,7 @@ starts-length g i (b ∷ bs) = by (beginsToken g b) (tokenStartsFrom (isInside b
 record Left (i : ℕ) (l : List ℕ) (us : List Token) (s : ℕ) : Type 0 where
   pub after : i ≤ s
   pub same : tokens (drop (s - i) l) ≡ us
-  pub stands : T (visible (getD l (s - i) 0))
+  pub stands : T (isVisible (getD l (s - i) 0))
 
 left-later : {i : ℕ} {bs : List ℕ} {us : List Token} {s : ℕ} (b : ℕ) → Left (suc i) bs us s → Left i (b ∷ bs) us s
 left-later {i} {bs} {us} {s} b h =
@@ -101,7 +98,7 @@ left-later {i} {bs} {us} {s} b h =
     record {
       after = omega (arith, h .after);
       same = ap (λ n. tokens (drop n (b ∷ bs))) (sym one) ∙ h .same;
-      stands = subst (λ n. T (visible (getD (b ∷ bs) n 0))) one (h .stands);
+      stands = subst (λ n. T (isVisible (getD (b ∷ bs) n 0))) one (h .stands);
     }
 
 starts-left : (g : Bool) (i : ℕ) (l : List ℕ) (k : ℕ) → k < length (tokenStartsFrom g i l) → Left i l (drop k (begun g l)) (getD (tokenStartsFrom g i l) k 0)
@@ -109,10 +106,10 @@ unfolding tokenStartsFrom
 starts-left g i [] k h = absurd (omega arith)
 starts-left g i (b ∷ bs) k h = by (beginsToken g b) (tokenStartsFrom (isInside b) (suc i) bs) (step g b bs) (λ j n. starts-left (isInside b) (suc i) bs j n) k h
   where
-    at-once : {us vs : List Token} {w : Token} (ss : List ℕ) → T (visible b) → us ≡ tokens (b ∷ bs) → us ≡ w ∷ vs → ((j : ℕ) → j < length ss → Left (suc i) bs (drop j vs) (getD ss j 0)) → (j : ℕ) → j < suc (length ss) → Left i (b ∷ bs) (drop j us) (getD (i ∷ ss) j 0)
+    at-once : {us vs : List Token} {w : Token} (ss : List ℕ) → T (isVisible b) → us ≡ tokens (b ∷ bs) → us ≡ w ∷ vs → ((j : ℕ) → j < length ss → Left (suc i) bs (drop j vs) (getD ss j 0)) → (j : ℕ) → j < suc (length ss) → Left i (b ∷ bs) (drop j us) (getD (i ∷ ss) j 0)
     at-once ss v p q f zero n =
         let none : 0 ≡ i - i = omega arith in
-        record { after = omega arith; same = ap (λ a. tokens (drop a (b ∷ bs))) (sym none) ∙ sym p; stands = subst (λ a. T (visible (getD (b ∷ bs) a 0))) none v }
+        record { after = omega arith; same = ap (λ a. tokens (drop a (b ∷ bs))) (sym none) ∙ sym p; stands = subst (λ a. T (isVisible (getD (b ∷ bs) a 0))) none v }
     at-once ss v p q f (suc j) n = left-later b (subst (λ us. Left (suc i) bs (drop (suc j) us) (getD ss j 0)) (sym q) (f j (omega arith)))
 
     by : {us vs : List Token} (m : Bool) (ss : List ℕ) → Step b (tokens (b ∷ bs)) us vs m → ((j : ℕ) → j < length ss → Left (suc i) bs (drop j vs) (getD ss j 0)) → (j : ℕ) → j < length (cond m (i ∷ ss) ss) → Left i (b ∷ bs) (drop j us) (getD (cond m (i ∷ ss) ss) j 0)
@@ -132,8 +129,8 @@ module _ (text : List ℕ) where
     pub token-start : tokens (drop (getD (tokenStarts text) k 0) text) ≡ drop k (tokens text)
     token-start = let whole : getD (tokenStarts text) k 0 ≡ getD (tokenStarts text) k 0 - 0 = omega arith in ap (λ n. tokens (drop n text)) whole ∙ starts-left false 0 text k known .same
 
-    pub token-start-stands : T (visible (getD text (getD (tokenStarts text) k 0) 0))
-    token-start-stands = let whole : getD (tokenStarts text) k 0 - 0 ≡ getD (tokenStarts text) k 0 = omega arith in subst (λ n. T (visible (getD text n 0))) whole (starts-left false 0 text k known .stands)
+    pub token-start-stands : T (isVisible (getD text (getD (tokenStarts text) k 0) 0))
+    token-start-stands = let whole : getD (tokenStarts text) k 0 - 0 ≡ getD (tokenStarts text) k 0 = omega arith in subst (λ n. T (isVisible (getD text n 0))) whole (starts-left false 0 text k known .stands)
 
 -- One byte of a loop over the bytes.
 pub starts-next : (g : Bool) (text : List ℕ) (i : ℕ) → i < length text

@@ -5,6 +5,10 @@ use mathlib.Core.Bool.{Bool, false, not, cond, _&&_, _||_}
 use mathlib.Core.List.{List, [], _∷_}
 use Rattle.text.specs.Bytes.{isBracket, isInside}
 
+-- A byte that stands in a token.
+abbrev pub isVisible : ℕ → Bool
+isVisible b = isBracket b || isInside b
+
 -- A token begins with a bracket, and with a byte of a run that stands after no other byte of the run.
 abbrev pub beginsToken : Bool → ℕ → Bool
 beginsToken inside b = isBracket b || (not inside && isInside b)

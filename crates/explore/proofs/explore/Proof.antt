@@ -10,8 +10,8 @@ use Rattle.explore.proofs.explore.Tie as tie
 every-mark-requires : tie.Need-every-mark-requires
 every-mark-requires c κs = search needs
 
-clear-requires : tie.Need-clear-requires
-clear-requires c κs = search needs
+fill-requires : tie.Need-fill-requires
+fill-requires c κs = search needs
 
 slice-aggregate-settle : tie.Need-slice-aggregate-settle
 slice-aggregate-settle c = search needs
@@ -20,20 +20,20 @@ settle-requires : tie.Need-settle-requires
 settle-requires c κs =
     let start = c .before .before .before .before .before .before .before .before .before .before .before .before .before .before .before .before .before .before .before .before .before in
     let l = start .pre .1 in
-    (cleared-chained (start .args .heads .now) _ _ _ (omega (arith, l .some-row, l .heads-room)) (c .before .before .before .before .before .before .before .clear .ensures), (refl, l .few-rows, l .links-room, l .keys-room, l .flags-room))
+    (cleared-chained (start .args .heads .now) _ _ _ (omega (arith, l .some-row, l .heads-room)) (c .before .before .before .before .before .before .before .fill .ensures), (refl, l .few-rows, l .links-room, l .keys-room, l .flags-room))
 
 search-requires : tie.Need-search-requires
 search-requires c κs =
     let start = c .before .before .before .before .before .before .before .before .before .before .before .before .before .before .before .before .before .before .before .before .before .before .before .before .before .before .before .before .before .before .before .before .before .before .before in
     let l = start .pre .1 in
     let settle = c .before .before .before .before .before .before .before .before .before .before .before .before .before .settle in
-    (start .pre .0, (sizes-lent (record { keys-long = settle .kept .1 .1 .0; heads-long = settle .kept .0 ∙ c .before .before .before .before .before .before .before .before .before .before .before .before .before .before .before .before .before .before .before .before .before .clear .kept .0; links-long = settle .kept .1 .0; entries-long = refl; flags-long = settle .kept .1 .1 .1 .0 }) l, settled-start (l .some-row) (l .flags-room) (settle .ensures)))
+    (start .pre .0, (sizes-lent (record { keys-long = settle .kept .1 .1 .0; heads-long = settle .kept .0 ∙ c .before .before .before .before .before .before .before .before .before .before .before .before .before .before .before .before .before .before .before .before .before .fill .kept .0; links-long = settle .kept .1 .0; entries-long = refl; flags-long = settle .kept .1 .1 .1 .0 }) l, settled-start (l .some-row) (l .flags-room) (settle .ensures)))
 
 same-length : tie.Need-same-length
 same-length c = search needs
 
 same-length-2 : tie.Need-same-length-2
-same-length-2 c = c .before .before .before .before .before .before .before .before .before .before .search .kept .1 .1 .1 .1 .1 .1 .1 .1 .1 .1 .1 .1 .1 .1 .0 ∙ c .before .before .before .before .before .before .before .before .before .before .before .before .before .before .before .before .before .before .before .before .before .before .before .before .settle .kept .0 ∙ c .before .before .before .before .before .before .before .before .before .before .before .before .before .before .before .before .before .before .before .before .before .before .before .before .before .before .before .before .before .before .before .before .clear .kept .0
+same-length-2 c = c .before .before .before .before .before .before .before .before .before .before .search .kept .1 .1 .1 .1 .1 .1 .1 .1 .1 .1 .1 .1 .1 .1 .0 ∙ c .before .before .before .before .before .before .before .before .before .before .before .before .before .before .before .before .before .before .before .before .before .before .before .before .settle .kept .0 ∙ c .before .before .before .before .before .before .before .before .before .before .before .before .before .before .before .before .before .before .before .before .before .before .before .before .before .before .before .before .before .before .before .before .fill .kept .0
 
 same-length-3 : tie.Need-same-length-3
 same-length-3 c = search needs
@@ -52,7 +52,7 @@ explore-spec =
     tie.close
     (tie.spec
     every-mark-requires
-    clear-requires
+    fill-requires
     slice-aggregate-settle
     settle-requires
     search-requires

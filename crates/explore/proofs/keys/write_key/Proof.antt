@@ -10,8 +10,8 @@ use borrow.Author.Needs.{needs}
 use Rattle.explore.proofs.keys.write_key.Statement.{statement}
 use Rattle.explore.proofs.keys.write_key.Tie as tie
 
-clear-requires : tie.Need-clear-requires
-clear-requires c κs = search needs
+fill-requires : tie.Need-fill-requires
+fill-requires c κs = search needs
 
 put-requires : tie.Need-put-requires
 put-requires c κs = search needs
@@ -37,14 +37,14 @@ returns c =
     ∙ ap (λ (k : List ℕ). paste k 7 (args .firsts .now) (length (args .firsts .now)))
     (c .before .before .before .before .before .before .put .ensures
     ∙ ap (λ (k : List ℕ). paste k 1 (args .letters .now) (length (args .letters .now)))
-    (c .before .before .before .before .before .before .before .before .before .before .clear .ensures ∙ ap (λ n. replicate {A = ℕ} n 0) (start .pre .0))))
+    (c .before .before .before .before .before .before .before .before .before .before .fill .ensures ∙ ap (λ n. replicate {A = ℕ} n 0) (start .pre .0))))
     ∙ key-over-zeros (args .letters .now) (args .firsts .now) (args .size) (args .marks) (start .pre .1) (start .pre .2)
 
 pub write-key-spec : {M : Type 1} → statement M
 write-key-spec =
     tie.close
     (tie.spec
-    clear-requires
+    fill-requires
     put-requires
     put-requires-2
     slice-write-key
