@@ -84,8 +84,8 @@ int main(int count, char **words) {
         room mine = lend(situations, letters), other = lend(situations, letters);
         double least = 1e9, plain_least = 1e9, began = now();
         compiled a = { 0, 0, 0 }, b = a;
-        // at least five runs of each, and more for at most half a second
-        for (size_t turn = 0; turn < 5 || now() - began < 0.5; turn++) {
+        // at least five runs of each, and more for at most two seconds: other programs on the machine can slow down a shorter time as a whole
+        for (size_t turn = 0; turn < 5 || now() - began < 2; turn++) {
             a = timed(compile_c, text, length, &mine, &least);
             b = timed(plain_compile, text, length, &other, &plain_least);
         }

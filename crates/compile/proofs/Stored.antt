@@ -1,8 +1,9 @@
--- The parts of a stored sheet: each list is what it holds and room beyond it, so that cut to its count it is what it holds.
-use Prim.Native.Nat.{ℕ, _+_, _-_, _≤_, _<_}
+-- The parts of a stored sheet: each list is what it holds and room beyond it. Cut to its count it is what it holds; the nodes stay uncut, with blank
+-- ones behind them.
+use Prim.Native.Nat.{ℕ, zero, suc, _+_, _-_, _≤_, _<_}
 use native.Mathlib.Omega.{arith}
-use mathlib.Core.Path.{_≡_, sym, _∙_, ap}
-use mathlib.Core.List.{List, map}
+use mathlib.Core.Path.{_≡_, refl, sym, _∙_, ap}
+use mathlib.Core.List.{List, _∷_, _++_, map, map-append}
 use lib.IntN.{pos}
 use lib.ListN.{length, take, replicate, length-append, length-map}
 use lib.Seq.{take-at, length-take-le}
@@ -11,7 +12,7 @@ use Rattle.meaning.specs.Expression.{Sheet}
 use Rattle.sheet.specs.Accepted.{Accepted}
 use Rattle.nodes.specs.Bounds.{lowsOf, highsOf}
 use Rattle.nodes.specs.FirstPlaces.{allFirstPlaces}
-use Rattle.nodes.specs.Postfix.{Node, StoredConstraint, allNodes, storedConstraints, kindsOf, valuesOf, startsOf}
+use Rattle.nodes.specs.Postfix.{Node, node, StoredConstraint, allNodes, storedConstraints}
 use Rattle.reader.specs.declared.Sheet.{Sheet as StoredSheet}
 use Rattle.reader.specs.Stored.{padded, relationsOf, leftsOf, rightsOf, storedSheet}
 use Rattle.explore.proofs.StoredSides.{constraints-long}
@@ -35,24 +36,26 @@ module _ {X : Type 0} {count : ℕ} {list held : List X} (p : IsPadded count lis
   pub part-held : take count list ≡ held
   part-held = ap (take count) (p .same) ∙ take-at held (replicate (p .size - length held) (p .blank)) count (sym (p .many))
 
+map-replicate : {X Y : Type 0} (f : X → Y) (n : ℕ) (x : X) → map f (replicate n x) ≡ replicate n (f x)
+map-replicate f zero x = refl
+map-replicate f (suc n) x = ap (f x ∷_) (map-replicate f n x)
+
+-- What a list of nodes holds of each, with room beyond it, is what it holds of them and of blank nodes behind them.
+padded-nodes : {X : Type 0} (size : ℕ) (f : Node → X) (blank : Node) (l : List Node) → padded size (f blank) (map f l) ≡ map f (padded size blank l)
+padded-nodes size f blank l =
+    ap (λ n. map f l ++ replicate (size - n) (f blank)) (length-map l f)
+    ∙ ap (map f l ++_) (sym (map-replicate f (size - length l) blank))
+    ∙ sym (map-append f l (replicate (size - length l) blank))
+
 module _ (s : Sheet) {x : StoredSheet} (same : x ≡ storedSheet s) where
   abbrev nodes : List Node
   nodes = allNodes 0 0 (s .constraints)
 
+  abbrev blankNode : Node
+  blankNode = node 0 (pos 0) 0
+
   abbrev constraints : List StoredConstraint
   constraints = storedConstraints 0 0 (s .constraints)
-
-  pub kinds-part : IsPadded (x .nodes) (x .kinds) (kindsOf nodes)
-  unfolding storedSheet
-  kinds-part = record { size = 1024; blank = 0; many = ap (λ y. y .nodes) same ∙ sym (length-map nodes (λ y. y .kind)); same = ap (λ y. y .kinds) same }
-
-  pub values-part : IsPadded (x .nodes) (x .values) (valuesOf nodes)
-  unfolding storedSheet
-  values-part = record { size = 1024; blank = pos 0; many = ap (λ y. y .nodes) same ∙ sym (length-map nodes (λ y. y .value)); same = ap (λ y. y .values) same }
-
-  pub starts-part : IsPadded (x .nodes) (x .starts) (startsOf nodes)
-  unfolding storedSheet
-  starts-part = record { size = 1024; blank = 0; many = ap (λ y. y .nodes) same ∙ sym (length-map nodes (λ y. y .start)); same = ap (λ y. y .starts) same }
 
   count-is : (f : StoredConstraint → ℕ) → x .constraints ≡ length (map f constraints)
   unfolding storedSheet
@@ -82,15 +85,16 @@ module _ (s : Sheet) {x : StoredSheet} (same : x ≡ storedSheet s) where
   unfolding storedSheet
   highs-part = record { size = 8; blank = pos 0; many = ap (λ y. y .streams) same ∙ sym (length-map (s .streams) (λ y. y .range .high)); same = ap (λ y. y .highs) same }
 
-  -- Cut to their counts, the lists are the slices of the sheet.
-  pub sheet-slices : SlicesOf s (take (x .nodes) (x .kinds)) (take (x .nodes) (x .values)) (take (x .nodes) (x .starts)) (take (x .constraints) (x .relations)) (take (x .constraints) (x .lefts))
+  -- The nodes as they are, and the other lists cut to their counts, hold the sheet.
+  pub sheet-slices : SlicesOf s (x .kinds) (x .values) (x .starts) (take (x .constraints) (x .relations)) (take (x .constraints) (x .lefts))
       (take (x .constraints) (x .rights)) (take (x .firsts) (x .«first_nodes»)) (take (x .streams) (x .lows)) (take (x .streams) (x .highs)) (x .ahead) (x .ahead + x .back) (x .letters)
   unfolding storedSheet
   sheet-slices =
       record {
-        sameKinds = part-held kinds-part;
-        sameValues = part-held values-part;
-        sameStarts = part-held starts-part;
+        behind = replicate (1024 - length nodes) blankNode;
+        sameKinds = ap (λ y. y .kinds) same ∙ padded-nodes 1024 (λ y. y .kind) blankNode nodes;
+        sameValues = ap (λ y. y .values) same ∙ padded-nodes 1024 (λ y. y .value) blankNode nodes;
+        sameStarts = ap (λ y. y .starts) same ∙ padded-nodes 1024 (λ y. y .start) blankNode nodes;
         sameRelations = part-held relations-part;
         sameLefts = part-held lefts-part;
         sameRights = part-held rights-part;

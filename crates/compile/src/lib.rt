@@ -10,7 +10,7 @@ ghost use Rattle.sheet.specs.Form.{threeHeaderLines};
 ghost use Rattle.reader.specs.Stored.{storedSheet};
 ghost use Rattle.outcome.specs.Compile.{allZero, CompileOutcome};
 ghost use Rattle.compile.specs.Lent.{roomOf, tablesOf, answerOf, refusedWith, madeOf};
-ghost use Rattle.compile.specs.Sheet.{SheetOutcome, Found, SlicesOf, RoomFor};
+ghost use Rattle.compile.specs.Sheet.{SheetOutcome, Found, SlicesOf, HasRoom, RoomFor};
 ghost use Rattle.compile.specs.Stored.{IsStoredSheet};
 
 // The refusal's number or 0, "the number of states and the number of distinct situations". Laid out as in C, so that an exported function can give
@@ -75,11 +75,64 @@ fn made(rows: usize, situations: usize, table: minimise::Minimised) -> Compiled
     if rows < 4096 { refused(10) } else { refused(8) }
 }
 
-// Explores the situations of a stored sheet: their number, with the entries and flags of their rows, or 0 where they are more than the limit.
+// Explores the situations of a stored sheet: their number, with the entries and flags of their rows, or 0 where they are more than the limit. The
+// values of its letters are written to `letter_values`.
+fn explored(
+    kinds: &[u8; 1024],
+    values: &[i64; 1024],
+    starts: &[u16; 1024],
+    relations: &[u8],
+    lefts: &[u16],
+    rights: &[u16],
+    first_nodes: &[u16],
+    lows: &[i64],
+    highs: &[i64],
+    ahead: usize,
+    width: usize,
+    letters: usize,
+    limit: usize,
+    letter_values: &mut [i64],
+    entries: &mut [u16],
+    finals: &mut [u8],
+    keys: &mut [u32],
+    heads: &mut [u32],
+    links: &mut [u32],
+) -> usize
+    ensures { λ r. ⌜ r ≤ limit ⌝ }
+    ensures { λ r. ⌜ now (keys .exit) ≡ replicate (length (now (keys .entry))) 0 ⌝ }
+    ensures { λ r. ⌜ ((s : Sheet) → Accepted cutTowardZero s → SlicesOf s (now (kinds .entry)) (now (values .entry)) (now (starts .entry)) (now (relations .entry)) (now (lefts .entry)) (now (rights .entry)) (now («first_nodes» .entry)) (now (lows .entry)) (now (highs .entry)) ahead width letters → HasRoom s (now («letter_values» .entry)) → RoomFor limit letters (now (keys .entry)) (now (heads .entry)) (now (links .entry)) (now (entries .entry)) (now (finals .entry)) → Found cutTowardZero s limit r (now (entries .exit)) (now (finals .exit))) ⌝ }
+{
+    letters::fill_letters(lows, highs, letter_values);
+    let found = explore::explore_stored(
+        kinds,
+        values,
+        starts,
+        relations,
+        lefts,
+        rights,
+        first_nodes,
+        letter_values,
+        lows.len(),
+        ahead,
+        width,
+        letters,
+        limit,
+        keys,
+        heads,
+        links,
+        entries,
+        finals,
+    );
+    marks::fill(keys, 0);
+    if found.full { 0 } else { found.count }
+}
+
+// Explores the situations of a stored sheet. Few letters have their values in a small list: clearing a large one takes longer than exploring a
+// small sheet.
 fn situations(
-    kinds: &[u8],
-    values: &[i64],
-    starts: &[u16],
+    kinds: &[u8; 1024],
+    values: &[i64; 1024],
+    starts: &[u16; 1024],
     relations: &[u8],
     lefts: &[u16],
     rights: &[u16],
@@ -100,9 +153,32 @@ fn situations(
     ensures { λ r. ⌜ now (keys .exit) ≡ replicate (length (now (keys .entry))) 0 ⌝ }
     ensures { λ r. ⌜ ((s : Sheet) → Accepted cutTowardZero s → SlicesOf s (now (kinds .entry)) (now (values .entry)) (now (starts .entry)) (now (relations .entry)) (now (lefts .entry)) (now (rights .entry)) (now («first_nodes» .entry)) (now (lows .entry)) (now (highs .entry)) ahead width letters → RoomFor limit letters (now (keys .entry)) (now (heads .entry)) (now (links .entry)) (now (entries .entry)) (now (finals .entry)) → Found cutTowardZero s limit r (now (entries .exit)) (now (finals .exit))) ⌝ }
 {
-    let mut letter_values = [0i64; 8192];
-    letters::fill_letters(lows, highs, &mut letter_values);
-    let found = explore::explore_stored(
+    if letters <= 64 {
+        let mut few = [0i64; 520];
+        return explored(
+            kinds,
+            values,
+            starts,
+            relations,
+            lefts,
+            rights,
+            first_nodes,
+            lows,
+            highs,
+            ahead,
+            width,
+            letters,
+            limit,
+            &mut few,
+            entries,
+            finals,
+            keys,
+            heads,
+            links,
+        );
+    }
+    let mut many = [0i64; 8200];
+    explored(
         kinds,
         values,
         starts,
@@ -110,27 +186,26 @@ fn situations(
         lefts,
         rights,
         first_nodes,
-        &letter_values,
-        lows.len(),
+        lows,
+        highs,
         ahead,
         width,
         letters,
         limit,
+        &mut many,
+        entries,
+        finals,
         keys,
         heads,
         links,
-        entries,
-        finals,
-    );
-    marks::fill(keys, 0);
-    if found.full { 0 } else { found.count }
+    )
 }
 
 // Compiles a stored sheet. Exploring no rows leaves no graph, so that every table is cleared and the rows lent decide between 8 and 10.
 fn compile_sheet(
-    kinds: &[u8],
-    values: &[i64],
-    starts: &[u16],
+    kinds: &[u8; 1024],
+    values: &[i64; 1024],
+    starts: &[u16; 1024],
     relations: &[u8],
     lefts: &[u16],
     rights: &[u16],
@@ -246,7 +321,6 @@ fn compile_stored(
     requires { ⌜ IsStoredSheet cutTowardZero sheet ⌝ }
     ensures { λ r. ⌜ ((s : Sheet) → Accepted cutTowardZero s → sheet ≡ storedSheet s → SheetOutcome cutTowardZero s (roomOf (now (entries .entry)) (now (finals .entry)) (now (keys .entry)) (now (live .entry)) (now (class .entry)) (now (next .entry)) (now (heads .entry)) (now (links .entry)) (now (shared .entry))) (answerOf r) (tablesOf (now (entries .exit)) (now (finals .exit)) (now (keys .exit)) (now (live .exit)) (now (class .exit)) (now (next .exit)) (now (heads .exit)) (now (links .exit)) (now (shared .exit)))) ⌝ }
 {
-    let nodes = sheet.nodes;
     let kinds = sheet.kinds;
     let values = sheet.values;
     let starts = sheet.starts;
@@ -261,9 +335,9 @@ fn compile_stored(
     let highs = sheet.highs;
     let ahead = sheet.ahead;
     compile_sheet(
-        &kinds[..nodes],
-        &values[..nodes],
-        &starts[..nodes],
+        &kinds,
+        &values,
+        &starts,
         &relations[..constraints],
         &lefts[..constraints],
         &rights[..constraints],

@@ -14,9 +14,9 @@ use mir.ValLaws.{toZ-ofZ}
 use Rattle.meaning.specs.Value.{truth}
 use Rattle.meaning.specs.Arithmetic.{cutTowardZero}
 use Rattle.nodes.specs.Bounded.{noValue, bounded, appliedByKind}
-use Rattle.nodes.specs.Evaluate.{Nodes, View, places, Kind, operatorNode, kindOf, leftEnd, numbered, negated, chosen, operated, followed, valueByKind, valueBefore, nodeValue}
+use Rattle.nodes.specs.Evaluate.{Nodes, View, hasNode, places, Kind, operatorNode, kindOf, leftEnd, numbered, negated, chosen, operated, followed, valueByKind, valueBefore, nodeValue}
 use Rattle.nodes.specs.declared.Evaluated.{Evaluated}
-use Rattle.nodes.proofs.Parts.{stores-part, kindOf-operator}
+use Rattle.nodes.proofs.Parts.{kindOf-operator}
 use Rattle.nodes.proofs.Evaluate.{valueBefore-node, valueBefore-none}
 use Rattle.arithmetic.specs.Coded.{coded}
 use Rattle.arithmetic.proofs.Machine.{held}
@@ -29,13 +29,12 @@ use Rattle.evaluate.proofs.Decoding.{applied-coded}
 -- ---- what a call of a part needs
 
 -- A part that ends before e is stored where the part that ends at e is.
-pub ready-part : {N : Nodes} {W : View} {count e p : ℕ} (d q : ℕ) → Ready N W count e p → d ≤ e → q < count → Ready N W count d q
-ready-part d q r h k = record { stores = stores-part d (r .stores) h; count-places = r .count-places; place-within = k }
+pub ready-part : {W : View} {count e p : ℕ} (d q : ℕ) → Ready W count e p → d ≤ e → q < count → Ready W count d q
+ready-part d q r h k = record { end-within = omega arith; count-places = r .count-places; place-within = k }
 
 -- So is a leaf's node, and the place is in the window.
-pub ready-leaf : {N : Nodes} {W : View} {count e p : ℕ} (d : ℕ) → Ready N W count e p → d ≤ e
-    → (d ≤ length (N .kinds)) × (d ≤ length (N .values)) × (p < length (W .window) / W .streams)
-ready-leaf d r h = (omega arith, omega arith, omega arith)
+pub ready-leaf : {W : View} {count e p : ℕ} (d : ℕ) → Ready W count e p → d ≤ e → (d ≤ 1024) × (p < length (W .window) / W .streams)
+ready-leaf d r h = (omega arith, omega arith)
 
 module _ (N : Nodes) (W : View) (p : ℕ) where
   abbrev before : ℕ → ℕ → Evaluated
@@ -130,29 +129,25 @@ module _ (N : Nodes) (W : View) (p : ℕ) where
 
 -- ---- the value of a node
 
-module _ (N : Nodes) (W : View) (root p : ℕ) where
-  pub no-kind : length (N .kinds) ≤ root → noValue ≡ nodeValue cutTowardZero N W root p
+-- The lists of nodes are those of arrays, of 1024 elements each.
+pub record Arrays (N : Nodes) : Type 0 where
+  pub kinds : length (N .kinds) ≡ 1024
+  pub values : length (N .values) ≡ 1024
+  pub starts : length (N .starts) ≡ 1024
+
+module _ {N : Nodes} (arrays : Arrays N) (W : View) (root p : ℕ) where
+  pub no-node : 1024 ≤ root → noValue ≡ nodeValue cutTowardZero N W root p
   unfolding nodeValue
-  no-kind h = sym (simp (le-ltb root (length (N .kinds)) h))
+  no-node h = sym (simp (le-ltb root (length (N .kinds)) (omega arith)))
 
-  module _ (k : root < length (N .kinds)) where
-    pub no-stored : length (N .values) ≤ root → noValue ≡ nodeValue cutTowardZero N W root p
+  module _ (l : root < 1024) {count : ℕ} (c : count ≡ places W) where
+    there : hasNode N root ≡ true
+    there = simp (lt-ltb root (length (N .kinds)) (omega arith), lt-ltb root (length (N .values)) (omega arith), lt-ltb root (length (N .starts)) (omega arith))
+
+    pub no-place : count ≤ p → noValue ≡ nodeValue cutTowardZero N W root p
     unfolding nodeValue
-    no-stored h = sym (simp (lt-ltb root (length (N .kinds)) k, le-ltb root (length (N .values)) h))
+    no-place h = sym (simp (there, le-ltb p (places W) (omega arith)))
 
-    module _ (v : root < length (N .values)) where
-      pub no-start : length (N .starts) ≤ root → noValue ≡ nodeValue cutTowardZero N W root p
-      unfolding nodeValue
-      no-start h = sym (simp (lt-ltb root (length (N .kinds)) k, lt-ltb root (length (N .values)) v, le-ltb root (length (N .starts)) h))
-
-      module _ (s : root < length (N .starts)) {count : ℕ} (c : count ≡ places W) where
-        pub no-place : count ≤ p → noValue ≡ nodeValue cutTowardZero N W root p
-        unfolding nodeValue
-        no-place h =
-            sym (simp (lt-ltb root (length (N .kinds)) k, lt-ltb root (length (N .values)) v, lt-ltb root (length (N .starts)) s, le-ltb p (places W) (omega arith)))
-
-        pub root-value : p < count → valueBefore cutTowardZero N W (root + 1) p ≡ nodeValue cutTowardZero N W root p
-        unfolding nodeValue
-        root-value h =
-            ap (λ e. valueBefore cutTowardZero N W e p) (add-one root)
-            ∙ sym (simp (lt-ltb root (length (N .kinds)) k, lt-ltb root (length (N .values)) v, lt-ltb root (length (N .starts)) s, lt-ltb p (places W) (omega arith)))
+    pub root-value : p < count → valueBefore cutTowardZero N W (root + 1) p ≡ nodeValue cutTowardZero N W root p
+    unfolding nodeValue
+    root-value h = ap (λ e. valueBefore cutTowardZero N W e p) (add-one root) ∙ sym (simp (there, lt-ltb p (places W) (omega arith)))

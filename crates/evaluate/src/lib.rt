@@ -73,8 +73,8 @@ fn negated(a: i64) -> i64
 }
 
 // Whether the part that ends before `end` has no parts of its own.
-fn is_leaf(kinds: &[u8], end: usize) -> bool
-    requires { ⌜ end ≤ length (now kinds) ⌝ }
+fn is_leaf(kinds: &[u8; 1024], end: usize) -> bool
+    requires { ⌜ end ≤ 1024 ⌝ }
     ensures { λ r. ⌜ r ≡ isLeaf (now (kinds .entry)) end ⌝ }
 {
     if end == 0 {
@@ -85,14 +85,14 @@ fn is_leaf(kinds: &[u8], end: usize) -> bool
 
 // The value of the leaf that ends before `end`.
 fn leaf(
-    kinds: &[u8],
-    values: &[i64],
+    kinds: &[u8; 1024],
+    values: &[i64; 1024],
     window: &[i64],
     streams: usize,
     end: usize,
     place: usize,
 ) -> i64
-    requires { ⌜ (end ≤ length (now kinds)) × (end ≤ length (now values)) × (place < length (now window) / streams) ⌝ }
+    requires { ⌜ (end ≤ 1024) × (place < length (now window) / streams) ⌝ }
     ensures { λ r. ⌜ r ≡ coded (leafValue (now (kinds .entry)) (now (values .entry)) (now (window .entry)) streams end place) ⌝ }
 {
     if end == 0 {
@@ -114,8 +114,8 @@ struct Part {
 
 // The part and the place that `next`s and the right sides of `fby`s lead to, one after the other: the value is the same there. `count` is the
 // number of the window's letters.
-fn shifted(kinds: &[u8], count: usize, end: usize, place: usize) -> Part
-    requires { ⌜ (end ≤ length (now kinds)) × (place < count) ⌝ }
+fn shifted(kinds: &[u8; 1024], count: usize, end: usize, place: usize) -> Part
+    requires { ⌜ (end ≤ 1024) × (place < count) ⌝ }
     ensures { λ r. ⌜ Shifts (now (kinds .entry)) count end place (r .end) (r .place) ⌝ }
 {
     let mut inner = end;
@@ -153,12 +153,12 @@ fn shifted(kinds: &[u8], count: usize, end: usize, place: usize) -> Part
     }
 }
 
-// The value of the part that ends before `end`, by recursion into its parts, which end earlier. An operand, a condition or a branch that is a
-// leaf is read here, since a call takes longer than reading it.
+// The value of the part that ends before `end`, by recursion into its parts, which end earlier. The part of a `first`, an operand, a condition
+// or a branch that is a leaf is read here, since a call takes longer than reading it.
 fn value_before(
-    kinds: &[u8],
-    values: &[i64],
-    starts: &[u16],
+    kinds: &[u8; 1024],
+    values: &[i64; 1024],
+    starts: &[u16; 1024],
     window: &[i64],
     streams: usize,
     firsts: &[i64],
@@ -167,7 +167,7 @@ fn value_before(
     end: usize,
     place: usize,
 ) -> i64
-    requires { ⌜ Ready (stored (now kinds) (now values) (now starts)) (view (now window) streams (now firsts) whole) count end place ⌝ }
+    requires { ⌜ Ready (view (now window) streams (now firsts) whole) count end place ⌝ }
     ensures { λ r. ⌜ r ≡ coded (valueBefore cutTowardZero (stored (now (kinds .entry)) (now (values .entry)) (now (starts .entry))) (view (now (window .entry)) streams (now (firsts .entry)) whole) end place) ⌝ }
 {
     let inner = shifted(kinds, count, end, place);
@@ -181,18 +181,22 @@ fn value_before(
     match kind {
         2 => {
             if whole {
-                value_before(
-                    kinds,
-                    values,
-                    starts,
-                    window,
-                    streams,
-                    firsts,
-                    whole,
-                    count,
-                    i,
-                    0,
-                )
+                if is_leaf(kinds, i) {
+                    leaf(kinds, values, window, streams, i, 0)
+                } else {
+                    value_before(
+                        kinds,
+                        values,
+                        starts,
+                        window,
+                        streams,
+                        firsts,
+                        whole,
+                        count,
+                        i,
+                        0,
+                    )
+                }
             } else {
                 numbered(firsts, values[i])
             }
@@ -315,9 +319,9 @@ fn value_before(
 
 // The value of the node with the place `root` at a place of the window. A side of a constraint that only reads a value needs no call of the recursion.
 pub fn evaluate(
-    kinds: &[u8],
-    values: &[i64],
-    starts: &[u16],
+    kinds: &[u8; 1024],
+    values: &[i64; 1024],
+    starts: &[u16; 1024],
     root: usize,
     window: &[i64],
     streams: usize,
@@ -327,14 +331,12 @@ pub fn evaluate(
 ) -> Evaluated
     ensures { λ r. ⌜ r ≡ nodeValue cutTowardZero (stored (now (kinds .entry)) (now (values .entry)) (now (starts .entry))) (view (now (window .entry)) streams (now (firsts .entry)) whole) root place ⌝ }
 {
+    // The proof learns how many elements an array has where a slice is made of it. These three are only for that and take no time.
+    let kind_list: &[u8] = kinds;
+    let value_list: &[i64] = values;
+    let start_list: &[u16] = starts;
     let count = places(window.len(), streams);
-    if kinds.len() <= root {
-        return no_value();
-    }
-    if values.len() <= root {
-        return no_value();
-    }
-    if starts.len() <= root {
+    if 1024 <= root {
         return no_value();
     }
     if count <= place {

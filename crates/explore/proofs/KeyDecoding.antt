@@ -17,6 +17,7 @@ use Rattle.meaning.specs.Letter.{letterCount, recordOf}
 use Rattle.meaning.specs.Situation.{firstValues}
 use Rattle.meaning.proofs.Facts.{length-snoc}
 use Rattle.sheet.specs.Accepted.{Accepted}
+use Rattle.nodes.specs.Postfix.{Node}
 use Rattle.nodes.specs.Evaluate.{view}
 use Rattle.nodes.proofs.Record.{flat}
 use Rattle.explore.specs.Key.{letterRoom, firstRoom, padded, encoded, raised, lowered, sizeIn, lettersIn, firstsIn, width, keyOf}
@@ -62,7 +63,7 @@ module _ (s : Sheet) (values : List ℤ) (has : HasLetters s values) where
 
 -- ---- the key of a record, and one more letter
 
-module _ {A : Arithmetic} (lawful : LawfulArithmetic A) (s : Sheet) (accepted : Accepted A s) (values : List ℤ) (has : HasLetters s values) where
+module _ {A : Arithmetic} (lawful : LawfulArithmetic A) (s : Sheet) (accepted : Accepted A s) (behind : List Node) (values : List ℤ) (has : HasLetters s values) where
   abbrev w : ℕ
   w = width A s
 
@@ -87,19 +88,19 @@ module _ {A : Arithmetic} (lawful : LawfulArithmetic A) (s : Sheet) (accepted : 
       ∙ encoded-firsts (suc w) (recent r) (map raised (firstValues A (s .constraints) (recordOf (s .streams) r))) _ _ (allPlaces-long 0 (s .constraints) ∙ sym long) (omega (arith, long, accepted .firsts))
 
   module _ (r : List ℕ) (a : ℕ) (below : AllBelow (letterNumbers A s) r) (here : a < letterNumbers A s) where
-    pub after-letters : lettersAfter (storedSheet s values) (keyOf A s r) a ≡ recent r ++ (a ∷ [])
+    pub after-letters : lettersAfter (storedSheet s behind values) (keyOf A s r) a ≡ recent r ++ (a ∷ [])
     after-letters = ap (_++ (a ∷ [])) (key-letters r)
 
     -- As many letters of the record are there as it has, up to D+B.
-    pub after-known : length (lettersAfter (storedSheet s values) (keyOf A s r) a) - 1 ≡ min (length r) w
+    pub after-known : length (lettersAfter (storedSheet s behind values) (keyOf A s r) a) - 1 ≡ min (length r) w
     after-known = omega (arith, ap length after-letters, length-snoc (recent r) a, recent-long r)
 
-    after-window : windowOf (length (s .streams)) values (lettersAfter (storedSheet s values) (keyOf A s r) a) ≡ flat (recordOf (s .streams) (recent r ++ (a ∷ [])))
+    after-window : windowOf (length (s .streams)) values (lettersAfter (storedSheet s behind values) (keyOf A s r) a) ≡ flat (recordOf (s .streams) (recent r ++ (a ∷ [])))
     after-window = ap (windowOf (length (s .streams)) values) after-letters ∙ window-flat s values has (recent r ++ (a ∷ [])) (below-snoc (letterNumbers A s) (recent r) a (drop-below (letterNumbers A s) (length r - w) r below) here)
 
     -- A whole record's letters are all there, and the firsts are evaluated.
     pub view-whole : length r ≤ w
-        → viewAfter (storedSheet s values) (keyOf A s r) a
+        → viewAfter (storedSheet s behind values) (keyOf A s r) a
         ≡ view (flat (recordOf (s .streams) (r ++ (a ∷ [])))) (length (s .streams)) (map lowered (firstsIn (length (allFirstPlaces 0 (s .constraints))) (keyOf A s r))) true
     view-whole h =
         let none : length r - w ≡ 0 = omega arith in
@@ -109,7 +110,7 @@ module _ {A : Arithmetic} (lawful : LawfulArithmetic A) (s : Sheet) (accepted : 
 
     -- Of a cut record the last letters and the values of the firsts are there.
     pub view-cut : w < length r
-        → viewAfter (storedSheet s values) (keyOf A s r) a
+        → viewAfter (storedSheet s behind values) (keyOf A s r) a
         ≡ view (flat (recordOf (s .streams) (recent r ++ (a ∷ [])))) (length (s .streams)) (firstValues A (s .constraints) (recordOf (s .streams) r)) false
     view-cut h =
         let size : leb (sizeIn (keyOf A s r)) w ≡ false = lt-leb (sizeIn (keyOf A s r)) w (omega (arith, key-size r)) in

@@ -9,7 +9,7 @@ use mathlib.Core.Path.{_≡_, refl, sym, _∙_, ap, subst}
 use mathlib.Core.List.{List, [], _∷_, _++_, map, map-append, append-assoc, append-nil}
 use lib.IntN.{ℤ}
 use lib.ListN.{length, getD, take, drop, set, replicate, length-append, length-take, length-replicate, length-set, getD-replicate, replicate-append-replicate, List·getD-append, List·getD-eq-default, drop-of-length-le}
-use lib.Seq.{take-suc, take-suc-set, take-set-lt, set-split, getD-take, getD-append-add, length-take-le, take-all, take-at, drop-at, drop-drop, take-append-add, paste, take-paste, drop-paste, length-paste}
+use lib.Seq.{take-suc, take-suc-set, take-set-lt, set-split, getD-take, getD-append-add, length-take-le, take-all, take-length, take-take, take-at, drop-at, drop-drop, take-append-add, paste, take-paste, drop-paste, length-paste}
 use Rattle.explore.specs.Chains.{keySize}
 use Rattle.explore.specs.Key.{padded, encoded, letterRoom, firstRoom}
 use Rattle.explore.specs.Step.{letterAt, windowOf}
@@ -140,24 +140,28 @@ module _ (streams : ℕ) (values : List ℤ) where
   unfolding windowOf
   windowOf-none = refl
 
-  -- One letter's values are put into a window.
-  module _ (a at from : ℕ) (window : List ℤ) (is : from ≡ a * streams) (inside : from + streams ≤ length values) (room : at + streams ≤ length window) where
+  -- One letter's values are put into a window, as the first of those that are copied.
+  module _ (copied a at from : ℕ) (window : List ℤ) (few : streams ≤ copied) (is : from ≡ a * streams) (inside : from + copied ≤ length values) (room : at + copied ≤ length window) where
     abbrev part : List ℤ
-    part = take (from + streams - from) (drop from values)
+    part = take (from + copied - from) (drop from values)
 
-    part-is : part ≡ letterAt streams values a
-    part-is =
-        let e : from + streams - from ≡ streams = omega arith in
-        ap (λ n. take n (drop from values)) e ∙ ap (λ n. take streams (drop n values)) is
+    part-start : take streams part ≡ letterAt streams values a
+    part-start =
+        let e : from + copied - from ≡ copied = omega arith in
+        ap (λ n. take streams (take n (drop from values))) e ∙ take-take streams copied (drop from values) few ∙ ap (λ n. take streams (drop n values)) is
 
-    long : length part ≡ streams
-    long = part-long values from streams inside
+    long : length part ≡ copied
+    long = part-long values from copied inside
 
     pub letter-put : take (at + streams) (paste window at part (length part)) ≡ take at window ++ letterAt streams values a
     letter-put =
-        ap (λ n. take (at + streams) (paste window at part n)) long
-        ∙ take-paste window at part streams (omega arith) (omega (arith, long))
-        ∙ ap (take at window ++_) (take-all streams part (omega (arith, long)) ∙ part-is)
+        let pasted = paste window at part (length part) in
+        let front : length (take at window) + streams ≡ at + streams = omega (arith, length-take-le at window (omega arith)) in
+        sym (take-take (at + streams) (at + length part) pasted (omega (arith, long)))
+        ∙ ap (take (at + streams)) (take-paste window at part (length part) (omega arith) (omega arith) ∙ ap (take at window ++_) (take-length part))
+        ∙ ap (λ n. take n (take at window ++ part)) (sym front)
+        ∙ take-append-add (take at window) part streams
+        ∙ ap (take at window ++_) part-start
 
     pub window-long : length (paste window at part (length part)) ≡ length window
     window-long = length-paste window at part (length part) (omega (arith, long)) (omega arith)
@@ -166,7 +170,7 @@ module _ (streams : ℕ) (values : List ℤ) where
       → at + streams ≤ length window → take at window ≡ windowOf streams values (take p letters)
       → take (at + streams) (paste window at (take (from + streams - from) (drop from values)) (length (take (from + streams - from) (drop from values)))) ≡ windowOf streams values (take (p + 1) letters)
   window-more letters p at from window more is inside room so-far =
-      letter-put (getD letters p 0) at from window is inside room
+      letter-put streams (getD letters p 0) at from window (omega arith) is inside room
       ∙ ap (_++ letterAt streams values (getD letters p 0)) so-far
       ∙ sym (windowOf-snoc (take p letters) (getD letters p 0))
       ∙ ap (windowOf streams values) (sym (take-suc letters p 0 more) ∙ ap (λ n. take n letters) (sym (add-one p)))

@@ -20,7 +20,7 @@ use Rattle.meaning.specs.Situation.{all, done, permits, lawful, untilMarks}
 use Rattle.meaning.proofs.Facts.{length-snoc, true-of-T}
 use Rattle.meaning.proofs.Lawful.{append-begins, lawful-short, lawful-snoc, untilMarks-begins}
 use Rattle.sheet.specs.Accepted.{Accepted}
-use Rattle.nodes.specs.Postfix.{StoredConstraint, storedConstraints}
+use Rattle.nodes.specs.Postfix.{Node, StoredConstraint, storedConstraints}
 use Rattle.explore.specs.Key.{marksNumber, marksIn, keyOf}
 use Rattle.explore.specs.Step.{Store, unlawful, marked, judgedFrom, viewAfter, lettersAfter, valueAt, judgedAfter}
 use Rattle.explore.specs.Rows.{isLawful, letterNumbers}
@@ -67,7 +67,7 @@ no-marks A s l h =
     let z : length (recordOf (s .streams) l) - D (s .constraints) ≡ 0 = omega (arith, length-map l (letterOf (s .streams))) in
     ap (λ n. map (λ c. done A (streamsOf (recordOf (s .streams) l)) c n) (allUntils (s .constraints))) z
 
-module _ {A : Arithmetic} (lawfulA : LawfulArithmetic A) (s : Sheet) (accepted : Accepted A s) (values : List ℤ) (has : HasLetters s values)
+module _ {A : Arithmetic} (lawfulA : LawfulArithmetic A) (s : Sheet) (accepted : Accepted A s) (behind : List Node) (values : List ℤ) (has : HasLetters s values)
     (r : List ℕ) (a : ℕ) (below : AllBelow (letterNumbers A s) r) (here : a < letterNumbers A s) (is-lawful : isLawful A s r ≡ true) where
   abbrev ss : List Stream
   ss = s .streams
@@ -76,7 +76,7 @@ module _ {A : Arithmetic} (lawfulA : LawfulArithmetic A) (s : Sheet) (accepted :
   cs = s .constraints
 
   abbrev K : Store
-  K = storedSheet s values
+  K = storedSheet s behind values
 
   abbrev longer : Record
   longer = recordOf ss (r ++ (a ∷ []))
@@ -120,18 +120,18 @@ module _ {A : Arithmetic} (lawfulA : LawfulArithmetic A) (s : Sheet) (accepted :
       by (yes h) =
           let known = length (lettersAfter K (keyOf A s r) a) - 1 in
           let val = valueAt A K (viewAfter K (keyOf A s r) a) (known - D cs) in
-          let some : leb (D cs) known ≡ true = le-leb (D cs) known (omega (arith, after-known lawfulA s accepted values has r a below here)) in
+          let some : leb (D cs) known ≡ true = le-leb (D cs) known (omega (arith, after-known lawfulA s accepted behind values has r a below here)) in
           let long : length (K .relations) ≡ length cs = length-map (storedConstraints 0 0 cs) (λ (t : StoredConstraint). t .relation) ∙ constraints-long 0 0 cs in
           ap (λ b. cond b (judgedFrom (K .relations) (K .lefts) (K .rights) val 0 (length (K .relations)) (marksIn (keyOf A s r))) (marked (marksIn (keyOf A s r)))) some
           ∙ (λ i. judgedFrom (K .relations) (K .lefts) (K .rights) val 0 (long i) ((key-marks A s r ∙ ap marksNumber marks-before) i))
           ∙ judged-meaning (K .relations) (K .lefts) (K .rights) val (left A (streamsOf longer) now (K .relations) (K .lefts) (K .rights) val) (right A (streamsOf longer) now (K .relations) (K .lefts) (K .rights) val) cs 0 marksBefore
-          (length-map (allUntils cs) (λ c. done A (streamsOf longer) c now)) (constraints-read lawfulA s accepted values has r a below here h)
+          (length-map (allUntils cs) (λ c. done A (streamsOf longer) c now)) (constraints-read lawfulA s accepted behind values has r a below here h)
           ∙ (λ i. cond ((permitted-all A (streamsOf longer) now (K .relations) (K .lefts) (K .rights) val cs ∙ sym (longer-lawful h)) i)
           (marked (marksNumber ((marks-now A (streamsOf longer) now (K .relations) (K .lefts) (K .rights) val cs ∙ longer-marks h) i))) unlawful)
       by (no h) =
           let known = length (lettersAfter K (keyOf A s r) a) - 1 in
           let val = valueAt A K (viewAfter K (keyOf A s r) a) (known - D cs) in
-          let none : leb (D cs) known ≡ false = lt-leb (D cs) known (omega (arith, after-known lawfulA s accepted values has r a below here)) in
+          let none : leb (D cs) known ≡ false = lt-leb (D cs) known (omega (arith, after-known lawfulA s accepted behind values has r a below here)) in
           let all-lawful : isLawful A s (r ++ (a ∷ [])) ≡ true = true-of-T (isLawful A s (r ++ (a ∷ []))) (lawful-short A cs longer (omega (arith, longer-long))) in
           ap (λ b. cond b (judgedFrom (K .relations) (K .lefts) (K .rights) val 0 (length (K .relations)) (marksIn (keyOf A s r))) (marked (marksIn (keyOf A s r)))) none
           ∙ ap marked (key-marks A s r ∙ ap marksNumber (no-marks A s r (omega arith) ∙ sym (no-marks A s (r ++ (a ∷ [])) (omega (arith, length-snoc r a)))))

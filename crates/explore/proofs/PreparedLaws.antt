@@ -9,7 +9,7 @@ use lib.IntN.{ℤ}
 use lib.ListN.{length, getD, take, drop, length-drop}
 use lib.Seq.{length-take-le, take-take, take-at, getD-take, getD-drop, paste}
 use Rattle.explore.specs.Key.{letterRoom, firstRoom, lowered, sizeIn, lettersIn, firstsIn}
-use Rattle.explore.specs.Step.{Store, letterAt, windowOf, IsKey, lettersStore, Prepared}
+use Rattle.explore.specs.Step.{Store, streamRoom, letterAt, windowOf, IsKey, lettersStore, Prepared}
 use Rattle.explore.proofs.KeyLists.{copied-all, windowOf-snoc}
 
 -- The start of a list stays when a list is put after it.
@@ -20,11 +20,11 @@ pub one-more : (n streams : ℕ) → (n + 1) * streams ≡ n * streams + streams
 one-more n streams = rw (add-one, suc-mul) refl
 
 -- The window has room for the values of the letters that a key holds, and of one more.
-pub window-room : {n streams : ℕ} → streams ≤ 8 → n ≤ letterRoom → n * streams + streams ≤ 56
-window-room {n} {streams} few-streams h =
-    let l : n + 1 ≤ 7 = omega arith in
-    let m : (n + 1) * streams ≤ 7 * 8 = mul-le-mul l few-streams in
-    omega (arith, one-more n streams)
+pub copy-room : {n streams : ℕ} → streams ≤ streamRoom → n ≤ letterRoom → n * streams + streamRoom ≤ 56
+copy-room {n} {streams} few-streams h = let m : n * streams ≤ 6 * 8 = mul-le-mul h few-streams in omega arith
+
+pub window-room : {n streams : ℕ} → streams ≤ streamRoom → n ≤ letterRoom → n * streams + streams ≤ 56
+window-room few-streams h = omega (arith, copy-room few-streams h)
 
 -- A key of a stored sheet is one of its letters alone.
 pub letters-key : {K : Store} {key : List ℕ} → IsKey K key → IsKey (lettersStore (K .letterValues) (K .streams) (K .width)) key
@@ -33,7 +33,7 @@ letters-key k = record { long = k .long; letters = λ p h. record { inside = k .
 -- ---- before the first letter
 
 module _ (letterValues : List ℤ) (streams width count held : ℕ) (key recent : List ℕ) (is : held ≡ min (sizeIn key) width)
-    (k : IsKey (lettersStore letterValues streams width) key) (few : width ≤ letterRoom) (few-firsts : count ≤ firstRoom) where
+    (k : IsKey (lettersStore letterValues streams width) key) (few : width ≤ letterRoom) (few-streams : streams ≤ streamRoom) (few-firsts : count ≤ firstRoom) where
   abbrev letters-part : List ℕ
   letters-part = take (held + 1 - 1) (drop 1 key)
 
@@ -50,7 +50,7 @@ module _ (letterValues : List ℤ) (streams width count held : ℕ) (key recent 
   part-values p h =
       let l : p < held = omega (arith, letters-part-long) in
       let e : getD letters-part p 0 ≡ getD key (suc p) 0 = getD-take (held + 1 - 1) (drop 1 key) p 0 (omega arith) ∙ getD-drop 1 key p 0 ∙ ap (λ n. getD key n 0) (omega arith) in
-      rw e (k .letters p (omega arith) .inside)
+      rw e (omega (arith, k .letters p (omega arith) .inside))
 
   firsts-is : firsts-part ≡ firstsIn count key
   firsts-is = let e : 7 + count - 7 ≡ count = omega arith in ap (λ n. take n (drop 7 key)) e
@@ -83,7 +83,7 @@ module _ {letterValues : List ℤ} {streams width count : ℕ} {key recent : Lis
       → take ((held + 1) * streams) window′ ≡ windowOf streams letterValues (lettersIn width key ++ (a ∷ []))
   values-after window′ put = put ∙ ap (_++ letterAt streams letterValues a) (ap (λ n. take (n * streams) window) is ∙ p .values) ∙ sym (windowOf-snoc streams letterValues (lettersIn width key) a)
 
-  pub prepared-again : width ≤ letterRoom → streams ≤ 8 → (recent′ : List ℕ) (window′ : List ℤ) → take (held + 1) recent′ ≡ take held recent ++ (a ∷ [])
+  pub prepared-again : width ≤ letterRoom → streams ≤ streamRoom → (recent′ : List ℕ) (window′ : List ℤ) → take (held + 1) recent′ ≡ take held recent ++ (a ∷ [])
       → take ((held + 1) * streams) window′ ≡ take (held * streams) window ++ letterAt streams letterValues a → length recent′ ≡ length recent → length window′ ≡ length window
       → Prepared letterValues streams width count key recent′ window′ firsts
   prepared-again few few-streams recent′ window′ letter-put values-put recent-same window-same =

@@ -18,7 +18,7 @@ use Rattle.automaton.specs.Stored.{entry-at}
 use Rattle.meaning.specs.Arithmetic.{Arithmetic}
 use Rattle.explore.specs.Chains.{keySize, rowAt, Tables, Finds, Inserts}
 use Rattle.explore.specs.Key.{letterRoom, sizeIn}
-use Rattle.explore.specs.Step.{Store, judgedAfter, keyAfter, IsReady, HasValues, IsKey}
+use Rattle.explore.specs.Step.{Store, judgedAfter, keyAfter, streamRoom, IsReady, HasValues, IsKey}
 use Rattle.explore.specs.Search.{startKey, everyMark, flagOf, Settled, Followed, Over, Searched, Turn, Reach, Reach.start, Reach.step, Known, IsRow, IsLent}
 use Rattle.explore.proofs.PreparedLaws.{one-more}
 use Rattle.explore.proofs.StepLaws.{keyAfter-key}
@@ -146,10 +146,10 @@ module _ (A : Arithmetic) (K : Store) (letters limit every : ℕ) where
   start-key : IsKey K startKey
   start-key = record { long = refl; letters = λ p h. absurd (not-suc-le-zero (let z : p < 0 = omega arith in z)) }
 
-  pub letter-values : letters * K .streams ≤ length (K .letterValues) → (a : ℕ) → a < letters → HasValues K a
-  letter-values h a l = record { inside = row-fits a letters (K .streams) (length (K .letterValues)) l h }
+  pub letter-values : letters * K .streams + streamRoom ≤ length (K .letterValues) → (a : ℕ) → a < letters → HasValues K a
+  letter-values h a l = record { inside = omega (arith, row-fits a letters (K .streams) (letters * K .streams) l (omega arith)) }
 
-  pub reach-key : K .width ≤ letterRoom → letters * K .streams ≤ length (K .letterValues) → {key : List ℕ} → Reach A K letters key → IsKey K key
+  pub reach-key : K .width ≤ letterRoom → letters * K .streams + streamRoom ≤ length (K .letterValues) → {key : List ℕ} → Reach A K letters key → IsKey K key
   reach-key room h start = start-key
   reach-key room h (step {key} a l r e) = keyAfter-key A K key a (reach-key room h r) room (letter-values h a l)
 

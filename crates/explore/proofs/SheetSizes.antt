@@ -1,7 +1,8 @@
 -- The stored form of an accepted sheet keeps the bounds that the search depends on, and the table of its letters' values that `fill_letters` writes
 -- holds its letters. So what is left to show of a sheet's lists is that they are its stored form, and of the tables that they are long enough.
-use Prim.Native.Nat.{ℕ, _*_, _≤_, _<_}
-use native.Mathlib.Nat.{le-trans, mul-le-mul-left, mul-le-mul-right}
+use Prim.Native.Nat.{ℕ, _+_, _*_, _≤_, _<_}
+use native.Mathlib.Omega.{arith}
+use native.Mathlib.Nat.{mul-le-mul}
 use mathlib.Core.Path.{_≡_, sym, _∙_, ap₂, subst}
 use mathlib.Core.Bool.{Bool, true}
 use mathlib.Core.List.{List, map}
@@ -12,11 +13,11 @@ use Rattle.meaning.specs.Expression.{Constraint, Stream, Sheet}
 use Rattle.meaning.specs.Letter.{letterCount}
 use Rattle.sheet.specs.Accepted.{Accepted}
 use Rattle.nodes.specs.Bounds.{lowsOf, highsOf}
-use Rattle.nodes.specs.Postfix.{StoredConstraint, storedConstraints}
+use Rattle.nodes.specs.Postfix.{Node, StoredConstraint, storedConstraints}
 use Rattle.letters.specs.Described.{described, hasRoom, withLetters}
 use Rattle.letters.proofs.AllLetters.{room-there, hasRoom-unnamed, withLetters-unnamed, withLetters-letter}
 use Rattle.explore.specs.Chains.{keySize}
-use Rattle.explore.specs.Step.{Store, IsReady}
+use Rattle.explore.specs.Step.{Store, streamRoom, IsReady}
 use Rattle.explore.specs.Search.{everyMark, Searched}
 use Rattle.explore.specs.Exploration.{Lent, IsExplorable, ExploresStored}
 use Rattle.explore.specs.Rows.{ExploreOutcome}
@@ -31,8 +32,8 @@ use Rattle.marks.proofs.Laws.{says-holds}
 part-long : (cs : List Constraint) (f : StoredConstraint → ℕ) → length (map f (storedConstraints 0 0 cs)) ≡ length cs
 part-long cs f = length-map (storedConstraints 0 0 cs) f ∙ constraints-long 0 0 cs
 
-pub accepted-ready : {A : Arithmetic} (s : Sheet) (values : List ℤ) → Accepted A s → IsReady (storedSheet s values)
-accepted-ready s values accepted =
+pub accepted-ready : {A : Arithmetic} (s : Sheet) (behind : List Node) (values : List ℤ) → Accepted A s → IsReady (storedSheet s behind values)
+accepted-ready s behind values accepted =
     let cs = s .constraints in
     let relations = part-long cs (λ (t : StoredConstraint). t .relation) in
     record {
@@ -49,10 +50,10 @@ module _ {A : Arithmetic} (s : Sheet) (accepted : Accepted A s) where
   ss = s .streams
 
   -- The sheet can be explored in tables with room for as many rows as the limit.
-  pub accepted-explorable : (values : List ℤ) (limit : ℕ) (t : Lent) → letterCount ss * length ss ≤ length values → 0 < limit → limit ≤ 4096 → limit * keySize ≤ length (t .keys)
-      → limit ≤ length (t .heads) → limit ≤ length (t .links) → limit * letterCount ss ≤ length (t .entries) → limit ≤ length (t .flags) → IsExplorable (storedSheet s values) (letterCount ss) limit t
-  accepted-explorable values limit t letters some few keys heads links entries flags = (
-    accepted-ready s values accepted,
+  pub accepted-explorable : (behind : List Node) (values : List ℤ) (limit : ℕ) (t : Lent) → letterCount ss * length ss + streamRoom ≤ length values → 0 < limit → limit ≤ 4096 → limit * keySize ≤ length (t .keys)
+      → limit ≤ length (t .heads) → limit ≤ length (t .links) → limit * letterCount ss ≤ length (t .entries) → limit ≤ length (t .flags) → IsExplorable (storedSheet s behind values) (letterCount ss) limit t
+  accepted-explorable behind values limit t letters some few keys heads links entries flags = (
+    accepted-ready s behind values accepted,
     record {
       few-letters = accepted .letters;
       values = letters;
@@ -68,9 +69,9 @@ module _ {A : Arithmetic} (s : Sheet) (accepted : Accepted A s) where
 
   -- ---- the letters' values
 
-  -- A list of 8,192 numbers has room for the letters of every accepted sheet.
-  pub letters-fit : (room : ℕ) → 1024 * 8 ≤ room → letterCount ss * length ss ≤ room
-  letters-fit room h = le-trans (le-trans (mul-le-mul-right (length ss) (accepted .letters)) (mul-le-mul-left 1024 (accepted .streamCount))) h
+  -- Where there are at most so many letters, a list with 8 numbers for each, and 8 more, has room for their values.
+  pub letters-fit : (most room : ℕ) → letterCount ss ≤ most → most * streamRoom + streamRoom ≤ room → letterCount ss * length ss + streamRoom ≤ room
+  letters-fit most room few h = omega (arith, mul-le-mul few (accepted .streamCount))
 
   module _ {lows highs : List ℤ} (out : List ℤ) (l : lows ≡ lowsOf ss) (h : highs ≡ highsOf ss) (fits : letterCount ss * length ss ≤ length out) where
     sheet-room : hasRoom ss (length out) ≡ true

@@ -1,6 +1,6 @@
 -- The sizes of a stored sheet and of lent tables: the tests of their lengths say whether the sheet can be explored in the tables, and what
 -- `explore_stored` answers follows from what the search leaves.
-use Prim.Native.Nat.{ℕ, _*_, _≤_, _<_}
+use Prim.Native.Nat.{ℕ, _+_, _*_, _≤_, _<_}
 use native.Mathlib.Omega.{arith}
 use native.Mathlib.Nat.{le-trans, mul-le-mul-left, mul-le-mul-right}
 use mathlib.Core.Path.{_≡_, refl}
@@ -9,7 +9,7 @@ use lib.ListN.{length}
 use Rattle.meaning.specs.Arithmetic.{Arithmetic}
 use Rattle.explore.specs.Chains.{keySize}
 use Rattle.explore.specs.Key.{letterRoom, firstRoom}
-use Rattle.explore.specs.Step.{Store, IsReady}
+use Rattle.explore.specs.Step.{Store, streamRoom, IsReady}
 use Rattle.explore.specs.Search.{everyMark, Searched, IsLent}
 use Rattle.explore.specs.Exploration.{Lent, IsExplorable, ExploresStored}
 
@@ -21,7 +21,7 @@ product-small a b h k = le-trans (mul-le-mul-right b h) (mul-le-mul-left 4096 k)
 
 abbrev ReadySizes : Store → Type 0
 ReadySizes K =
-    (K .width ≤ letterRoom) × (K .streams ≤ 8) × (length (K .lefts) ≡ length (K .relations)) × (length (K .rights) ≡ length (K .relations)) × (length (K .relations) ≤ 32) × (length (K .firstNodes) ≤ firstRoom)
+    (K .width ≤ letterRoom) × (K .streams ≤ streamRoom) × (length (K .lefts) ≡ length (K .relations)) × (length (K .rights) ≡ length (K .relations)) × (length (K .relations) ≤ 32) × (length (K .firstNodes) ≤ firstRoom)
 
 pub sizes-ready : {K : Store} → ReadySizes K → IsReady K
 sizes-ready h = record { few-letters = h .0; few-streams = h .1; lefts-long = h .2; rights-long = h .3; few-constraints = h .4; few-firsts = h .5 }
@@ -31,7 +31,7 @@ ready-sizes r = (r .few-letters, r .few-streams, r .lefts-long, r .rights-long, 
 
 abbrev LentSizes : Store → (letters limit : ℕ) → Lent → Type 0
 LentSizes K letters limit t =
-    (letters ≤ 1024) × (letters * K .streams ≤ length (K .letterValues)) × (0 < limit) × (limit ≤ 4096) × (limit * keySize ≤ length (t .keys)) × (limit ≤ length (t .heads)) × (limit ≤ length (t .links)) × (limit * letters ≤ length (t .entries)) × (limit ≤ length (t .flags))
+    (letters ≤ 1024) × (letters * K .streams + streamRoom ≤ length (K .letterValues)) × (0 < limit) × (limit ≤ 4096) × (limit * keySize ≤ length (t .keys)) × (limit ≤ length (t .heads)) × (limit ≤ length (t .links)) × (limit * letters ≤ length (t .entries)) × (limit ≤ length (t .flags))
 
 lent-sizes : {K : Store} {letters limit : ℕ} {t : Lent} → IsLent K letters limit (t .keys) (t .heads) (t .links) (t .entries) (t .flags) → LentSizes K letters limit t
 lent-sizes l = (l .few-letters, l .values, l .some-row, l .few-rows, l .keys-room, l .heads-room, l .links-room, l .entries-room, l .flags-room)

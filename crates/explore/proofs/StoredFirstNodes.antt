@@ -5,7 +5,7 @@ use native.Mathlib.Omega.{arith}
 use native.Mathlib.Decide.{decLt}
 use mathlib.Core.Path.{_≡_, refl, sym, _∙_, ap, ap₂, subst}
 use mathlib.Core.Bool.{true}
-use mathlib.Core.List.{List, [], _∷_, _++_, map, map-append, append-nil}
+use mathlib.Core.List.{List, [], _∷_, _++_, map, map-append}
 use lib.ListN.{length, length-append, length-map, List·getD-eq-default}
 use Rattle.meaning.specs.Value.{Value}
 use Rattle.meaning.specs.Arithmetic.{Arithmetic, LawfulArithmetic}
@@ -94,12 +94,15 @@ first-inside l {p = p} (storedFirst s x) = by (decLt p (length l))
         let e : _≡_ {A = ℕ} 2 0 = sym (x .kind) ∙ List·getD-eq-default (map (λ (y : Node). y .kind) l) 0 {n = p} (omega (arith, length-map l (λ (y : Node). y .kind))) in
         absurd (omega arith)
 
-module _ {A : Arithmetic} (lawful : LawfulArithmetic A) (s : Sheet) (accepted : Accepted A s) (lawfulRecord : Record) (letters : OfLetters (s .streams) lawfulRecord) (long : D (s .constraints) < length lawfulRecord) (stored : List Value) where
+module _ {A : Arithmetic} (lawful : LawfulArithmetic A) (s : Sheet) (accepted : Accepted A s) (lawfulRecord : Record) (letters : OfLetters (s .streams) lawfulRecord) (long : D (s .constraints) < length lawfulRecord) (behind : List Node) (stored : List Value) where
   abbrev ss : List Stream
   ss = s .streams
 
   abbrev cs : List Constraint
   cs = s .constraints
+
+  abbrev nodes : List Node
+  nodes = allNodes 0 0 cs ++ behind
 
   abbrev W : View
   W = view (flat lawfulRecord) (length ss) stored true
@@ -107,7 +110,7 @@ module _ {A : Arithmetic} (lawful : LawfulArithmetic A) (s : Sheet) (accepted : 
   abbrev Known : Expression → Type 0
   Known e = Fine A ss (first e) × (reach e ≤ D cs)
 
-  first-node : {n k p : ℕ} {e : Expression} → StoredAt (nodesOf (allNodes 0 0 cs)) n k (first e) (suc p) → Known e → nodeValue A (nodesOf (allNodes 0 0 cs)) W p 0 .value ≡ value A (streamsOf lawfulRecord) e 0
+  first-node : {n k p : ℕ} {e : Expression} → StoredAt (nodesOf nodes) n k (first e) (suc p) → Known e → nodeValue A (nodesOf nodes) W p 0 .value ≡ value A (streamsOf lawfulRecord) e 0
   unfolding value reach
   first-node {n} {k} {p} {e} st h =
       let w = endless s accepted lawful lawfulRecord letters long in
@@ -115,13 +118,13 @@ module _ {A : Arithmetic} (lawful : LawfulArithmetic A) (s : Sheet) (accepted : 
       let shown = record-letters ss (accepted .someStream) lawfulRecord letters stored true in
       let near : 0 + reach (first e) < places W = omega (arith, all-places, h .1) in
       ap (λ v. v .value)
-      (nodeValue-value A (allNodes 0 0 cs) W w (λ k q b l. shown .shows k q b l ∙ sym (lasting-same (streamsOf lawfulRecord) (length lawfulRecord) k q (omega (arith, all-places)))) 0 (first e) st (first-inside (allNodes 0 0 cs) st) refl (h .0 .names) near
+      (nodeValue-value A nodes W w (λ k q b l. shown .shows k q b l ∙ sym (lasting-same (streamsOf lawfulRecord) (length lawfulRecord) k q (omega (arith, all-places)))) 0 (first e) st (first-inside nodes st) refl (h .0 .names) near
       (whole-met lawful ss w (endless-ranged s accepted lawful lawfulRecord letters long) (first e) 0 (h .0 .names) (h .0 .bounds)))
       ∙ value-near A w (streamsOf lawfulRecord) (length lawfulRecord) (lasting-same (streamsOf lawfulRecord) (length lawfulRecord)) e 0 (omega (arith, h .1))
 
   -- In a whole record each first's node has its value.
-  pub first-nodes : {Y : Type 0} (f : Value → Y) → map (λ p. f (nodeValue A (nodesOf (allNodes 0 0 cs)) W p 0 .value)) (allFirstPlaces 0 cs) ≡ map (λ e. f (value A (streamsOf lawfulRecord) e 0)) (allFirsts cs)
+  pub first-nodes : {Y : Type 0} (f : Value → Y) → map (λ p. f (nodeValue A (nodesOf nodes) W p 0 .value)) (allFirstPlaces 0 cs) ≡ map (λ e. f (value A (streamsOf lawfulRecord) e 0)) (allFirsts cs)
   first-nodes f =
-      allPlaces-map (nodesOf (allNodes 0 0 cs)) Known _ _ (λ n k p e st h. ap f (first-node st h)) 0 0 cs
-      (subst (λ l. Holds (nodesOf l) 0 (allNodes 0 0 cs)) (append-nil (allNodes 0 0 cs)) (nodes-hold [] (allNodes 0 0 cs) []))
+      allPlaces-map (nodesOf nodes) Known _ _ (λ n k p e st h. ap f (first-node st h)) 0 0 cs
+      (nodes-hold [] (allNodes 0 0 cs) behind)
       (member-All Known (allFirsts cs) (λ e m. (All-member (λ f. Fine A ss (first f)) (firsts-fine s accepted) m, first-within cs e m)))

@@ -21,6 +21,7 @@ use Rattle.meaning.specs.Situation.{firstValues, untilMarks}
 use Rattle.meaning.proofs.Facts.{length-snoc}
 use Rattle.meaning.proofs.Lawful.{firstValues-append}
 use Rattle.sheet.specs.Accepted.{Accepted}
+use Rattle.nodes.specs.Postfix.{Node}
 use Rattle.nodes.specs.Evaluate.{View, nodeValue}
 use Rattle.explore.specs.Key.{encoded, raised, marksNumber, sizeIn, firstsIn, width, keyOf}
 use Rattle.explore.specs.Step.{Store, unlawful, marked, viewAfter, lettersAfter, firstsFrom, judgedAfter, keyAfter}
@@ -43,7 +44,7 @@ answer-ok false m = refl
 
 -- ---- one more letter
 
-module _ {A : Arithmetic} (lawful : LawfulArithmetic A) (s : Sheet) (accepted : Accepted A s) (values : List ℤ) (has : HasLetters s values)
+module _ {A : Arithmetic} (lawful : LawfulArithmetic A) (s : Sheet) (accepted : Accepted A s) (behind : List Node) (values : List ℤ) (has : HasLetters s values)
     (r : List ℕ) (a : ℕ) (below : AllBelow (letterNumbers A s) r) (here : a < letterNumbers A s) (is-lawful : isLawful A s r ≡ true) where
   abbrev ss : List Stream
   ss = s .streams
@@ -55,7 +56,7 @@ module _ {A : Arithmetic} (lawful : LawfulArithmetic A) (s : Sheet) (accepted : 
   w = width A s
 
   abbrev K : Store
-  K = storedSheet s values
+  K = storedSheet s behind values
 
   abbrev key : List ℕ
   key = keyOf A s r
@@ -73,12 +74,12 @@ module _ {A : Arithmetic} (lawful : LawfulArithmetic A) (s : Sheet) (accepted : 
   numbers = firstsIn (length (allFirstPlaces 0 cs)) key
 
   pub key-allows : judgedAfter A K key a .ok ≡ isLawful A s more
-  key-allows = ap (λ x. x .ok) (judged-after lawful s accepted values has r a below here is-lawful) ∙ answer-ok (isLawful A s more) (marksNumber (untilMarks A cs longer))
+  key-allows = ap (λ x. x .ok) (judged-after lawful s accepted behind values has r a below here is-lawful) ∙ answer-ok (isLawful A s more) (marksNumber (untilMarks A cs longer))
 
   module _ (more-lawful : isLawful A s more ≡ true) where
     new-marks : judgedAfter A K key a .marks ≡ marksNumber (untilMarks A cs longer)
     new-marks =
-        ap (λ x. x .marks) (judged-after lawful s accepted values has r a below here is-lawful)
+        ap (λ x. x .marks) (judged-after lawful s accepted behind values has r a below here is-lawful)
         ∙ ap (λ b. cond b (marked (marksNumber (untilMarks A cs longer))) unlawful .marks) more-lawful
 
     -- The new key, from its letters and the numbers of its firsts.
@@ -88,11 +89,11 @@ module _ {A : Arithmetic} (lawful : LawfulArithmetic A) (s : Sheet) (accepted : 
     new-key letters firsts l f = λ i. encoded (length (l i)) (drop (length (l i) - w) (l i)) (f i) (new-marks i)
 
     whole-letters : length r ≤ w → lettersAfter K key a ≡ more
-    whole-letters h = let e : length r - w ≡ 0 = omega arith in after-letters lawful s accepted values has r a below here ∙ ap (λ n. drop n r ++ (a ∷ [])) e
+    whole-letters h = let e : length r - w ≡ 0 = omega arith in after-letters lawful s accepted behind values has r a below here ∙ ap (λ n. drop n r ++ (a ∷ [])) e
 
     leads-whole : length r < w → keyAfter A K key a ≡ keyOf A s more
     leads-whole h =
-        let size = key-size lawful s accepted values has r in
+        let size = key-size lawful s accepted behind values has r in
         let none : firstsFrom A K W (sizeIn key) numbers ≡ [] =
         (λ i. cond (le-leb (sizeIn key) w (omega (arith, size)) i) (cond (lt-ltb (sizeIn key) w (omega (arith, size)) i) [] (map (λ node. raised (nodeValue A (K .nodes) W node 0 .value)) (K .firstNodes))) numbers) in
         let e : length more - w ≡ 0 = omega (arith, length-snoc r a) in
@@ -103,11 +104,11 @@ module _ {A : Arithmetic} (lawful : LawfulArithmetic A) (s : Sheet) (accepted : 
     leads-first : length r ≡ w → keyAfter A K key a ≡ keyOf A s more
     unfolding firstValues
     leads-first h =
-        let size = key-size lawful s accepted values has r in
+        let size = key-size lawful s accepted behind values has r in
         let long : length longer ≡ suc (length r) = length-map more (letterOf ss) ∙ length-snoc r a in
         let stored : firstsFrom A K W (sizeIn key) numbers ≡ map raised (firstValues A cs longer) =
-        (λ i. cond (le-leb (sizeIn key) w (omega (arith, size)) i) (cond (le-ltb (sizeIn key) w (omega (arith, size)) i) [] (map (λ node. raised (nodeValue A (K .nodes) (view-whole lawful s accepted values has r a below here (omega arith) i) node 0 .value)) (K .firstNodes))) numbers)
-        ∙ first-nodes lawful s accepted longer (below-letters ss more (below-snoc (letterNumbers A s) r a below here)) (omega (arith, long)) (W .firsts) raised
+        (λ i. cond (le-leb (sizeIn key) w (omega (arith, size)) i) (cond (le-ltb (sizeIn key) w (omega (arith, size)) i) [] (map (λ node. raised (nodeValue A (K .nodes) (view-whole lawful s accepted behind values has r a below here (omega arith) i) node 0 .value)) (K .firstNodes))) numbers)
+        ∙ first-nodes lawful s accepted longer (below-letters ss more (below-snoc (letterNumbers A s) r a below here)) (omega (arith, long)) behind (W .firsts) raised
         ∙ sym (map-map raised (λ e. value A (streamsOf longer) e 0) (allFirsts cs)) in
         let e : length more ≡ suc w = omega (arith, length-snoc r a) in
         new-key more (map raised (firstValues A cs longer)) (whole-letters (omega arith)) stored
@@ -116,18 +117,18 @@ module _ {A : Arithmetic} (lawful : LawfulArithmetic A) (s : Sheet) (accepted : 
 
     leads-cut : w < length r → keyAfter A K key a ≡ keyOf A s more
     leads-cut h =
-        let size = key-size lawful s accepted values has r in
+        let size = key-size lawful s accepted behind values has r in
         let recent = drop (length r - w) r in
         let kept : firstsFrom A K W (sizeIn key) numbers ≡ map raised (firstValues A cs longer) =
         (λ i. cond (lt-leb (sizeIn key) w (omega (arith, size)) i) (cond (ltb (sizeIn key) w) [] (map (λ node. raised (nodeValue A (K .nodes) W node 0 .value)) (K .firstNodes))) numbers)
-        ∙ key-firsts lawful s accepted values has r h
+        ∙ key-firsts lawful s accepted behind values has r h
         ∙ ap (map raised) (sym (firstValues-append A cs (recordOf ss r) (letterOf ss a ∷ []) (omega (arith, length-map r (letterOf ss)))) ∙ ap (firstValues A cs) (sym (map-append (letterOf ss) r (a ∷ [])))) in
         let long : length (recent ++ (a ∷ [])) ≡ suc w = omega (arith, length-snoc recent a, length-drop (length r - w) r) in
         let one : length (recent ++ (a ∷ [])) - w ≡ 1 = omega arith in
         let back : length r - w + 1 ≡ length more - w = omega (arith, length-snoc r a) in
         let letters : drop (length (recent ++ (a ∷ [])) - w) (recent ++ (a ∷ [])) ≡ drop (length more - w) more =
         ap₂ drop one (sym (drop-append-le (length r - w) r (a ∷ []) (omega arith))) ∙ drop-drop 1 (length r - w) more ∙ ap (λ n. drop n more) back in
-        new-key (recent ++ (a ∷ [])) (map raised (firstValues A cs longer)) (after-letters lawful s accepted values has r a below here) kept
+        new-key (recent ++ (a ∷ [])) (map raised (firstValues A cs longer)) (after-letters lawful s accepted behind values has r a below here) kept
         ∙ (λ i. encoded (long i) (letters i) (map raised (firstValues A cs longer)) (marksNumber (untilMarks A cs longer)))
         ∙ sym (key-cut A s more (omega (arith, length-snoc r a)))
 
@@ -141,26 +142,26 @@ module _ {A : Arithmetic} (lawful : LawfulArithmetic A) (s : Sheet) (accepted : 
 
 -- ---- the laws of keys
 
-every-mark : (s : Sheet) (values : List ℤ) → everyMark 0 (storedSheet s values .relations) ≡ ones (length (allUntils (s .constraints)))
+every-mark : (s : Sheet) → everyMark 0 (storedSheet s [] [] .relations) ≡ ones (length (allUntils (s .constraints)))
 unfolding ones
-every-mark s values =
+every-mark s =
     let e : 0 + length (allUntils (s .constraints)) ≡ length (allUntils (s .constraints)) = omega arith in
     ap (everyMark 0) (stored-relations 0 0 (s .constraints)) ∙ everyMark-ones (s .constraints) 0 ∙ ap ones e
 
 module _ {A : Arithmetic} (lawful : LawfulArithmetic A) {s : Sheet} (accepted : Accepted A s) where
-  sheet-laws : (values : List ℤ) → HasLetters s values → KeyLaws A s (storedSheet s values) (everyMark 0 (storedSheet s values .relations))
-  sheet-laws values has =
+  sheet-laws : (behind : List Node) (values : List ℤ) → HasLetters s values → KeyLaws A s (storedSheet s behind values) (everyMark 0 (storedSheet s behind values .relations))
+  sheet-laws behind values has =
       record {
         empty = key-empty A s;
-        allows = λ r h l a b. key-allows lawful s accepted values has r a h b l;
-        leads = λ r h l a b m. key-leads lawful s accepted values has r a h b l m;
+        allows = λ r h l a b. key-allows lawful s accepted behind values has r a h b l;
+        leads = λ r h l a b m. key-leads lawful s accepted behind values has r a h b l m;
         key-situation = key-situation A s (accepted .window) (accepted .firsts) (firsts-bounded s accepted lawful);
         situation-key = situation-key A s;
-        flagged = λ r h. key-flag A s (everyMark 0 (storedSheet s values .relations)) (every-mark s values) r;
+        flagged = λ r h. key-flag A s (everyMark 0 (storedSheet s behind values .relations)) (every-mark s) r;
       }
 
   pub key-laws : {K : Store} → IsStored s K → KeyLaws A s K (everyMark 0 (K .relations))
-  key-laws {K} k = subst (λ x. KeyLaws A s x (everyMark 0 (x .relations))) (sym (k .same)) (sheet-laws (K .letterValues) (k .letters))
+  key-laws {K} k = subst (λ x. KeyLaws A s x (everyMark 0 (x .relations))) (sym (k .same)) (sheet-laws (k .behind) (K .letterValues) (k .letters))
 
   -- What the search leaves is the exploration of the sheet.
   pub stored-outcome : {K : Store} {limit n : ℕ} {keys entries flags : List ℕ} → IsStored s K → (full : Bool)
@@ -170,10 +171,11 @@ module _ {A : Arithmetic} (lawful : LawfulArithmetic A) {s : Sheet} (accepted : 
 -- ---- lists that are a stored sheet
 
 -- A store is the stored form of a sheet if each of its parts is that part of it.
-pub parts-stored : (s : Sheet) (K : Store) → (K .nodes ≡ storedSheet s [] .nodes) → (K .relations ≡ storedSheet s [] .relations) → (K .lefts ≡ storedSheet s [] .lefts) → (K .rights ≡ storedSheet s [] .rights)
-    → (K .firstNodes ≡ storedSheet s [] .firstNodes) → (K .streams ≡ storedSheet s [] .streams) → (K .ahead ≡ storedSheet s [] .ahead) → (K .width ≡ storedSheet s [] .width) → HasLetters s (K .letterValues) → IsStored s K
-parts-stored s K nodes relations lefts rights firstNodes streams ahead width letters =
+pub parts-stored : (s : Sheet) (behind : List Node) (K : Store) → (K .nodes ≡ storedSheet s behind [] .nodes) → (K .relations ≡ storedSheet s behind [] .relations) → (K .lefts ≡ storedSheet s behind [] .lefts) → (K .rights ≡ storedSheet s behind [] .rights)
+    → (K .firstNodes ≡ storedSheet s behind [] .firstNodes) → (K .streams ≡ storedSheet s behind [] .streams) → (K .ahead ≡ storedSheet s behind [] .ahead) → (K .width ≡ storedSheet s behind [] .width) → HasLetters s (K .letterValues) → IsStored s K
+parts-stored s behind K nodes relations lefts rights firstNodes streams ahead width letters =
     record {
+      behind = behind;
       same = λ i. record { nodes = nodes i; relations = relations i; lefts = lefts i; rights = rights i; firstNodes = firstNodes i; letterValues = K .letterValues; streams = streams i; ahead = ahead i; width = width i };
       letters = letters;
     }

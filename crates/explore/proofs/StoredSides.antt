@@ -25,7 +25,7 @@ use Rattle.meaning.proofs.Window.{windowValue-value}
 use Rattle.meaning.proofs.Lawful.{append-begins, firstValues-begins}
 use Rattle.sheet.specs.Accepted.{Accepted}
 use Rattle.nodes.specs.Code.{relationCode}
-use Rattle.nodes.specs.Postfix.{StoredConstraint, allNodes, storedConstraints}
+use Rattle.nodes.specs.Postfix.{Node, StoredConstraint, allNodes, storedConstraints}
 use Rattle.nodes.specs.Evaluate.{Nodes, nodesOf, View, view, nodeValue}
 use Rattle.nodes.proofs.Postfix.{firstsBefore}
 use Rattle.nodes.proofs.Accepted.{FirstsWithin, IsSide, leftOf, rightOf, accepted-value, accepted-windowValue}
@@ -128,7 +128,7 @@ reads-all relations lefts rights val left right (c ∷ cs) n h =
 
 -- ---- the sides after a key and one more letter
 
-module _ {A : Arithmetic} (lawful : LawfulArithmetic A) (s : Sheet) (accepted : Accepted A s) (values : List ℤ) (has : HasLetters s values)
+module _ {A : Arithmetic} (lawful : LawfulArithmetic A) (s : Sheet) (accepted : Accepted A s) (behind : List Node) (values : List ℤ) (has : HasLetters s values)
     (r : List ℕ) (a : ℕ) (below : AllBelow (letterNumbers A s) r) (here : a < letterNumbers A s) (judged : D (s .constraints) ≤ length r) where
   abbrev ss : List Stream
   ss = s .streams
@@ -149,10 +149,10 @@ module _ {A : Arithmetic} (lawful : LawfulArithmetic A) (s : Sheet) (accepted : 
   window = recordOf ss (recent ++ (a ∷ []))
 
   abbrev known : ℕ
-  known = length (lettersAfter (storedSheet s values) (keyOf A s r) a) - 1
+  known = length (lettersAfter (storedSheet s behind values) (keyOf A s r) a) - 1
 
   known-is : known ≡ min (length r) w
-  known-is = after-known lawful s accepted values has r a below here
+  known-is = after-known lawful s accepted behind values has r a below here
 
   longer-long : length longer ≡ suc (length r)
   longer-long = length-map (r ++ (a ∷ [])) (letterOf ss) ∙ length-snoc r a
@@ -161,10 +161,10 @@ module _ {A : Arithmetic} (lawful : LawfulArithmetic A) (s : Sheet) (accepted : 
   window-long = length-map (recent ++ (a ∷ [])) (letterOf ss) ∙ length-snoc recent a ∙ omega (arith, length-drop (length r - w) r)
 
   abbrev W : View
-  W = viewAfter (storedSheet s values) (keyOf A s r) a
+  W = viewAfter (storedSheet s behind values) (keyOf A s r) a
 
   abbrev nodes : Nodes
-  nodes = nodesOf (allNodes 0 0 cs)
+  nodes = nodesOf (allNodes 0 0 cs ++ behind)
 
   window-shows : (k t : ℕ) → streamsOf window k t ≡ streamsOf longer k (length r - w + t)
   window-shows k t =
@@ -201,8 +201,8 @@ module _ {A : Arithmetic} (lawful : LawfulArithmetic A) (s : Sheet) (accepted : 
         let seen = view (flat window) (length ss) stored false in
         let place : known - D cs ≡ B cs = omega (arith, known-is) in
         let time : length r - w + B cs ≡ length r - D cs = omega arith in
-        (λ j. nodeValue A nodes (view-cut lawful s accepted values has r a below here cut j) i (place j) .value)
-        ∙ ap (λ v. v .value) (accepted-windowValue lawful s accepted seen (streamsOf window) (record-letters ss (accepted .someStream) window letters stored false) c₀ t₀ side refl (B cs) (x .backward)
+        (λ j. nodeValue A nodes (view-cut lawful s accepted behind values has r a below here cut j) i (place j) .value)
+        ∙ ap (λ v. v .value) (accepted-windowValue lawful s accepted seen (streamsOf window) (record-letters ss (accepted .someStream) window letters stored false) behind c₀ t₀ side refl (B cs) (x .backward)
         (omega (arith, record-places ss (accepted .someStream) window letters stored false, window-long, x .ahead)) (omega (arith, stored-long, x .numbered)) (firsts-within f (firsts e) (x .member) st))
         ∙ windowValue-value A (streamsOf longer) (streamsOf window) stored (length r - w) (B cs + D cs) (λ k t h. window-shows k t) e f (B cs) (x .backward) (omega (arith, x .ahead)) st
         ∙ ap (value A (streamsOf longer) e) time
@@ -212,8 +212,8 @@ module _ {A : Arithmetic} (lawful : LawfulArithmetic A) (s : Sheet) (accepted : 
       let x = side-looks cs side in
       let letters = below-letters ss (r ++ (a ∷ [])) (below-snoc (letterNumbers A s) r a below here) in
       let place : known - D cs ≡ length r - D cs = omega (arith, known-is) in
-      (λ j. nodeValue A nodes (view-whole lawful s accepted values has r a below here h j) i (place j) .value)
-      ∙ ap (λ v. v .value) (accepted-value lawful s accepted _ (streamsOf longer) (record-letters ss (accepted .someStream) longer letters _ true) c₀ t₀ side refl (length r - D cs)
+      (λ j. nodeValue A nodes (view-whole lawful s accepted behind values has r a below here h j) i (place j) .value)
+      ∙ ap (λ v. v .value) (accepted-value lawful s accepted _ (streamsOf longer) (record-letters ss (accepted .someStream) longer letters _ true) behind c₀ t₀ side refl (length r - D cs)
       (omega (arith, record-places ss (accepted .someStream) longer letters (W .firsts) true, longer-long, x .ahead)))
 
   side-value : {e : Expression} {i f : ℕ} → IsSide cs c₀ t₀ e i f → nodeValue A nodes W i (known - D cs) .value ≡ value A (streamsOf longer) e (length r - D cs)
@@ -230,16 +230,16 @@ module _ {A : Arithmetic} (lawful : LawfulArithmetic A) (s : Sheet) (accepted : 
   rightNow c = value A (streamsOf longer) (rightSide c) (length r - D cs)
 
   -- Every stored constraint reads as the sheet's, with the values of its sides at the time newly judged.
-  pub constraints-read : Reads (storedSheet s values .relations) (storedSheet s values .lefts) (storedSheet s values .rights) (valueAt A (storedSheet s values) W (known - D cs)) leftNow rightNow 0 cs
+  pub constraints-read : Reads (storedSheet s behind values .relations) (storedSheet s behind values .lefts) (storedSheet s behind values .rights) (valueAt A (storedSheet s behind values) W (known - D cs)) leftNow rightNow 0 cs
   constraints-read =
-      reads-all (storedSheet s values .relations) (storedSheet s values .lefts) (storedSheet s values .rights) (valueAt A (storedSheet s values) W (known - D cs)) leftNow rightNow cs 0
+      reads-all (storedSheet s behind values .relations) (storedSheet s behind values .lefts) (storedSheet s behind values .rights) (valueAt A (storedSheet s behind values) W (known - D cs)) leftNow rightNow cs 0
       (λ j b.
       let stored = storedConstraints 0 0 cs in
       let e : 0 + j ≡ j = omega arith in
       let l : j < length stored = omega (arith, constraints-long 0 0 cs) in (
         ap₂ (λ l k. getD l k 0) (stored-relations 0 0 cs) e ∙ getD-map relationCode cs j c₀ 0 b,
-        ap (λ k. nodeValue A nodes W (getD (storedSheet s values .lefts) k 0) (known - D cs) .value) e
+        ap (λ k. nodeValue A nodes W (getD (storedSheet s behind values .lefts) k 0) (known - D cs) .value) e
             ∙ ap (λ i. nodeValue A nodes W i (known - D cs) .value) (getD-map (λ (t : StoredConstraint). t .left) stored j t₀ 0 l) ∙ side-value (leftOf j b),
-        ap (λ k. nodeValue A nodes W (getD (storedSheet s values .rights) k 0) (known - D cs) .value) e
+        ap (λ k. nodeValue A nodes W (getD (storedSheet s behind values .rights) k 0) (known - D cs) .value) e
             ∙ ap (λ i. nodeValue A nodes W i (known - D cs) .value) (getD-map (λ (t : StoredConstraint). t .right) stored j t₀ 0 l) ∙ side-value (rightOf j b),
       ))

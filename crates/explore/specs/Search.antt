@@ -12,7 +12,7 @@ use Rattle.automaton.specs.Stored.{entry-at}
 use Rattle.meaning.specs.Arithmetic.{Arithmetic}
 use Rattle.explore.specs.Chains.{keySize, rowAt, Tables, Inserts}
 use Rattle.explore.specs.Key.{digit, marksIn}
-use Rattle.explore.specs.Step.{Store, judgedAfter, keyAfter, IsReady}
+use Rattle.explore.specs.Step.{Store, judgedAfter, keyAfter, streamRoom, IsReady}
 
 abbrev pub startKey : List ℕ
 startKey = replicate keySize 0
@@ -91,10 +91,10 @@ module _ (A : Arithmetic) (K : Store) (letters limit every : ℕ) where
     pub done : (s′ a′ : ℕ) → a′ < letters → Before s′ a′ s a → IsRow A K letters keys n (rowAt keys s′) a′ (entry-at letters entries s′ a′)
     pub order : Order letters entries n s a
 
--- The lent tables have room for as many rows as the limit, and every letter's values are there.
+-- The lent tables have room for as many rows as the limit, and every letter's values are there, with room behind them.
 pub record IsLent (K : Store) (letters limit : ℕ) (keys heads links entries flags : List ℕ) : Type 0 where
   pub few-letters : letters ≤ 1024
-  pub values : letters * K .streams ≤ length (K .letterValues)
+  pub values : letters * K .streams + streamRoom ≤ length (K .letterValues)
   pub some-row : 0 < limit
   pub few-rows : limit ≤ 4096
   pub keys-room : limit * keySize ≤ length keys

@@ -129,18 +129,22 @@ module _ (A : Arithmetic) (K : Store) where
 
 -- ---- what is asked of a stored sheet and of keys
 
+-- A letter has a value for each stream, at most 8.
+abbrev pub streamRoom : ℕ
+streamRoom = 8
+
 -- Document 01's bounds, as far as the sizes of tables depend on them.
 pub record IsReady (K : Store) : Type 0 where
   pub few-letters : K .width ≤ letterRoom
-  pub few-streams : K .streams ≤ 8
+  pub few-streams : K .streams ≤ streamRoom
   pub lefts-long : length (K .lefts) ≡ length (K .relations)
   pub rights-long : length (K .rights) ≡ length (K .relations)
   pub few-constraints : length (K .relations) ≤ 32
   pub few-firsts : length (K .firstNodes) ≤ firstRoom
 
--- the letter's values are there
+-- The letter's values are there, and room for 8 from the first of them on: always so many are read, since a copy of a fixed size is quick.
 pub record HasValues (K : Store) (a : ℕ) : Type 0 where
-  pub inside : a * K .streams + K .streams ≤ length (K .letterValues)
+  pub inside : a * K .streams + streamRoom ≤ length (K .letterValues)
 
 pub record IsKey (K : Store) (key : List ℕ) : Type 0 where
   pub long : length key ≡ keySize

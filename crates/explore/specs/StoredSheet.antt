@@ -2,22 +2,22 @@
 -- document 01's term.
 use Prim.Native.Nat.{ℕ, _+_, _<_}
 use mathlib.Core.Path.{_≡_}
-use mathlib.Core.List.{List, map}
+use mathlib.Core.List.{List, _++_, map}
 use lib.IntN.{ℤ}
 use lib.ListN.{length}
 use Rattle.meaning.specs.Expression.{Sheet}
 use Rattle.meaning.specs.Letter.{letterCount, letterOf}
 use Rattle.meaning.specs.Window.{B, D}
-use Rattle.nodes.specs.Postfix.{StoredConstraint, allNodes, storedConstraints}
+use Rattle.nodes.specs.Postfix.{Node, StoredConstraint, allNodes, storedConstraints}
 use Rattle.nodes.specs.FirstPlaces.{allFirstPlaces}
 use Rattle.nodes.specs.Evaluate.{nodesOf}
 use Rattle.explore.specs.Step.{Store, letterAt}
 
--- The stored sheet with these values of its letters.
-abbrev pub storedSheet : Sheet → List ℤ → Store
-storedSheet s values =
+-- The stored sheet with these nodes behind its own and these values of its letters. No side of a constraint reads what stands behind its nodes.
+abbrev pub storedSheet : Sheet → List Node → List ℤ → Store
+storedSheet s behind values =
     record {
-      nodes = nodesOf (allNodes 0 0 (s .constraints));
+      nodes = nodesOf (allNodes 0 0 (s .constraints) ++ behind);
       relations = map (λ (t : StoredConstraint). t .relation) (storedConstraints 0 0 (s .constraints));
       lefts = map (λ (t : StoredConstraint). t .left) (storedConstraints 0 0 (s .constraints));
       rights = map (λ (t : StoredConstraint). t .right) (storedConstraints 0 0 (s .constraints));
@@ -33,5 +33,6 @@ pub record HasLetters (s : Sheet) (values : List ℤ) : Type 0 where
   pub letter : (a : ℕ) → a < letterCount (s .streams) → letterAt (length (s .streams)) values a ≡ letterOf (s .streams) a
 
 pub record IsStored (s : Sheet) (K : Store) : Type 0 where
-  pub same : K ≡ storedSheet s (K .letterValues)
+  pub behind : List Node
+  pub same : K ≡ storedSheet s behind (K .letterValues)
   pub letters : HasLetters s (K .letterValues)

@@ -40,7 +40,8 @@ fn hash(key: &[u32]) -> u64
     h
 }
 
-fn bucket(key: &[u32], m: usize) -> usize
+// The bucket of a key, of which there are m.
+pub fn bucket(key: &[u32], m: usize) -> usize
     requires { ⌜ 0 < m ⌝ }
     ensures { λ r. ⌜ r ≡ bucketOf m (now (key .entry)) ⌝ }
     ensures { λ r. ⌜ r < m ⌝ }
@@ -48,13 +49,12 @@ fn bucket(key: &[u32], m: usize) -> usize
     hash(key) as usize % m
 }
 
-// One more than the row that holds the key, or 0.
-pub fn find(heads: &[u32], links: &[u32], keys: &[u32], n: usize, key: &[u32]) -> usize
+// One more than the row that holds the key, or 0. `h` is the key's bucket.
+pub fn find(heads: &[u32], links: &[u32], keys: &[u32], n: usize, h: usize, key: &[u32]) -> usize
     requires { ⌜ Tables (now heads) (now links) (now keys) n ⌝ }
-    requires { ⌜ length (now key) ≡ keySize ⌝ }
+    requires { ⌜ (length (now key) ≡ keySize) × (h ≡ bucketOf (length (now heads)) (now key)) × (h < length (now heads)) ⌝ }
     ensures { λ r. ⌜ Finds (now (keys .entry)) n (now (key .entry)) r ⌝ }
 {
-    let h = bucket(key, heads.len());
     let mut j = heads[h] as usize;
     while j != 0 {
         let i = j - 1;
@@ -80,14 +80,21 @@ pub fn put(keys: &mut [u32], at: usize, key: &[u32])
     }
 }
 
-// Stores the key as row n.
-pub fn insert(heads: &mut [u32], links: &mut [u32], keys: &mut [u32], n: usize, key: &[u32])
+// Stores the key as row n. `h` is the key's bucket.
+pub fn insert(
+    heads: &mut [u32],
+    links: &mut [u32],
+    keys: &mut [u32],
+    n: usize,
+    h: usize,
+    key: &[u32],
+)
     requires { ⌜ Tables (now heads) (now links) (now keys) n ⌝ }
+    requires { ⌜ (h ≡ bucketOf (length (now heads)) (now key)) × (h < length (now heads)) ⌝ }
     requires { ⌜ (length (now key) ≡ keySize) × (n < 65535) × (n < length (now links)) × (n * keySize + keySize ≤ length (now keys)) ⌝ }
     ensures { λ r. ⌜ Tables (now (heads .exit)) (now (links .exit)) (now (keys .exit)) (n + 1) ⌝ }
     ensures { λ r. ⌜ Inserts (now (keys .entry)) (now (keys .exit)) n (now (key .entry)) ⌝ }
 {
-    let h = bucket(key, heads.len());
     put(keys, n * 16, key);
     links[n] = heads[h];
     heads[h] = (n + 1) as u32;

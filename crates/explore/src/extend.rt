@@ -18,13 +18,13 @@ ghost use Rattle.meaning.specs.Arithmetic.{cutTowardZero};
 ghost use Rattle.nodes.specs.Evaluate.{stored, view, nodeValue};
 ghost use Rattle.explore.specs.Chains.{keySize};
 ghost use Rattle.explore.specs.Key.{letterRoom, firstRoom, raised};
-ghost use Rattle.explore.specs.Step.{marked, judgedFrom, storeOf, IsReady, HasValues, IsKey, lettersStore, Prepared, Finished, Extended};
+ghost use Rattle.explore.specs.Step.{streamRoom, marked, judgedFrom, storeOf, IsReady, HasValues, IsKey, lettersStore, Prepared, Finished, Extended};
 
 // Judges the record with one more letter at the time that is newly judged, D letters back; before D letters are there, nothing is judged.
 fn judge_letter(
-    kinds: &[u8],
-    values: &[i64],
-    starts: &[u16],
+    kinds: &[u8; 1024],
+    values: &[i64; 1024],
+    starts: &[u16; 1024],
     relations: &[u8],
     lefts: &[u16],
     rights: &[u16],
@@ -60,9 +60,9 @@ fn judge_letter(
 
 // How many firsts the longer record's key holds, and their numbers: none before the cut, their values at the cut, and later those of the key.
 fn firsts_after(
-    kinds: &[u8],
-    values: &[i64],
-    starts: &[u16],
+    kinds: &[u8; 1024],
+    values: &[i64; 1024],
+    starts: &[u16; 1024],
     first_nodes: &[u16],
     window: &[i64],
     streams: usize,
@@ -100,9 +100,9 @@ fn firsts_after(
 
 // Whether a lawful record stays lawful with its newest letter; if so, `fresh` gets the longer record's key. `recent` has the letters that are known.
 fn finish(
-    kinds: &[u8],
-    values: &[i64],
-    starts: &[u16],
+    kinds: &[u8; 1024],
+    values: &[i64; 1024],
+    starts: &[u16; 1024],
     relations: &[u8],
     lefts: &[u16],
     rights: &[u16],
@@ -180,7 +180,7 @@ pub fn prepare(
     window: &mut [i64],
     firsts: &mut [i64],
 )
-    requires { ⌜ (width ≤ letterRoom) × (streams ≤ 8) × (count ≤ firstRoom) ⌝ }
+    requires { ⌜ (width ≤ letterRoom) × (streams ≤ streamRoom) × (count ≤ firstRoom) ⌝ }
     requires { ⌜ IsKey (lettersStore (now «letter_values») streams width) (now key) ⌝ }
     requires { ⌜ (length (now recent) ≡ 7) × (length (now window) ≡ 56) × (length (now firsts) ≡ 8) ⌝ }
     ensures { λ r. ⌜ Prepared (now («letter_values» .entry)) streams width count (now (key .entry)) (now (recent .exit)) (now (window .exit)) (now (firsts .exit)) ⌝ }
@@ -196,9 +196,9 @@ pub fn prepare(
 // Whether the record of a key stays lawful with one more letter; if so, `fresh` gets the longer record's key. What is prepared for the key stays
 // so: only the letter and its values are put after it.
 pub fn extend(
-    kinds: &[u8],
-    values: &[i64],
-    starts: &[u16],
+    kinds: &[u8; 1024],
+    values: &[i64; 1024],
+    starts: &[u16; 1024],
     relations: &[u8],
     lefts: &[u16],
     rights: &[u16],

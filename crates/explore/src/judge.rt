@@ -85,9 +85,9 @@ fn sign_holds(relation: u8, a: i64, b: i64) -> bool
 
 // The value of a node at a place of the window.
 pub fn value_of(
-    kinds: &[u8],
-    values: &[i64],
-    starts: &[u16],
+    kinds: &[u8; 1024],
+    values: &[i64; 1024],
+    starts: &[u16; 1024],
     root: usize,
     window: &[i64],
     streams: usize,
@@ -113,9 +113,9 @@ pub fn value_of(
 
 // Whether an until is done: it was, or its right side is not 0.
 fn is_done(
-    kinds: &[u8],
-    values: &[i64],
-    starts: &[u16],
+    kinds: &[u8; 1024],
+    values: &[i64; 1024],
+    starts: &[u16; 1024],
     right: usize,
     window: &[i64],
     streams: usize,
@@ -145,9 +145,9 @@ fn is_done(
 
 // Whether an until that is done or not is permitted: its left side matters only where it is not done.
 fn is_permitted(
-    kinds: &[u8],
-    values: &[i64],
-    starts: &[u16],
+    kinds: &[u8; 1024],
+    values: &[i64; 1024],
+    starts: &[u16; 1024],
     left: usize,
     window: &[i64],
     streams: usize,
@@ -176,9 +176,9 @@ fn is_permitted(
 
 // Whether the sign of a constraint holds between its sides.
 fn sides_hold(
-    kinds: &[u8],
-    values: &[i64],
-    starts: &[u16],
+    kinds: &[u8; 1024],
+    values: &[i64; 1024],
+    starts: &[u16; 1024],
     relation: u8,
     left: usize,
     right: usize,
@@ -217,9 +217,9 @@ fn sides_hold(
 
 // Judges every constraint once, in order, at a place of the window.
 pub fn judge(
-    kinds: &[u8],
-    values: &[i64],
-    starts: &[u16],
+    kinds: &[u8; 1024],
+    values: &[i64; 1024],
+    starts: &[u16; 1024],
     relations: &[u8],
     lefts: &[u16],
     rights: &[u16],

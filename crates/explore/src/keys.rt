@@ -11,7 +11,7 @@ ghost use Rattle.meaning.specs.Arithmetic.{cutTowardZero};
 ghost use Rattle.nodes.specs.Evaluate.{stored, view, nodeValue};
 ghost use Rattle.explore.specs.Chains.{keySize};
 ghost use Rattle.explore.specs.Key.{letterRoom, firstRoom, encoded, raised, lowered};
-ghost use Rattle.explore.specs.Step.{letterAt, windowOf};
+ghost use Rattle.explore.specs.Step.{streamRoom, letterAt, windowOf};
 
 // A value within the magnitude bound as a natural number, and back.
 fn raised(z: i64) -> u32
@@ -70,7 +70,8 @@ pub fn fill_window(window: &mut [i64], letter_values: &[i64], streams: usize, le
     }
 }
 
-// Puts a letter after the letters that are held, and its values after theirs.
+// Puts a letter after the letters that are held, and its values after theirs. As many values are copied as a letter can have, so that the copy
+// has one size; what stands behind the letter's own is free.
 pub fn add_letter(
     recent: &mut [u32],
     window: &mut [i64],
@@ -79,13 +80,13 @@ pub fn add_letter(
     held: usize,
     letter: u32,
 )
-    requires { ⌜ (held < length (now recent)) × (held * streams + streams ≤ length (now window)) × (letter * streams + streams ≤ length (now «letter_values»)) ⌝ }
+    requires { ⌜ (held < length (now recent)) × (streams ≤ streamRoom) × (held * streams + streamRoom ≤ length (now window)) × (letter * streams + streamRoom ≤ length (now «letter_values»)) ⌝ }
     ensures { λ r. ⌜ take (held + 1) (now (recent .exit)) ≡ take held (now (recent .entry)) ++ (letter ∷ []) ⌝ }
     ensures { λ r. ⌜ take ((held + 1) * streams) (now (window .exit)) ≡ take (held * streams) (now (window .entry)) ++ letterAt streams (now («letter_values» .entry)) letter ⌝ }
 {
     recent[held] = letter;
     let from = letter as usize * streams;
-    let end = from + streams;
+    let end = from + 8;
     copy_values(window, held * streams, &letter_values[from..end]);
 }
 
@@ -103,9 +104,9 @@ pub fn lower_all(firsts: &mut [i64], numbers: &[u32])
 
 // The values of the firsts at the cut, as the key holds them: every `first` node has its value in a whole record.
 pub fn raise_all(
-    kinds: &[u8],
-    values: &[i64],
-    starts: &[u16],
+    kinds: &[u8; 1024],
+    values: &[i64; 1024],
+    starts: &[u16; 1024],
     first_nodes: &[u16],
     window: &[i64],
     streams: usize,

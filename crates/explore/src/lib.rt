@@ -5,6 +5,7 @@ mod judge;
 mod keys;
 mod sizes;
 
+use chains::bucket;
 use chains::find;
 use chains::insert;
 use extend::extend;
@@ -72,12 +73,13 @@ fn settle(
     requires { ⌜ (length (now key) ≡ keySize) × (limit ≤ 4096) × (limit ≤ length (now links)) × (limit * keySize ≤ length (now keys)) × (limit ≤ length (now flags)) ⌝ }
     ensures { λ r. ⌜ Settled limit every n (now (key .entry)) (now (keys .entry)) (now (flags .entry)) (now (heads .exit)) (now (links .exit)) (now (keys .exit)) (now (flags .exit)) r ⌝ }
 {
-    let found = find(heads, links, keys, n, key);
+    let h = bucket(key, heads.len());
+    let found = find(heads, links, keys, n, h, key);
     if found != 0 {
         return found - 1;
     }
     if n < limit {
-        insert(heads, links, keys, n, key);
+        insert(heads, links, keys, n, h, key);
         flags[n] = flag(key[15], every);
     }
     n
@@ -86,9 +88,9 @@ fn settle(
 // The entry of row s for letter a: the row of the longer record's key, which becomes row n if it is new and there is room, or 65,535 for none.
 // What is prepared for the row stays so.
 fn follow(
-    kinds: &[u8],
-    values: &[i64],
-    starts: &[u16],
+    kinds: &[u8; 1024],
+    values: &[i64; 1024],
+    starts: &[u16; 1024],
     relations: &[u8],
     lefts: &[u16],
     rights: &[u16],
@@ -148,9 +150,9 @@ fn follow(
 // Explores row by row and letter by letter from the first row until every row is done, or rows run out. What the letters of a row need is prepared
 // once.
 fn search(
-    kinds: &[u8],
-    values: &[i64],
-    starts: &[u16],
+    kinds: &[u8; 1024],
+    values: &[i64; 1024],
+    starts: &[u16; 1024],
     relations: &[u8],
     lefts: &[u16],
     rights: &[u16],
@@ -238,9 +240,9 @@ fn search(
 
 // Finds all keys that are reached from that of the empty record, or that there are more than the limit.
 fn explore(
-    kinds: &[u8],
-    values: &[i64],
-    starts: &[u16],
+    kinds: &[u8; 1024],
+    values: &[i64; 1024],
+    starts: &[u16; 1024],
     relations: &[u8],
     lefts: &[u16],
     rights: &[u16],
@@ -290,9 +292,9 @@ fn explore(
 
 // Explores a stored sheet in the lent tables, if the sheet keeps the bounds and the tables have room; otherwise the tables stay as they are.
 pub fn explore_stored(
-    kinds: &[u8],
-    values: &[i64],
-    starts: &[u16],
+    kinds: &[u8; 1024],
+    values: &[i64; 1024],
+    starts: &[u16; 1024],
     relations: &[u8],
     lefts: &[u16],
     rights: &[u16],

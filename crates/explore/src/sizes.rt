@@ -1,9 +1,10 @@
 // Whether a stored sheet and the lent tables have the sizes that the search depends on.
 ghost use mathlib.Core.Path.{_≡_};
-ghost use Prim.Native.Nat.{_*_, _<_, _≤_};
+ghost use Prim.Native.Nat.{_+_, _*_, _<_, _≤_};
 ghost use Rattle.marks.specs.Answers.{Says};
 ghost use Rattle.explore.specs.Chains.{keySize};
 ghost use Rattle.explore.specs.Key.{letterRoom, firstRoom};
+ghost use Rattle.explore.specs.Step.{streamRoom};
 
 // Whether the sheet keeps document 01's bounds. `relations` to `firsts` are the lengths of its lists.
 pub fn is_ready(
@@ -14,7 +15,7 @@ pub fn is_ready(
     streams: usize,
     width: usize,
 ) -> bool
-    ensures { λ r. ⌜ Says r ((width ≤ letterRoom) × (streams ≤ 8) × (lefts ≡ relations) × (rights ≡ relations) × (relations ≤ 32) × (firsts ≤ firstRoom)) ⌝ }
+    ensures { λ r. ⌜ Says r ((width ≤ letterRoom) × (streams ≤ streamRoom) × (lefts ≡ relations) × (rights ≡ relations) × (relations ≤ 32) × (firsts ≤ firstRoom)) ⌝ }
 {
     if 6 < width {
         return false;
@@ -37,7 +38,7 @@ pub fn is_ready(
     true
 }
 
-// Whether every letter's values are there, and the tables have room for as many rows as the limit. `values` to `flags` are the lengths of the
+// Whether every letter's values are there, with room behind them, and the tables have room for as many rows as the limit. `values` to `flags` are the lengths of the
 // lists. A product is taken only after the bounds under which it does not wrap.
 pub fn is_lent(
     letters: usize,
@@ -50,8 +51,8 @@ pub fn is_lent(
     entries: usize,
     flags: usize,
 ) -> bool
-    requires { ⌜ streams ≤ 8 ⌝ }
-    ensures { λ r. ⌜ Says r ((letters ≤ 1024) × (letters * streams ≤ values) × (0 < limit) × (limit ≤ 4096) × (limit * keySize ≤ keys) × (limit ≤ heads) × (limit ≤ links) × (limit * letters ≤ entries) × (limit ≤ flags)) ⌝ }
+    requires { ⌜ streams ≤ streamRoom ⌝ }
+    ensures { λ r. ⌜ Says r ((letters ≤ 1024) × (letters * streams + streamRoom ≤ values) × (0 < limit) × (limit ≤ 4096) × (limit * keySize ≤ keys) × (limit ≤ heads) × (limit ≤ links) × (limit * letters ≤ entries) × (limit ≤ flags)) ⌝ }
 {
     if 1024 < letters {
         return false;
@@ -62,7 +63,7 @@ pub fn is_lent(
     if 4096 < limit {
         return false;
     }
-    if values < letters * streams {
+    if values < letters * streams + 8 {
         return false;
     }
     if keys < limit * 16 {

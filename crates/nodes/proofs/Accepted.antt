@@ -7,7 +7,7 @@ use mathlib.Core.Bool.{true, false, not}
 use mathlib.Core.List.{List, [], _∷_, _++_}
 use lib.Dec.{leb→le}
 use lib.IntN.{ℤ, pos, negsuc, negℤ}
-use lib.ListN.{length, getD}
+use lib.ListN.{length, getD, length-append}
 use lib.Signed.{_≤ℤ_, ≤ℤ-refl}
 use Rattle.meaning.specs.Value.{Value, truth, Streams}
 use Rattle.meaning.specs.Arithmetic.{Interval, Within, Arithmetic, LawfulArithmetic}
@@ -23,7 +23,7 @@ use Rattle.meaning.proofs.Facts.{getD-member}
 use Rattle.meaning.proofs.Window.{value-near}
 use Rattle.sheet.specs.Refusal.{magnitudeBound, onLeft, onRight, InBounds}
 use Rattle.sheet.specs.Accepted.{Accepted}
-use Rattle.nodes.specs.Postfix.{StoredConstraint, allNodes, storedConstraints}
+use Rattle.nodes.specs.Postfix.{Node, StoredConstraint, allNodes, storedConstraints}
 use Rattle.nodes.specs.Bounded.{Small, someValue}
 use Rattle.nodes.specs.Evaluate.{nodesOf, View, places, nodeValue}
 use Rattle.nodes.proofs.Postfix.{StoredAt, firstsBefore, allNodes-stored, sides-inside}
@@ -148,32 +148,33 @@ pub data IsSide (cs : List Constraint) (c₀ : Constraint) (t₀ : StoredConstra
   rightOf : (j : ℕ) → j < length cs
       → IsSide cs c₀ t₀ (rightSide (getD cs j c₀)) (getD (storedConstraints 0 0 cs) j t₀ .right) (firstsBefore 0 cs j + length (firsts (leftSide (getD cs j c₀))))
 
--- What is known of such a side.
-record Known (A : Arithmetic) (s : Sheet) (e : Expression) (i f : ℕ) : Type 0 where
+-- What is known of such a side, whatever nodes stand behind the sheet's.
+record Known (A : Arithmetic) (s : Sheet) (behind : List Node) (e : Expression) (i f : ℕ) : Type 0 where
   start : ℕ
-  stored : StoredAt (nodesOf (allNodes 0 0 (s .constraints))) start f e (suc i)
-  inside : i < length (allNodes 0 0 (s .constraints))
+  stored : StoredAt (nodesOf (allNodes 0 0 (s .constraints) ++ behind)) start f e (suc i)
+  inside : i < length (allNodes 0 0 (s .constraints) ++ behind)
   names : NamesBelow (length (s .streams)) e
   bounds : All (λ f. InBounds (interval A (s .streams) f)) (subexpressions e)
 
-known : {A : Arithmetic} {s : Sheet} (c₀ : Constraint) (t₀ : StoredConstraint) {e : Expression} {i f : ℕ} → Accepted A s → IsSide (s .constraints) c₀ t₀ e i f → Known A s e i f
-known {A} {s} c₀ t₀ a (leftOf j b) =
+known : {A : Arithmetic} {s : Sheet} (behind : List Node) (c₀ : Constraint) (t₀ : StoredConstraint) {e : Expression} {i f : ℕ} → Accepted A s → IsSide (s .constraints) c₀ t₀ e i f
+    → Known A s behind e i f
+known {A} {s} behind c₀ t₀ a (leftOf j b) =
     let m = getD-member (s .constraints) j c₀ b in
-    let t = allNodes-stored (s .constraints) c₀ t₀ j b in
+    let t = allNodes-stored (s .constraints) behind c₀ t₀ j b in
     record {
       start = t .leftStart;
       stored = t .left;
-      inside = sides-inside c₀ t₀ (s .constraints) j b .0;
+      inside = omega (arith, sides-inside c₀ t₀ (s .constraints) j b .0, length-append (allNodes 0 0 (s .constraints)) behind);
       names = a .namesKnown (getD (s .constraints) j c₀) m .left;
       bounds = member-All _ (subexpressions (leftSide (getD (s .constraints) j c₀))) (λ f n. a .intervalsInBounds f (onLeft m n));
     }
-known {A} {s} c₀ t₀ a (rightOf j b) =
+known {A} {s} behind c₀ t₀ a (rightOf j b) =
     let m = getD-member (s .constraints) j c₀ b in
-    let t = allNodes-stored (s .constraints) c₀ t₀ j b in
+    let t = allNodes-stored (s .constraints) behind c₀ t₀ j b in
     record {
       start = suc (getD (storedConstraints 0 0 (s .constraints)) j t₀ .left);
       stored = t .right;
-      inside = sides-inside c₀ t₀ (s .constraints) j b .1;
+      inside = omega (arith, sides-inside c₀ t₀ (s .constraints) j b .1, length-append (allNodes 0 0 (s .constraints)) behind);
       names = a .namesKnown (getD (s .constraints) j c₀) m .right;
       bounds = member-All _ (subexpressions (rightSide (getD (s .constraints) j c₀))) (λ f n. a .intervalsInBounds f (onRight m n));
     }
@@ -184,23 +185,23 @@ pub record Letters (ss : List Stream) (W : View) (w : Streams) : Type 0 where
   pub shows : Shows W w
   pub ranged : (k i : ℕ) → k < length ss → i < places W → Within (rangeOf ss k) (w k i)
 
-module _ {A : Arithmetic} (lawful : LawfulArithmetic A) (s : Sheet) (accepted : Accepted A s) (W : View) (w : Streams) (letters : Letters (s .streams) W w) (c₀ : Constraint) (t₀ : StoredConstraint) where
+module _ {A : Arithmetic} (lawful : LawfulArithmetic A) (s : Sheet) (accepted : Accepted A s) (W : View) (w : Streams) (letters : Letters (s .streams) W w) (behind : List Node) (c₀ : Constraint) (t₀ : StoredConstraint) where
   -- In a whole record a side has its value, wherever the record has the letters that the side looks at.
   pub accepted-value : {e : Expression} {i f : ℕ} → IsSide (s .constraints) c₀ t₀ e i f → W .whole ≡ true → (p : ℕ) → p + reach e < places W
-      → nodeValue A (nodesOf (allNodes 0 0 (s .constraints))) W i p ≡ someValue (value A w e p)
+      → nodeValue A (nodesOf (allNodes 0 0 (s .constraints) ++ behind)) W i p ≡ someValue (value A w e p)
   accepted-value {e} {i} {f} side whole p r =
-      let k = known c₀ t₀ accepted side in
+      let k = known behind c₀ t₀ accepted side in
       let n = subst (λ m. NamesBelow m e) (sym (letters .count)) (k .names) in
-      nodeValue-value A (allNodes 0 0 (s .constraints)) W (lasting w (places W)) (λ k q b h. letters .shows k q b h ∙ sym (lasting-same w (places W) k q h)) p e (k .stored) (k .inside) whole n r
+      nodeValue-value A (allNodes 0 0 (s .constraints) ++ behind) W (lasting w (places W)) (λ k q b h. letters .shows k q b h ∙ sym (lasting-same w (places W) k q h)) p e (k .stored) (k .inside) whole n r
       (whole-met lawful (s .streams) (lasting w (places W)) (lasting-ranged w (places W) (s .streams) (letters .ranged) (omega arith)) e p (k .names) (k .bounds))
       ∙ ap someValue (value-near A (lasting w (places W)) w (places W) (lasting-same w (places W)) e p r)
 
   -- In a window with stored first values a side has its value there, from the place `back` on.
   pub accepted-windowValue : {e : Expression} {i f : ℕ} → IsSide (s .constraints) c₀ t₀ e i f → W .whole ≡ false → (p : ℕ) → back e ≤ p → p + reach e < places W
       → f + length (firsts e) ≤ length (W .firsts) → FirstsWithin lawful (s .streams) (W .firsts) f (firsts e)
-      → nodeValue A (nodesOf (allNodes 0 0 (s .constraints))) W i p ≡ someValue (windowValue A w (W .firsts) f e p)
+      → nodeValue A (nodesOf (allNodes 0 0 (s .constraints) ++ behind)) W i p ≡ someValue (windowValue A w (W .firsts) f e p)
   accepted-windowValue {e} {i} {f} side whole p b r l h =
-      let k = known c₀ t₀ accepted side in
+      let k = known behind c₀ t₀ accepted side in
       let n = subst (λ m. NamesBelow m e) (sym (letters .count)) (k .names) in
-      nodeValue-windowValue A (allNodes 0 0 (s .constraints)) W w (letters .shows) p e (k .stored) (k .inside) whole n r l
+      nodeValue-windowValue A (allNodes 0 0 (s .constraints) ++ behind) W w (letters .shows) p e (k .stored) (k .inside) whole n r l
       (window-met lawful (s .streams) w (W .firsts) (places W) (letters .ranged) e f p (k .names) (k .bounds) b r h)

@@ -4,7 +4,7 @@ use Prim.Native.Nat.{ℕ, zero, suc, _+_, _-_, _≤_, _<_}
 use native.Mathlib.Omega.{arith}
 use native.Mathlib.Nat.{add-zero}
 use mathlib.Core.Path.{_≡_, refl, sym, _∙_, ap, subst}
-use mathlib.Core.List.{List, [], _∷_, _++_, append-nil}
+use mathlib.Core.List.{List, [], _∷_, _++_}
 use lib.IntN.{ℤ, pos}
 use lib.ListN.{length, getD, length-append}
 use Rattle.meaning.specs.Arithmetic.{Operator}
@@ -222,12 +222,11 @@ module _ (N : Nodes) where
   constraints-stored n f (c ∷ cs) c₀ t₀ h (suc j) b =
       constraints-stored (n + length (sideNodes n f c)) (f + length (sideFirsts c)) cs c₀ t₀ (Holds-append N n (sideNodes n f c) _ h .1) j (omega arith)
 
--- The nodes of a sheet's constraints store both sides of each.
-pub allNodes-stored : (cs : List Constraint) (c₀ : Constraint) (t₀ : StoredConstraint) (j : ℕ) → j < length cs
-    → SidesAt (nodesOf (allNodes 0 0 cs)) (firstsBefore 0 cs j) (getD cs j c₀) (getD (storedConstraints 0 0 cs) j t₀)
-allNodes-stored cs c₀ t₀ j b =
-    constraints-stored (nodesOf (allNodes 0 0 cs)) 0 0 cs c₀ t₀
-    (subst (λ l. Holds (nodesOf l) 0 (allNodes 0 0 cs)) (append-nil (allNodes 0 0 cs)) (nodes-hold [] (allNodes 0 0 cs) [])) j b
+-- The nodes of a sheet's constraints store both sides of each, whatever nodes stand behind them.
+pub allNodes-stored : (cs : List Constraint) (behind : List Node) (c₀ : Constraint) (t₀ : StoredConstraint) (j : ℕ) → j < length cs
+    → SidesAt (nodesOf (allNodes 0 0 cs ++ behind)) (firstsBefore 0 cs j) (getD cs j c₀) (getD (storedConstraints 0 0 cs) j t₀)
+allNodes-stored cs behind c₀ t₀ j b =
+    constraints-stored (nodesOf (allNodes 0 0 cs ++ behind)) 0 0 cs c₀ t₀ (nodes-hold [] (allNodes 0 0 cs) behind) j b
 
 -- ---- the stored constraints name nodes of the list
 
@@ -249,5 +248,5 @@ module _ (c₀ : Constraint) (t₀ : StoredConstraint) where
       → (getD (storedConstraints 0 0 cs) j t₀ .left < length (allNodes 0 0 cs)) × (getD (storedConstraints 0 0 cs) j t₀ .right < length (allNodes 0 0 cs))
   sides-inside cs j b =
       let r = right-inside 0 0 cs j b in
-      let e = stored-ends (allNodes-stored cs c₀ t₀ j b .right) in
+      let e = stored-ends (allNodes-stored cs [] c₀ t₀ j b .right) in
       (omega arith, omega arith)

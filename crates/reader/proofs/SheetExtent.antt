@@ -3,7 +3,7 @@
 use Prim.Native.Nat.{ℕ, zero, suc, _+_, _≤_, _<_, max}
 use mathlib.Core.Path.{_≡_, refl, sym, ap, ap₂, subst, _∙_}
 use mathlib.Core.Bool.{Bool, true, false, not, cond, _&&_, _||_, and-true, true≢false}
-use mathlib.Core.List.{List, [], _∷_, _++_}
+use mathlib.Core.List.{List, [], _∷_, _++_, append-nil}
 use native.Mathlib.Omega.{arith}
 use lib.IntN.{ℤ, pos}
 use lib.ListN.{length, drop, getD, drop-of-length-le, length-append}
@@ -27,7 +27,7 @@ use Rattle.nodes.specs.Postfix.{Node, postfix, sideNodes, allNodes, StoredConst
 use Rattle.nodes.specs.Evaluate.{Nodes, nodesOf}
 use Rattle.nodes.specs.Bounds.{nodeSummary, noRange, endsInBound, summaryOf, lowsOf, highsOf}
 use Rattle.nodes.specs.declared.Summary.{Summary}
-use Rattle.nodes.proofs.Postfix.{length-postfix, allNodes-stored, sides-inside}
+use Rattle.nodes.proofs.Postfix.{length-postfix, SidesAt, firstsBefore, allNodes-stored, sides-inside}
 use Rattle.nodes.proofs.Bounds.{largestOver-append, nodeSummary-summaryOf, inBounds-ends, ends-inBounds, interval-ordered}
 use Rattle.parse.proofs.Trees.{anyOf-append}
 use Rattle.reader.specs.declared.Extent.{Extent}
@@ -210,7 +210,7 @@ extent-sheet s e₄ e₅ few =
 
     shows : (j : ℕ) → j < length cs → Shows cutTowardZero-lawful ss (ranges-ordered s e₅) (nodesOf nodes) c₀ t₀ (getD cs j c₀) (getD (storedConstraints 0 0 cs) j t₀)
     shows j b =
-        let st = allNodes-stored cs c₀ t₀ j b in
+        let st = subst (λ l. SidesAt (nodesOf l) (firstsBefore 0 cs j) (getD cs j c₀) (getD (storedConstraints 0 0 cs) j t₀)) (append-nil nodes) (allNodes-stored cs [] c₀ t₀ j b) in
         let inside = sides-inside c₀ t₀ cs j b in
         let names = All-getD (SidesBelow (length ss)) cs known j c₀ b in
         let count = side-count c₀ 0 0 cs j b in

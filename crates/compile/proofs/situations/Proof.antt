@@ -1,33 +1,16 @@
--- `compile::situations` meets its contract: the letters' values are there, so what the exploration leaves is the law `exploration-found`.
-use Prim.Native.Nat.{ℕ, _≤_, zero-le}
+-- `compile::situations` meets its contract: either list has room for the values of the letters, so that `explored` gives it.
 use native.Mathlib.Omega.{arith}
 use native.Mathlib.Nat.{le-refl}
-use mathlib.Core.Path.{_≡_, _∙_, ap}
-use lib.ListN.{replicate}
 use borrow.Author.Needs.{needs}
-use Rattle.meaning.proofs.Arithmetic.{cutTowardZero-lawful}
-use Rattle.compile.proofs.Found.{count-within, found-more, found-all}
+use Rattle.compile.proofs.Found.{room-for-letters}
 use Rattle.compile.proofs.situations.Statement.{statement}
 use Rattle.compile.proofs.situations.Tie as tie
 
--- 1,024 letters of 8 streams have 8,192 values.
-enough : {n : ℕ} → n ≡ 8192 → 8192 ≤ n
-enough e = omega arith
+slice-aggregate-explored : tie.Need-slice-aggregate-explored
+slice-aggregate-explored c = search needs
 
-slice-aggregate-fill-letters : tie.Need-slice-aggregate-fill-letters
-slice-aggregate-fill-letters c = search needs
-
-fill-letters-requires : tie.Need-fill-letters-requires
-fill-letters-requires c κs = search needs
-
-slice-aggregate-explore-stored : tie.Need-slice-aggregate-explore-stored
-slice-aggregate-explore-stored c = search needs
-
-explore-stored-requires : tie.Need-explore-stored-requires
-explore-stored-requires c κs = search needs
-
-fill-requires : tie.Need-fill-requires
-fill-requires c κs = search needs
+explored-requires : tie.Need-explored-requires
+explored-requires c κs = search needs
 
 same-length : tie.Need-same-length
 same-length c = search needs
@@ -46,14 +29,14 @@ same-length-5 c = search needs
 
 returns : tie.Need-returns
 returns c =
-    let call = c .before .before .before .before .before .before .before .before .before .before .before .before .before .before .before .explore-stored in
-    let letters = c .before .before .before .before .before .before .before .before .before .before .before .before .before .before .before .before .before .before .before .before .before .before .before .fill-letters in (
-      zero-le,
-      (
-        c .before .before .before .fill .ensures ∙ ap (λ n. replicate n 0) (call .kept .1 .1 .1 .1 .1 .1 .1 .1 .1 .1 .1 .1 .1 .0),
-        λ s accepted slices room. found-more cutTowardZero-lawful accepted slices _ _ (le-refl 8192) (letters .ensures .1) (enough (letters .kept .1 .1 .0)) room (call .ensures) (c .if1 .taken),
-      ),
-    )
+    let found = c .before .before .before .before .before .before .before .before .before .before .before .explored .ensures in
+    (found .0, (found .1 .0, λ s accepted slices room. found .1 .1 s accepted slices (room-for-letters accepted 64 (omega (arith, slices .sameLetters, c .before .before .before .before .before .before .before .before .before .before .before .before .before .before .before .before .before .before .if1 .taken)) (le-refl 520)) room))
+
+slice-aggregate-explored-2 : tie.Need-slice-aggregate-explored-2
+slice-aggregate-explored-2 c = search needs
+
+explored-requires-2 : tie.Need-explored-requires-2
+explored-requires-2 c κs = search needs
 
 same-length-6 : tie.Need-same-length-6
 same-length-6 c = search needs
@@ -72,30 +55,23 @@ same-length-10 c = search needs
 
 returns-2 : tie.Need-returns-2
 returns-2 c =
-    let call = c .before .before .before .before .before .before .before .before .before .before .before .before .before .before .before .explore-stored in
-    let letters = c .before .before .before .before .before .before .before .before .before .before .before .before .before .before .before .before .before .before .before .before .before .before .before .fill-letters in (
-      count-within (call .ensures),
-      (
-        c .before .before .before .fill .ensures ∙ ap (λ n. replicate n 0) (call .kept .1 .1 .1 .1 .1 .1 .1 .1 .1 .1 .1 .1 .1 .0),
-        λ s accepted slices room. found-all cutTowardZero-lawful accepted slices _ _ (le-refl 8192) (letters .ensures .1) (enough (letters .kept .1 .1 .0)) room (call .ensures) (c .if1 .left),
-      ),
-    )
+    let found = c .before .before .before .before .before .before .before .before .before .before .before .explored2 .ensures in
+    (found .0, (found .1 .0, λ s accepted slices room. found .1 .1 s accepted slices (room-for-letters accepted 1024 (accepted .letters) (le-refl 8200)) room))
 
 pub situations-spec : {M : Type 1} → statement M
 situations-spec =
     tie.close
     (tie.spec
-    slice-aggregate-fill-letters
-    fill-letters-requires
-    slice-aggregate-explore-stored
-    explore-stored-requires
-    fill-requires
+    slice-aggregate-explored
+    explored-requires
     same-length
     same-length-2
     same-length-3
     same-length-4
     same-length-5
     returns
+    slice-aggregate-explored-2
+    explored-requires-2
     same-length-6
     same-length-7
     same-length-8

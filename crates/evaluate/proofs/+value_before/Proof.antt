@@ -84,19 +84,17 @@ abbrev seen : (t : ℕ) → lts.Start (claims t) (given t) reads.Post → View
 seen t s = view (s .args .window .now) (s .args .streams) (s .args .firsts .now) (s .args .whole)
 
 shifted-requires : Each lts.Need-shifted-requires
-shifted-requires t c κs =
-    let s = c .before .before in
-    (omega (arith, s .pre .1), s .pre .1 .place-within)
+shifted-requires t c κs = (omega (arith, c .pre .1), c .pre .1 .place-within)
 
 is-leaf-requires : Each lts.Need-is-leaf-requires
 is-leaf-requires t c κs =
-    let s = c .before .before .before in
+    let s = c .before in
     let m = c .shifted .ensures in
     omega (arith, s .pre .1, m .moved .ends-within)
 
 leaf-requires : Each lts.Need-leaf-requires
 leaf-requires t c κs =
-    let s = c .before .before .before .before .before in
+    let s = c .before .before .before in
     let m = c .before .before .shifted .ensures in
     let d = c .before .before .shifted .result .end in
     let q = c .before .before .shifted .result .place in
@@ -105,7 +103,7 @@ leaf-requires t c κs =
 
 returns : Each lts.Need-returns
 returns t c =
-    let s = c .before .before .before .before .before .before in
+    let s = c .before .before .before .before in
     let m = c .before .before .before .shifted .ensures in
     let d = c .before .before .before .shifted .result .end in
     let q = c .before .before .before .shifted .result .place in
@@ -114,7 +112,7 @@ returns t c =
 
 sub-i : Each lts.Need-sub-i
 sub-i t c =
-    let s = c .before .before .before .before .before in
+    let s = c .before .before .before in
     let m = c .before .before .shifted .ensures in
     let d = c .before .before .shifted .result .end in
     let q = c .before .before .shifted .result .place in
@@ -122,39 +120,57 @@ sub-i t c =
     let n = not-leaf (s .args .kinds .now) d (sym (c .before .is-leaf .ensures) ∙ c .if1 .left) in
     omega (arith, r, n .0)
 
-shared-slice-read-kind : Each lts.Need-shared-slice-read-kind
-shared-slice-read-kind t c =
-    let s = c .before .before .before .before .before .before in
-    let m = c .before .before .before .shifted .ensures in
-    let d = c .before .before .before .shifted .result .end in
-    let q = c .before .before .before .shifted .result .place in
+element-copy-out-kind : Each lts.Need-element-copy-out-kind
+element-copy-out-kind t c =
+    let s = c .before .before .before in
+    let m = c .before .before .shifted .ensures in
+    let d = c .before .before .shifted .result .end in
+    let q = c .before .before .shifted .result .place in
     let r = ready-part d q (s .pre .1) (m .moved .ends-within) (m .moved .place-within) in
-    let n = not-leaf (s .args .kinds .now) d (sym (c .before .before .is-leaf .ensures) ∙ c .before .if1 .left) in
+    let n = not-leaf (s .args .kinds .now) d (sym (c .before .is-leaf .ensures) ∙ c .if1 .left) in
     omega (arith, r, n .0)
+
+is-leaf-requires-2 : Each lts.Need-is-leaf-requires-2
+is-leaf-requires-2 t c κs =
+    let s = c .before .before .before .before .before .before in
+    let m = c .before .before .before .before .before .shifted .ensures in
+    let d = c .before .before .before .before .before .shifted .result .end in
+    let q = c .before .before .before .before .before .shifted .result .place in
+    let r = ready-part d q (s .pre .1) (m .moved .ends-within) (m .moved .place-within) in
+    omega (arith, r)
+
+leaf-requires-2 : Each lts.Need-leaf-requires-2
+leaf-requires-2 t c κs =
+    let s = c .before .before .before .before .before .before .before .before in
+    let m = c .before .before .before .before .before .before .before .shifted .ensures in
+    let d = c .before .before .before .before .before .before .before .shifted .result .end in
+    let q = c .before .before .before .before .before .before .before .shifted .result .place in
+    let r = ready-part d q (s .pre .1) (m .moved .ends-within) (m .moved .place-within) in
+    ready-leaf (d - 1) (ready-part d 0 r (omega arith) (omega (arith, r .place-within))) (omega arith)
 
 value-before-requires : Each lts.Need-value-before-requires
 value-before-requires t c κs =
     let s = c .before .before .before .before .before .before .before .before in
-    let m = c .before .before .before .before .before .shifted .ensures in
-    let d = c .before .before .before .before .before .shifted .result .end in
-    let q = c .before .before .before .before .before .shifted .result .place in
+    let m = c .before .before .before .before .before .before .before .shifted .ensures in
+    let d = c .before .before .before .before .before .before .before .shifted .result .end in
+    let q = c .before .before .before .before .before .before .before .shifted .result .place in
     let r = ready-part d q (s .pre .1) (m .moved .ends-within) (m .moved .place-within) in
-    let n = not-leaf (s .args .kinds .now) d (sym (c .before .before .before .before .is-leaf .ensures) ∙ c .before .before .before .if1 .left) in
+    let n = not-leaf (s .args .kinds .now) d (sym (c .before .before .before .before .before .before .is-leaf .ensures) ∙ c .before .before .before .before .before .if1 .left) in
     (omega (arith, s .pre .0, n .0, m .moved .ends-within), ready-part (d - 1) (0) r (omega arith) (omega (arith, r .place-within)))
 
 mul-numbered : Each lts.Need-mul-numbered
 mul-numbered t c =
-    let s = c .before .before .before .before .before .before .before .before in
+    let s = c .before .before .before .before .before .before in
     let m = c .before .before .before .before .before .shifted .ensures in
     let d = c .before .before .before .before .before .shifted .result .end in
     let q = c .before .before .before .before .before .shifted .result .place in
     let r = ready-part d q (s .pre .1) (m .moved .ends-within) (m .moved .place-within) in
     let n = not-leaf (s .args .kinds .now) d (sym (c .before .before .before .before .is-leaf .ensures) ∙ c .before .before .before .if1 .left) in
-    omega (arith, r, n .0, s .good)
+    omega (arith, r, n .0)
 
-shared-slice-copy-out-numbered : Each lts.Need-shared-slice-copy-out-numbered
-shared-slice-copy-out-numbered t c =
-    let s = c .before .before .before .before .before .before .before .before in
+element-copy-out-numbered : Each lts.Need-element-copy-out-numbered
+element-copy-out-numbered t c =
+    let s = c .before .before .before .before .before .before in
     let m = c .before .before .before .before .before .shifted .ensures in
     let d = c .before .before .before .before .before .shifted .result .end in
     let q = c .before .before .before .before .before .shifted .result .place in
@@ -170,7 +186,7 @@ absent-requires t c κs = search needs
 
 value-before-requires-2 : Each lts.Need-value-before-requires-2
 value-before-requires-2 t c κs =
-    let s = c .before .before .before .before .before .before .before in
+    let s = c .before .before .before .before .before in
     let m = c .before .before .before .before .shifted .ensures in
     let d = c .before .before .before .before .shifted .result .end in
     let q = c .before .before .before .before .shifted .result .place in
@@ -187,35 +203,35 @@ left-end-requires t c κs = search needs
 left-end-requires-2 : Each lts.Need-left-end-requires-2
 left-end-requires-2 t c κs = search needs
 
-is-leaf-requires-2 : Each lts.Need-is-leaf-requires-2
-is-leaf-requires-2 t c κs =
+is-leaf-requires-3 : Each lts.Need-is-leaf-requires-3
+is-leaf-requires-3 t c κs =
     let s = c .before .before .before .before .before .before .before .before .before in
-    let m = c .before .before .before .before .before .before .shifted .ensures in
-    let d = c .before .before .before .before .before .before .shifted .result .end in
-    let q = c .before .before .before .before .before .before .shifted .result .place in
-    let r = ready-part d q (s .pre .1) (m .moved .ends-within) (m .moved .place-within) in
-    let l : c .left-end2 .result ≤ d - 1 = left-before (s .args .starts .now) (c .before .left-end .result) (d - 1) (c .left-end2 .ensures) (left-before (s .args .starts .now) (d - 1) (d - 1) (c .before .left-end .ensures) (omega arith)) in
-    omega (arith, r)
-
-leaf-requires-2 : Each lts.Need-leaf-requires-2
-leaf-requires-2 t c κs =
-    let s = c .before .before .before .before .before .before .before .before .before .before .before in
     let m = c .before .before .before .before .before .before .before .before .shifted .ensures in
     let d = c .before .before .before .before .before .before .before .before .shifted .result .end in
     let q = c .before .before .before .before .before .before .before .before .shifted .result .place in
     let r = ready-part d q (s .pre .1) (m .moved .ends-within) (m .moved .place-within) in
-    let l : c .before .before .left-end2 .result ≤ d - 1 = left-before (s .args .starts .now) (c .before .before .before .left-end .result) (d - 1) (c .before .before .left-end2 .ensures) (left-before (s .args .starts .now) (d - 1) (d - 1) (c .before .before .before .left-end .ensures) (omega arith)) in
+    let l : c .left-end2 .result ≤ d - 1 = left-before (s .args .starts .now) (c .before .before .left-end .result) (d - 1) (c .left-end2 .ensures) (left-before (s .args .starts .now) (d - 1) (d - 1) (c .before .before .left-end .ensures) (omega arith)) in
+    omega (arith, r)
+
+leaf-requires-3 : Each lts.Need-leaf-requires-3
+leaf-requires-3 t c κs =
+    let s = c .before .before .before .before .before .before .before .before .before .before .before in
+    let m = c .before .before .before .before .before .before .before .before .before .before .shifted .ensures in
+    let d = c .before .before .before .before .before .before .before .before .before .before .shifted .result .end in
+    let q = c .before .before .before .before .before .before .before .before .before .before .shifted .result .place in
+    let r = ready-part d q (s .pre .1) (m .moved .ends-within) (m .moved .place-within) in
+    let l : c .before .before .left-end2 .result ≤ d - 1 = left-before (s .args .starts .now) (c .before .before .before .before .left-end .result) (d - 1) (c .before .before .left-end2 .ensures) (left-before (s .args .starts .now) (d - 1) (d - 1) (c .before .before .before .before .left-end .ensures) (omega arith)) in
     ready-leaf (c .before .before .left-end2 .result) r (omega arith)
 
 value-before-requires-3 : Each lts.Need-value-before-requires-3
 value-before-requires-3 t c κs =
     let s = c .before .before .before .before .before .before .before .before .before .before .before in
-    let m = c .before .before .before .before .before .before .before .before .shifted .ensures in
-    let d = c .before .before .before .before .before .before .before .before .shifted .result .end in
-    let q = c .before .before .before .before .before .before .before .before .shifted .result .place in
+    let m = c .before .before .before .before .before .before .before .before .before .before .shifted .ensures in
+    let d = c .before .before .before .before .before .before .before .before .before .before .shifted .result .end in
+    let q = c .before .before .before .before .before .before .before .before .before .before .shifted .result .place in
     let r = ready-part d q (s .pre .1) (m .moved .ends-within) (m .moved .place-within) in
-    let n = not-leaf (s .args .kinds .now) d (sym (c .before .before .before .before .before .before .before .is-leaf .ensures) ∙ c .before .before .before .before .before .before .if1 .left) in
-    let l : c .before .before .left-end2 .result ≤ d - 1 = left-before (s .args .starts .now) (c .before .before .before .left-end .result) (d - 1) (c .before .before .left-end2 .ensures) (left-before (s .args .starts .now) (d - 1) (d - 1) (c .before .before .before .left-end .ensures) (omega arith)) in
+    let n = not-leaf (s .args .kinds .now) d (sym (c .before .before .before .before .before .before .before .before .before .is-leaf .ensures) ∙ c .before .before .before .before .before .before .before .before .if1 .left) in
+    let l : c .before .before .left-end2 .result ≤ d - 1 = left-before (s .args .starts .now) (c .before .before .before .before .left-end .result) (d - 1) (c .before .before .left-end2 .ensures) (left-before (s .args .starts .now) (d - 1) (d - 1) (c .before .before .before .before .left-end .ensures) (omega arith)) in
     (omega (arith, s .pre .0, n .0, m .moved .ends-within), ready-part (c .before .before .left-end2 .result) (q) r (omega arith) (r .place-within))
 
 in-bound-requires : Each lts.Need-in-bound-requires
@@ -224,42 +240,42 @@ in-bound-requires t c κs = search needs
 truth-requires : Each lts.Need-truth-requires
 truth-requires t c κs = search needs
 
-is-leaf-requires-3 : Each lts.Need-is-leaf-requires-3
-is-leaf-requires-3 t c κs =
+is-leaf-requires-4 : Each lts.Need-is-leaf-requires-4
+is-leaf-requires-4 t c κs =
     let s = c .before .before .before .before .before .before .before .before .before .before .before .before .before .before .before in
-    let m = c .before .before .before .before .before .before .before .before .before .before .before .before .shifted .ensures in
-    let d = c .before .before .before .before .before .before .before .before .before .before .before .before .shifted .result .end in
-    let q = c .before .before .before .before .before .before .before .before .before .before .before .before .shifted .result .place in
-    let r = ready-part d q (s .pre .1) (m .moved .ends-within) (m .moved .place-within) in
-    let l : c .if5 .branch ≤ d - 1 = ⊎-elim
-    (λ w. let k = left-before (s .args .starts .now) (d - 1) (d - 1) (c .before .before .before .before .before .before .before .left-end .ensures) (omega arith) in omega (arith, k, w .1))
-    (λ w. omega (arith, w .1)) (c .if5 .came) in
-    omega (arith, r)
-
-leaf-requires-3 : Each lts.Need-leaf-requires-3
-leaf-requires-3 t c κs =
-    let s = c .before .before .before .before .before .before .before .before .before .before .before .before .before .before .before .before .before in
     let m = c .before .before .before .before .before .before .before .before .before .before .before .before .before .before .shifted .ensures in
     let d = c .before .before .before .before .before .before .before .before .before .before .before .before .before .before .shifted .result .end in
     let q = c .before .before .before .before .before .before .before .before .before .before .before .before .before .before .shifted .result .place in
     let r = ready-part d q (s .pre .1) (m .moved .ends-within) (m .moved .place-within) in
-    let l : c .before .before .if5 .branch ≤ d - 1 = ⊎-elim
-    (λ w. let k = left-before (s .args .starts .now) (d - 1) (d - 1) (c .before .before .before .before .before .before .before .before .before .left-end .ensures) (omega arith) in omega (arith, k, w .1))
-    (λ w. omega (arith, w .1)) (c .before .before .if5 .came) in
-    ready-leaf (c .before .before .if5 .branch) r (omega arith)
+    let l : c .if6 .branch ≤ d - 1 = ⊎-elim
+    (λ w. let k = left-before (s .args .starts .now) (d - 1) (d - 1) (c .before .before .before .before .before .before .before .before .left-end .ensures) (omega arith) in omega (arith, k, w .1))
+    (λ w. omega (arith, w .1)) (c .if6 .came) in
+    omega (arith, r)
+
+leaf-requires-4 : Each lts.Need-leaf-requires-4
+leaf-requires-4 t c κs =
+    let s = c .before .before .before .before .before .before .before .before .before .before .before .before .before .before .before .before .before in
+    let m = c .before .before .before .before .before .before .before .before .before .before .before .before .before .before .before .before .shifted .ensures in
+    let d = c .before .before .before .before .before .before .before .before .before .before .before .before .before .before .before .before .shifted .result .end in
+    let q = c .before .before .before .before .before .before .before .before .before .before .before .before .before .before .before .before .shifted .result .place in
+    let r = ready-part d q (s .pre .1) (m .moved .ends-within) (m .moved .place-within) in
+    let l : c .before .before .if6 .branch ≤ d - 1 = ⊎-elim
+    (λ w. let k = left-before (s .args .starts .now) (d - 1) (d - 1) (c .before .before .before .before .before .before .before .before .before .before .left-end .ensures) (omega arith) in omega (arith, k, w .1))
+    (λ w. omega (arith, w .1)) (c .before .before .if6 .came) in
+    ready-leaf (c .before .before .if6 .branch) r (omega arith)
 
 value-before-requires-4 : Each lts.Need-value-before-requires-4
 value-before-requires-4 t c κs =
     let s = c .before .before .before .before .before .before .before .before .before .before .before .before .before .before .before .before .before in
-    let m = c .before .before .before .before .before .before .before .before .before .before .before .before .before .before .shifted .ensures in
-    let d = c .before .before .before .before .before .before .before .before .before .before .before .before .before .before .shifted .result .end in
-    let q = c .before .before .before .before .before .before .before .before .before .before .before .before .before .before .shifted .result .place in
+    let m = c .before .before .before .before .before .before .before .before .before .before .before .before .before .before .before .before .shifted .ensures in
+    let d = c .before .before .before .before .before .before .before .before .before .before .before .before .before .before .before .before .shifted .result .end in
+    let q = c .before .before .before .before .before .before .before .before .before .before .before .before .before .before .before .before .shifted .result .place in
     let r = ready-part d q (s .pre .1) (m .moved .ends-within) (m .moved .place-within) in
-    let n = not-leaf (s .args .kinds .now) d (sym (c .before .before .before .before .before .before .before .before .before .before .before .before .before .is-leaf .ensures) ∙ c .before .before .before .before .before .before .before .before .before .before .before .before .if1 .left) in
-    let l : c .before .before .if5 .branch ≤ d - 1 = ⊎-elim
-    (λ w. let k = left-before (s .args .starts .now) (d - 1) (d - 1) (c .before .before .before .before .before .before .before .before .before .left-end .ensures) (omega arith) in omega (arith, k, w .1))
-    (λ w. omega (arith, w .1)) (c .before .before .if5 .came) in
-    (omega (arith, s .pre .0, n .0, m .moved .ends-within), ready-part (c .before .before .if5 .branch) (q) r (omega arith) (r .place-within))
+    let n = not-leaf (s .args .kinds .now) d (sym (c .before .before .before .before .before .before .before .before .before .before .before .before .before .before .before .is-leaf .ensures) ∙ c .before .before .before .before .before .before .before .before .before .before .before .before .before .before .if1 .left) in
+    let l : c .before .before .if6 .branch ≤ d - 1 = ⊎-elim
+    (λ w. let k = left-before (s .args .starts .now) (d - 1) (d - 1) (c .before .before .before .before .before .before .before .before .before .before .left-end .ensures) (omega arith) in omega (arith, k, w .1))
+    (λ w. omega (arith, w .1)) (c .before .before .if6 .came) in
+    (omega (arith, s .pre .0, n .0, m .moved .ends-within), ready-part (c .before .before .if6 .branch) (q) r (omega arith) (r .place-within))
 
 absent-requires-2 : Each lts.Need-absent-requires-2
 absent-requires-2 t c κs = search needs
@@ -269,75 +285,75 @@ left-end-requires-3 t c κs = search needs
 
 value-before-requires-5 : Each lts.Need-value-before-requires-5
 value-before-requires-5 t c κs =
-    let s = c .before .before .before .before .before .before .before .before .before in
-    let m = c .before .before .before .before .before .before .shifted .ensures in
-    let d = c .before .before .before .before .before .before .shifted .result .end in
-    let q = c .before .before .before .before .before .before .shifted .result .place in
+    let s = c .before .before .before .before .before .before .before .before in
+    let m = c .before .before .before .before .before .before .before .shifted .ensures in
+    let d = c .before .before .before .before .before .before .before .shifted .result .end in
+    let q = c .before .before .before .before .before .before .before .shifted .result .place in
     let r = ready-part d q (s .pre .1) (m .moved .ends-within) (m .moved .place-within) in
-    let n = not-leaf (s .args .kinds .now) d (sym (c .before .before .before .before .before .is-leaf .ensures) ∙ c .before .before .before .before .if1 .left) in
+    let n = not-leaf (s .args .kinds .now) d (sym (c .before .before .before .before .before .before .is-leaf .ensures) ∙ c .before .before .before .before .before .if1 .left) in
     let l : c .left-end3 .result ≤ d - 1 = left-before (s .args .starts .now) (d - 1) (d - 1) (c .left-end3 .ensures) (omega arith) in
     (omega (arith, s .pre .0, n .0, m .moved .ends-within), ready-part (c .left-end3 .result) (0) r (omega arith) (omega (arith, r .place-within)))
 
 left-end-requires-4 : Each lts.Need-left-end-requires-4
 left-end-requires-4 t c κs = search needs
 
-is-leaf-requires-4 : Each lts.Need-is-leaf-requires-4
-is-leaf-requires-4 t c κs =
-    let s = c .before .before .before .before .before .before .before .before in
-    let m = c .before .before .before .before .before .shifted .ensures in
-    let d = c .before .before .before .before .before .shifted .result .end in
-    let q = c .before .before .before .before .before .shifted .result .place in
+is-leaf-requires-5 : Each lts.Need-is-leaf-requires-5
+is-leaf-requires-5 t c κs =
+    let s = c .before .before .before .before .before .before .before in
+    let m = c .before .before .before .before .before .before .shifted .ensures in
+    let d = c .before .before .before .before .before .before .shifted .result .end in
+    let q = c .before .before .before .before .before .before .shifted .result .place in
     let r = ready-part d q (s .pre .1) (m .moved .ends-within) (m .moved .place-within) in
     let l : c .left-end4 .result ≤ d - 1 = left-before (s .args .starts .now) (d - 1) (d - 1) (c .left-end4 .ensures) (omega arith) in
     omega (arith, r)
 
-leaf-requires-4 : Each lts.Need-leaf-requires-4
-leaf-requires-4 t c κs =
-    let s = c .before .before .before .before .before .before .before .before .before .before in
-    let m = c .before .before .before .before .before .before .before .shifted .ensures in
-    let d = c .before .before .before .before .before .before .before .shifted .result .end in
-    let q = c .before .before .before .before .before .before .before .shifted .result .place in
+leaf-requires-5 : Each lts.Need-leaf-requires-5
+leaf-requires-5 t c κs =
+    let s = c .before .before .before .before .before .before .before .before .before in
+    let m = c .before .before .before .before .before .before .before .before .shifted .ensures in
+    let d = c .before .before .before .before .before .before .before .before .shifted .result .end in
+    let q = c .before .before .before .before .before .before .before .before .shifted .result .place in
     let r = ready-part d q (s .pre .1) (m .moved .ends-within) (m .moved .place-within) in
     let l : c .before .before .left-end4 .result ≤ d - 1 = left-before (s .args .starts .now) (d - 1) (d - 1) (c .before .before .left-end4 .ensures) (omega arith) in
     ready-leaf (c .before .before .left-end4 .result) r (omega arith)
 
 value-before-requires-6 : Each lts.Need-value-before-requires-6
 value-before-requires-6 t c κs =
-    let s = c .before .before .before .before .before .before .before .before .before .before in
-    let m = c .before .before .before .before .before .before .before .shifted .ensures in
-    let d = c .before .before .before .before .before .before .before .shifted .result .end in
-    let q = c .before .before .before .before .before .before .before .shifted .result .place in
+    let s = c .before .before .before .before .before .before .before .before .before in
+    let m = c .before .before .before .before .before .before .before .before .shifted .ensures in
+    let d = c .before .before .before .before .before .before .before .before .shifted .result .end in
+    let q = c .before .before .before .before .before .before .before .before .shifted .result .place in
     let r = ready-part d q (s .pre .1) (m .moved .ends-within) (m .moved .place-within) in
-    let n = not-leaf (s .args .kinds .now) d (sym (c .before .before .before .before .before .before .is-leaf .ensures) ∙ c .before .before .before .before .before .if1 .left) in
+    let n = not-leaf (s .args .kinds .now) d (sym (c .before .before .before .before .before .before .before .is-leaf .ensures) ∙ c .before .before .before .before .before .before .if1 .left) in
     let l : c .before .before .left-end4 .result ≤ d - 1 = left-before (s .args .starts .now) (d - 1) (d - 1) (c .before .before .left-end4 .ensures) (omega arith) in
     (omega (arith, s .pre .0, n .0, m .moved .ends-within), ready-part (c .before .before .left-end4 .result) (q) r (omega arith) (r .place-within))
 
-is-leaf-requires-5 : Each lts.Need-is-leaf-requires-5
-is-leaf-requires-5 t c κs =
-    let s = c .before .before .before .before .before .before .before .before .before .before in
-    let m = c .before .before .before .before .before .before .before .shifted .ensures in
-    let d = c .before .before .before .before .before .before .before .shifted .result .end in
-    let q = c .before .before .before .before .before .before .before .shifted .result .place in
+is-leaf-requires-6 : Each lts.Need-is-leaf-requires-6
+is-leaf-requires-6 t c κs =
+    let s = c .before .before .before .before .before .before .before .before .before in
+    let m = c .before .before .before .before .before .before .before .before .shifted .ensures in
+    let d = c .before .before .before .before .before .before .before .before .shifted .result .end in
+    let q = c .before .before .before .before .before .before .before .before .shifted .result .place in
     let r = ready-part d q (s .pre .1) (m .moved .ends-within) (m .moved .place-within) in
     omega (arith, r)
 
-leaf-requires-5 : Each lts.Need-leaf-requires-5
-leaf-requires-5 t c κs =
-    let s = c .before .before .before .before .before .before .before .before .before .before .before .before in
-    let m = c .before .before .before .before .before .before .before .before .before .shifted .ensures in
-    let d = c .before .before .before .before .before .before .before .before .before .shifted .result .end in
-    let q = c .before .before .before .before .before .before .before .before .before .shifted .result .place in
+leaf-requires-6 : Each lts.Need-leaf-requires-6
+leaf-requires-6 t c κs =
+    let s = c .before .before .before .before .before .before .before .before .before .before .before in
+    let m = c .before .before .before .before .before .before .before .before .before .before .shifted .ensures in
+    let d = c .before .before .before .before .before .before .before .before .before .before .shifted .result .end in
+    let q = c .before .before .before .before .before .before .before .before .before .before .shifted .result .place in
     let r = ready-part d q (s .pre .1) (m .moved .ends-within) (m .moved .place-within) in
     ready-leaf (d - 1) r (omega arith)
 
 value-before-requires-7 : Each lts.Need-value-before-requires-7
 value-before-requires-7 t c κs =
-    let s = c .before .before .before .before .before .before .before .before .before .before .before .before in
-    let m = c .before .before .before .before .before .before .before .before .before .shifted .ensures in
-    let d = c .before .before .before .before .before .before .before .before .before .shifted .result .end in
-    let q = c .before .before .before .before .before .before .before .before .before .shifted .result .place in
+    let s = c .before .before .before .before .before .before .before .before .before .before .before in
+    let m = c .before .before .before .before .before .before .before .before .before .before .shifted .ensures in
+    let d = c .before .before .before .before .before .before .before .before .before .before .shifted .result .end in
+    let q = c .before .before .before .before .before .before .before .before .before .before .shifted .result .place in
     let r = ready-part d q (s .pre .1) (m .moved .ends-within) (m .moved .place-within) in
-    let n = not-leaf (s .args .kinds .now) d (sym (c .before .before .before .before .before .before .before .before .is-leaf .ensures) ∙ c .before .before .before .before .before .before .before .if1 .left) in
+    let n = not-leaf (s .args .kinds .now) d (sym (c .before .before .before .before .before .before .before .before .before .is-leaf .ensures) ∙ c .before .before .before .before .before .before .before .before .if1 .left) in
     (omega (arith, s .pre .0, n .0, m .moved .ends-within), ready-part (d - 1) (q) r (omega arith) (r .place-within))
 
 apply-coded-requires : Each lts.Need-apply-coded-requires
@@ -346,16 +362,26 @@ apply-coded-requires t c κs = search needs
 returns-2 : Each lts.Need-returns-2
 returns-2 t c =
     let s = c .before .before .before .before .before .before .before .before .before in
-    let m = c .before .before .before .before .before .before .shifted .ensures in
-    let d = c .before .before .before .before .before .before .shifted .result .end in
-    let q = c .before .before .before .before .before .before .shifted .result .place in
-    let n = not-leaf (s .args .kinds .now) d (sym (c .before .before .before .before .before .is-leaf .ensures) ∙ c .before .before .before .before .if1 .left) in
-    held-result (record { sfits = c .value-before .ok })
-    (c .value-before .ensures ∙ ap coded (first-arm (nodes t s) (seen t s) q d (n .0) (c .before .before .match .keys1) (c .before .if2 .taken) ∙ m .moved .same-value (nodes t s) (seen t s) refl (s .pre .1 .count-places)))
+    let m = c .before .before .before .before .before .before .before .before .shifted .ensures in
+    let d = c .before .before .before .before .before .before .before .before .shifted .result .end in
+    let q = c .before .before .before .before .before .before .before .before .shifted .result .place in
+    let n = not-leaf (s .args .kinds .now) d (sym (c .before .before .before .before .before .before .before .is-leaf .ensures) ∙ c .before .before .before .before .before .before .if1 .left) in
+    held-result (record { sfits = c .leaf2 .ok })
+    (c .leaf2 .ensures ∙ ap coded (leaf-before (nodes t s) (seen t s) 0 (d - 1) (sym (c .before .before .is-leaf2 .ensures) ∙ c .before .if3 .taken) ∙ first-arm (nodes t s) (seen t s) q d (n .0) (c .before .before .before .before .match .keys1) (c .before .before .before .if2 .taken) ∙ m .moved .same-value (nodes t s) (seen t s) refl (s .pre .1 .count-places)))
 
 returns-3 : Each lts.Need-returns-3
 returns-3 t c =
-    let s = c .before .before .before .before .before .before .before .before .before .before in
+    let s = c .before .before .before .before .before .before .before .before .before in
+    let m = c .before .before .before .before .before .before .before .before .shifted .ensures in
+    let d = c .before .before .before .before .before .before .before .before .shifted .result .end in
+    let q = c .before .before .before .before .before .before .before .before .shifted .result .place in
+    let n = not-leaf (s .args .kinds .now) d (sym (c .before .before .before .before .before .before .before .is-leaf .ensures) ∙ c .before .before .before .before .before .before .if1 .left) in
+    held-result (record { sfits = c .value-before .ok })
+    (c .value-before .ensures ∙ ap coded (first-arm (nodes t s) (seen t s) q d (n .0) (c .before .before .before .before .match .keys1) (c .before .before .before .if2 .taken) ∙ m .moved .same-value (nodes t s) (seen t s) refl (s .pre .1 .count-places)))
+
+returns-4 : Each lts.Need-returns-4
+returns-4 t c =
+    let s = c .before .before .before .before .before .before .before .before in
     let m = c .before .before .before .before .before .before .before .shifted .ensures in
     let d = c .before .before .before .before .before .before .before .shifted .result .end in
     let q = c .before .before .before .before .before .before .before .shifted .result .place in
@@ -363,9 +389,9 @@ returns-3 t c =
     held-result (record { sfits = c .numbered .ok })
     (c .numbered .ensures ∙ ap coded (stored-arm (nodes t s) (seen t s) q d (n .0) (record { sfits = omega (arith, c .before .numbered-arg .given) }) (c .before .before .before .match .keys1) (c .before .before .if2 .left) ∙ m .moved .same-value (nodes t s) (seen t s) refl (s .pre .1 .count-places)))
 
-returns-4 : Each lts.Need-returns-4
-returns-4 t c =
-    let s = c .before .before .before .before .before .before .before .before in
+returns-5 : Each lts.Need-returns-5
+returns-5 t c =
+    let s = c .before .before .before .before .before .before in
     let m = c .before .before .before .before .before .shifted .ensures in
     let d = c .before .before .before .before .before .shifted .result .end in
     let q = c .before .before .before .before .before .shifted .result .place in
@@ -373,9 +399,9 @@ returns-4 t c =
     held-result (record { sfits = c .absent .ok })
     (c .absent .ensures ∙ ap coded (next-none-arm (nodes t s) (seen t s) q d (n .0) (c .before .match .keys2) (s .pre .1 .count-places) (m .next-last (n .0) (c .before .match .keys2)) ∙ m .moved .same-value (nodes t s) (seen t s) refl (s .pre .1 .count-places)))
 
-returns-5 : Each lts.Need-returns-5
-returns-5 t c =
-    let s = c .before .before .before .before .before .before .before .before .before in
+returns-6 : Each lts.Need-returns-6
+returns-6 t c =
+    let s = c .before .before .before .before .before .before .before in
     let m = c .before .before .before .before .before .before .shifted .ensures in
     let d = c .before .before .before .before .before .before .shifted .result .end in
     let q = c .before .before .before .before .before .before .shifted .result .place in
@@ -383,94 +409,94 @@ returns-5 t c =
     held-result (record { sfits = c .negated .ok })
     (c .negated .ensures ∙ ap coded (negation-arm (nodes t s) (seen t s) q d (n .0) (c .before .before .match .keys3) (held-before (nodes t s) (seen t s) (d - 1) q (record { sfits = c .before .value-before2 .ok }) (c .before .value-before2 .ensures)) ∙ m .moved .same-value (nodes t s) (seen t s) refl (s .pre .1 .count-places)))
 
-returns-6 : Each lts.Need-returns-6
-returns-6 t c =
-    let s = c .before .before .before .before .before .before .before .before .before .before .before .before .before .before .before .before .before .before in
-    let m = c .before .before .before .before .before .before .before .before .before .before .before .before .before .before .before .shifted .ensures in
-    let d = c .before .before .before .before .before .before .before .before .before .before .before .before .before .before .before .shifted .result .end in
-    let q = c .before .before .before .before .before .before .before .before .before .before .before .before .before .before .before .shifted .result .place in
-    let n = not-leaf (s .args .kinds .now) d (sym (c .before .before .before .before .before .before .before .before .before .before .before .before .before .before .is-leaf .ensures) ∙ c .before .before .before .before .before .before .before .before .before .before .before .before .before .if1 .left) in
-    let test = read-before (nodes t s) (seen t s) (c .before .before .before .before .before .before .before .before .before .left-end2 .result) q
-    (⊎-elim
-    (λ w. leaf-operand (nodes t s) (seen t s) q (c .before .before .before .before .before .before .before .before .before .left-end2 .result) (record { sfits = w .1 .ok }) (w .2) (c .before .before .before .before .before .before .before .before .is-leaf2 .ensures) (w .0 .taken) (w .1 .ensures))
-    (λ w. part-operand (nodes t s) (seen t s) q (c .before .before .before .before .before .before .before .before .before .left-end2 .result) (record { sfits = w .1 .ok }) (w .2) (w .1 .ensures)) (c .before .before .before .before .before .before .before .if3 .came)) in
-    let branch = ⊎-elim
-    (λ w. ap (λ e. valueBefore cutTowardZero (nodes t s) (seen t s) e q) (w .1) ∙ then-arm (nodes t s) (seen t s) q d (n .0) (c .before .before .before .before .before .before .before .before .before .before .before .match .keys4) (c .before .before .before .before .before .before .before .before .before .before .left-end .ensures) (c .before .before .before .before .before .before .before .before .before .left-end2 .ensures) (value-there (toZ w64 (c .before .before .before .before .before .before .before .if3 .test)) test (sym (c .before .before .before .before .before .before .in-bound .ensures) ∙ c .before .before .before .before .before .if4 .taken)) refl (sym (c .before .before .before .before .truth .ensures) ∙ w .0 .taken))
-    (λ w. ap (λ e. valueBefore cutTowardZero (nodes t s) (seen t s) e q) (w .1) ∙ else-arm (nodes t s) (seen t s) q d (n .0) (c .before .before .before .before .before .before .before .before .before .before .before .match .keys4) (c .before .before .before .before .before .before .before .before .before .before .left-end .ensures) (c .before .before .before .before .before .before .before .before .before .left-end2 .ensures) (value-there (toZ w64 (c .before .before .before .before .before .before .before .if3 .test)) test (sym (c .before .before .before .before .before .before .in-bound .ensures) ∙ c .before .before .before .before .before .if4 .taken)) refl (sym (c .before .before .before .before .truth .ensures) ∙ w .0 .left))
-    (c .before .before .before .if5 .came) in
-    held-result (record { sfits = c .leaf3 .ok })
-    (c .leaf3 .ensures ∙ ap coded (leaf-before (nodes t s) (seen t s) q (c .before .before .before .if5 .branch) (sym (c .before .before .is-leaf3 .ensures) ∙ c .before .if6 .taken) ∙ branch ∙ m .moved .same-value (nodes t s) (seen t s) refl (s .pre .1 .count-places)))
-
 returns-7 : Each lts.Need-returns-7
 returns-7 t c =
     let s = c .before .before .before .before .before .before .before .before .before .before .before .before .before .before .before .before .before .before in
-    let m = c .before .before .before .before .before .before .before .before .before .before .before .before .before .before .before .shifted .ensures in
-    let d = c .before .before .before .before .before .before .before .before .before .before .before .before .before .before .before .shifted .result .end in
-    let q = c .before .before .before .before .before .before .before .before .before .before .before .before .before .before .before .shifted .result .place in
-    let n = not-leaf (s .args .kinds .now) d (sym (c .before .before .before .before .before .before .before .before .before .before .before .before .before .before .is-leaf .ensures) ∙ c .before .before .before .before .before .before .before .before .before .before .before .before .before .if1 .left) in
+    let m = c .before .before .before .before .before .before .before .before .before .before .before .before .before .before .before .before .before .shifted .ensures in
+    let d = c .before .before .before .before .before .before .before .before .before .before .before .before .before .before .before .before .before .shifted .result .end in
+    let q = c .before .before .before .before .before .before .before .before .before .before .before .before .before .before .before .before .before .shifted .result .place in
+    let n = not-leaf (s .args .kinds .now) d (sym (c .before .before .before .before .before .before .before .before .before .before .before .before .before .before .before .before .is-leaf .ensures) ∙ c .before .before .before .before .before .before .before .before .before .before .before .before .before .before .before .if1 .left) in
     let test = read-before (nodes t s) (seen t s) (c .before .before .before .before .before .before .before .before .before .left-end2 .result) q
     (⊎-elim
-    (λ w. leaf-operand (nodes t s) (seen t s) q (c .before .before .before .before .before .before .before .before .before .left-end2 .result) (record { sfits = w .1 .ok }) (w .2) (c .before .before .before .before .before .before .before .before .is-leaf2 .ensures) (w .0 .taken) (w .1 .ensures))
-    (λ w. part-operand (nodes t s) (seen t s) q (c .before .before .before .before .before .before .before .before .before .left-end2 .result) (record { sfits = w .1 .ok }) (w .2) (w .1 .ensures)) (c .before .before .before .before .before .before .before .if3 .came)) in
+    (λ w. leaf-operand (nodes t s) (seen t s) q (c .before .before .before .before .before .before .before .before .before .left-end2 .result) (record { sfits = w .1 .ok }) (w .2) (c .before .before .before .before .before .before .before .before .is-leaf3 .ensures) (w .0 .taken) (w .1 .ensures))
+    (λ w. part-operand (nodes t s) (seen t s) q (c .before .before .before .before .before .before .before .before .before .left-end2 .result) (record { sfits = w .1 .ok }) (w .2) (w .1 .ensures)) (c .before .before .before .before .before .before .before .if4 .came)) in
     let branch = ⊎-elim
-    (λ w. ap (λ e. valueBefore cutTowardZero (nodes t s) (seen t s) e q) (w .1) ∙ then-arm (nodes t s) (seen t s) q d (n .0) (c .before .before .before .before .before .before .before .before .before .before .before .match .keys4) (c .before .before .before .before .before .before .before .before .before .before .left-end .ensures) (c .before .before .before .before .before .before .before .before .before .left-end2 .ensures) (value-there (toZ w64 (c .before .before .before .before .before .before .before .if3 .test)) test (sym (c .before .before .before .before .before .before .in-bound .ensures) ∙ c .before .before .before .before .before .if4 .taken)) refl (sym (c .before .before .before .before .truth .ensures) ∙ w .0 .taken))
-    (λ w. ap (λ e. valueBefore cutTowardZero (nodes t s) (seen t s) e q) (w .1) ∙ else-arm (nodes t s) (seen t s) q d (n .0) (c .before .before .before .before .before .before .before .before .before .before .before .match .keys4) (c .before .before .before .before .before .before .before .before .before .before .left-end .ensures) (c .before .before .before .before .before .before .before .before .before .left-end2 .ensures) (value-there (toZ w64 (c .before .before .before .before .before .before .before .if3 .test)) test (sym (c .before .before .before .before .before .before .in-bound .ensures) ∙ c .before .before .before .before .before .if4 .taken)) refl (sym (c .before .before .before .before .truth .ensures) ∙ w .0 .left))
-    (c .before .before .before .if5 .came) in
-    held-result (record { sfits = c .value-before4 .ok })
-    (c .value-before4 .ensures ∙ ap coded (branch ∙ m .moved .same-value (nodes t s) (seen t s) refl (s .pre .1 .count-places)))
+    (λ w. ap (λ e. valueBefore cutTowardZero (nodes t s) (seen t s) e q) (w .1) ∙ then-arm (nodes t s) (seen t s) q d (n .0) (c .before .before .before .before .before .before .before .before .before .before .before .before .before .match .keys4) (c .before .before .before .before .before .before .before .before .before .before .before .left-end .ensures) (c .before .before .before .before .before .before .before .before .before .left-end2 .ensures) (value-there (toZ w64 (c .before .before .before .before .before .before .before .if4 .test)) test (sym (c .before .before .before .before .before .before .in-bound .ensures) ∙ c .before .before .before .before .before .if5 .taken)) refl (sym (c .before .before .before .before .truth .ensures) ∙ w .0 .taken))
+    (λ w. ap (λ e. valueBefore cutTowardZero (nodes t s) (seen t s) e q) (w .1) ∙ else-arm (nodes t s) (seen t s) q d (n .0) (c .before .before .before .before .before .before .before .before .before .before .before .before .before .match .keys4) (c .before .before .before .before .before .before .before .before .before .before .before .left-end .ensures) (c .before .before .before .before .before .before .before .before .before .left-end2 .ensures) (value-there (toZ w64 (c .before .before .before .before .before .before .before .if4 .test)) test (sym (c .before .before .before .before .before .before .in-bound .ensures) ∙ c .before .before .before .before .before .if5 .taken)) refl (sym (c .before .before .before .before .truth .ensures) ∙ w .0 .left))
+    (c .before .before .before .if6 .came) in
+    held-result (record { sfits = c .leaf4 .ok })
+    (c .leaf4 .ensures ∙ ap coded (leaf-before (nodes t s) (seen t s) q (c .before .before .before .if6 .branch) (sym (c .before .before .is-leaf4 .ensures) ∙ c .before .if7 .taken) ∙ branch ∙ m .moved .same-value (nodes t s) (seen t s) refl (s .pre .1 .count-places)))
 
 returns-8 : Each lts.Need-returns-8
 returns-8 t c =
-    let s = c .before .before .before .before .before .before .before .before .before .before .before .before .before .before in
-    let m = c .before .before .before .before .before .before .before .before .before .before .before .shifted .ensures in
-    let d = c .before .before .before .before .before .before .before .before .before .before .before .shifted .result .end in
-    let q = c .before .before .before .before .before .before .before .before .before .before .before .shifted .result .place in
-    let n = not-leaf (s .args .kinds .now) d (sym (c .before .before .before .before .before .before .before .before .before .before .is-leaf .ensures) ∙ c .before .before .before .before .before .before .before .before .before .if1 .left) in
-    let test = read-before (nodes t s) (seen t s) (c .before .before .before .before .before .left-end2 .result) q
+    let s = c .before .before .before .before .before .before .before .before .before .before .before .before .before .before .before .before .before .before in
+    let m = c .before .before .before .before .before .before .before .before .before .before .before .before .before .before .before .before .before .shifted .ensures in
+    let d = c .before .before .before .before .before .before .before .before .before .before .before .before .before .before .before .before .before .shifted .result .end in
+    let q = c .before .before .before .before .before .before .before .before .before .before .before .before .before .before .before .before .before .shifted .result .place in
+    let n = not-leaf (s .args .kinds .now) d (sym (c .before .before .before .before .before .before .before .before .before .before .before .before .before .before .before .before .is-leaf .ensures) ∙ c .before .before .before .before .before .before .before .before .before .before .before .before .before .before .before .if1 .left) in
+    let test = read-before (nodes t s) (seen t s) (c .before .before .before .before .before .before .before .before .before .left-end2 .result) q
     (⊎-elim
-    (λ w. leaf-operand (nodes t s) (seen t s) q (c .before .before .before .before .before .left-end2 .result) (record { sfits = w .1 .ok }) (w .2) (c .before .before .before .before .is-leaf2 .ensures) (w .0 .taken) (w .1 .ensures))
-    (λ w. part-operand (nodes t s) (seen t s) q (c .before .before .before .before .before .left-end2 .result) (record { sfits = w .1 .ok }) (w .2) (w .1 .ensures)) (c .before .before .before .if3 .came)) in
-    held-result (record { sfits = c .absent2 .ok })
-    (c .absent2 .ensures ∙ ap coded (untested-arm (nodes t s) (seen t s) q d (n .0) (c .before .before .before .before .before .before .before .match .keys4) (c .before .before .before .before .before .before .left-end .ensures) (c .before .before .before .before .before .left-end2 .ensures) (value-absent (toZ w64 (c .before .before .before .if3 .test)) test (sym (c .before .before .in-bound .ensures) ∙ c .before .if4 .left)) refl ∙ m .moved .same-value (nodes t s) (seen t s) refl (s .pre .1 .count-places)))
+    (λ w. leaf-operand (nodes t s) (seen t s) q (c .before .before .before .before .before .before .before .before .before .left-end2 .result) (record { sfits = w .1 .ok }) (w .2) (c .before .before .before .before .before .before .before .before .is-leaf3 .ensures) (w .0 .taken) (w .1 .ensures))
+    (λ w. part-operand (nodes t s) (seen t s) q (c .before .before .before .before .before .before .before .before .before .left-end2 .result) (record { sfits = w .1 .ok }) (w .2) (w .1 .ensures)) (c .before .before .before .before .before .before .before .if4 .came)) in
+    let branch = ⊎-elim
+    (λ w. ap (λ e. valueBefore cutTowardZero (nodes t s) (seen t s) e q) (w .1) ∙ then-arm (nodes t s) (seen t s) q d (n .0) (c .before .before .before .before .before .before .before .before .before .before .before .before .before .match .keys4) (c .before .before .before .before .before .before .before .before .before .before .before .left-end .ensures) (c .before .before .before .before .before .before .before .before .before .left-end2 .ensures) (value-there (toZ w64 (c .before .before .before .before .before .before .before .if4 .test)) test (sym (c .before .before .before .before .before .before .in-bound .ensures) ∙ c .before .before .before .before .before .if5 .taken)) refl (sym (c .before .before .before .before .truth .ensures) ∙ w .0 .taken))
+    (λ w. ap (λ e. valueBefore cutTowardZero (nodes t s) (seen t s) e q) (w .1) ∙ else-arm (nodes t s) (seen t s) q d (n .0) (c .before .before .before .before .before .before .before .before .before .before .before .before .before .match .keys4) (c .before .before .before .before .before .before .before .before .before .before .before .left-end .ensures) (c .before .before .before .before .before .before .before .before .before .left-end2 .ensures) (value-there (toZ w64 (c .before .before .before .before .before .before .before .if4 .test)) test (sym (c .before .before .before .before .before .before .in-bound .ensures) ∙ c .before .before .before .before .before .if5 .taken)) refl (sym (c .before .before .before .before .truth .ensures) ∙ w .0 .left))
+    (c .before .before .before .if6 .came) in
+    held-result (record { sfits = c .value-before4 .ok })
+    (c .value-before4 .ensures ∙ ap coded (branch ∙ m .moved .same-value (nodes t s) (seen t s) refl (s .pre .1 .count-places)))
 
 returns-9 : Each lts.Need-returns-9
 returns-9 t c =
-    let s = c .before .before .before .before .before .before .before .before .before .before in
-    let m = c .before .before .before .before .before .before .before .shifted .ensures in
-    let d = c .before .before .before .before .before .before .before .shifted .result .end in
-    let q = c .before .before .before .before .before .before .before .shifted .result .place in
-    let n = not-leaf (s .args .kinds .now) d (sym (c .before .before .before .before .before .before .is-leaf .ensures) ∙ c .before .before .before .before .before .if1 .left) in
-    held-result (record { sfits = c .value-before5 .ok })
-    (c .value-before5 .ensures ∙ ap coded (fby-left-arm (nodes t s) (seen t s) q d (n .0) (c .before .before .before .match .keys5) (m .fby-first (n .0) (c .before .before .before .match .keys5)) (c .before .before .if7 .taken) (c .before .left-end3 .ensures) ∙ m .moved .same-value (nodes t s) (seen t s) refl (s .pre .1 .count-places)))
+    let s = c .before .before .before .before .before .before .before .before .before .before .before .before .before .before in
+    let m = c .before .before .before .before .before .before .before .before .before .before .before .before .before .shifted .ensures in
+    let d = c .before .before .before .before .before .before .before .before .before .before .before .before .before .shifted .result .end in
+    let q = c .before .before .before .before .before .before .before .before .before .before .before .before .before .shifted .result .place in
+    let n = not-leaf (s .args .kinds .now) d (sym (c .before .before .before .before .before .before .before .before .before .before .before .before .is-leaf .ensures) ∙ c .before .before .before .before .before .before .before .before .before .before .before .if1 .left) in
+    let test = read-before (nodes t s) (seen t s) (c .before .before .before .before .before .left-end2 .result) q
+    (⊎-elim
+    (λ w. leaf-operand (nodes t s) (seen t s) q (c .before .before .before .before .before .left-end2 .result) (record { sfits = w .1 .ok }) (w .2) (c .before .before .before .before .is-leaf3 .ensures) (w .0 .taken) (w .1 .ensures))
+    (λ w. part-operand (nodes t s) (seen t s) q (c .before .before .before .before .before .left-end2 .result) (record { sfits = w .1 .ok }) (w .2) (w .1 .ensures)) (c .before .before .before .if4 .came)) in
+    held-result (record { sfits = c .absent2 .ok })
+    (c .absent2 .ensures ∙ ap coded (untested-arm (nodes t s) (seen t s) q d (n .0) (c .before .before .before .before .before .before .before .before .before .match .keys4) (c .before .before .before .before .before .before .before .left-end .ensures) (c .before .before .before .before .before .left-end2 .ensures) (value-absent (toZ w64 (c .before .before .before .if4 .test)) test (sym (c .before .before .in-bound .ensures) ∙ c .before .if5 .left)) refl ∙ m .moved .same-value (nodes t s) (seen t s) refl (s .pre .1 .count-places)))
 
 returns-10 : Each lts.Need-returns-10
 returns-10 t c =
-    let s = c .before .before .before .before .before .before .before .before in
+    let s = c .before .before .before .before .before .before .before .before .before in
+    let m = c .before .before .before .before .before .before .before .before .shifted .ensures in
+    let d = c .before .before .before .before .before .before .before .before .shifted .result .end in
+    let q = c .before .before .before .before .before .before .before .before .shifted .result .place in
+    let n = not-leaf (s .args .kinds .now) d (sym (c .before .before .before .before .before .before .before .is-leaf .ensures) ∙ c .before .before .before .before .before .before .if1 .left) in
+    held-result (record { sfits = c .value-before5 .ok })
+    (c .value-before5 .ensures ∙ ap coded (fby-left-arm (nodes t s) (seen t s) q d (n .0) (c .before .before .before .before .match .keys5) (m .fby-first (n .0) (c .before .before .before .before .match .keys5)) (c .before .before .before .if8 .taken) (c .before .left-end3 .ensures) ∙ m .moved .same-value (nodes t s) (seen t s) refl (s .pre .1 .count-places)))
+
+returns-11 : Each lts.Need-returns-11
+returns-11 t c =
+    let s = c .before .before .before .before .before .before in
     let m = c .before .before .before .before .before .shifted .ensures in
     let d = c .before .before .before .before .before .shifted .result .end in
     let q = c .before .before .before .before .before .shifted .result .place in
     let n = not-leaf (s .args .kinds .now) d (sym (c .before .before .before .before .is-leaf .ensures) ∙ c .before .before .before .if1 .left) in
-    ap coded (fby-window-arm (nodes t s) (seen t s) q d (n .0) (c .before .match .keys5) (m .fby-first (n .0) (c .before .match .keys5)) (c .if7 .left) ∙ m .moved .same-value (nodes t s) (seen t s) refl (s .pre .1 .count-places))
+    ap coded (fby-window-arm (nodes t s) (seen t s) q d (n .0) (c .before .match .keys5) (m .fby-first (n .0) (c .before .match .keys5)) (c .if8 .left) ∙ m .moved .same-value (nodes t s) (seen t s) refl (s .pre .1 .count-places))
 
-returns-11 : Each lts.Need-returns-11
-returns-11 t c =
-    let s = c .before .before .before .before .before .before .before .before .before .before .before .before .before in
-    let m = c .before .before .before .before .before .before .before .before .before .before .shifted .ensures in
-    let d = c .before .before .before .before .before .before .before .before .before .before .shifted .result .end in
-    let q = c .before .before .before .before .before .before .before .before .before .before .shifted .result .place in
-    let n = not-leaf (s .args .kinds .now) d (sym (c .before .before .before .before .before .before .before .before .before .is-leaf .ensures) ∙ c .before .before .before .before .before .before .before .before .if1 .left) in
-    let rest = c .before .before .before .before .before .before .match .rest in
+returns-12 : Each lts.Need-returns-12
+returns-12 t c =
+    let s = c .before .before .before .before .before .before .before .before .before .before .before .before in
+    let m = c .before .before .before .before .before .before .before .before .before .before .before .shifted .ensures in
+    let d = c .before .before .before .before .before .before .before .before .before .before .before .shifted .result .end in
+    let q = c .before .before .before .before .before .before .before .before .before .before .before .shifted .result .place in
+    let n = not-leaf (s .args .kinds .now) d (sym (c .before .before .before .before .before .before .before .before .before .before .is-leaf .ensures) ∙ c .before .before .before .before .before .before .before .before .before .if1 .left) in
+    let rest = c .before .before .before .before .before .before .before .match .rest in
     held-result (record { sfits = c .apply-coded .ok })
     (c .apply-coded .ensures ∙ ap coded
     (operator-arm (nodes t s) (seen t s) q d (n .0)
     (later (later (later (later (later (n .1) (rest .0 .0 .0 .0 .1)) (rest .0 .0 .0 .1)) (rest .0 .0 .1)) (rest .0 .1)) (rest .1))
     (c .before .before .before .before .before .left-end4 .ensures)
     (⊎-elim
-    (λ w. leaf-operand (nodes t s) (seen t s) q (c .before .before .before .before .before .left-end4 .result) (record { sfits = w .1 .ok }) (w .2) (c .before .before .before .before .is-leaf4 .ensures) (w .0 .taken) (w .1 .ensures))
-    (λ w. part-operand (nodes t s) (seen t s) q (c .before .before .before .before .before .left-end4 .result) (record { sfits = w .1 .ok }) (w .2) (w .1 .ensures)) (c .before .before .before .if8 .came))
+    (λ w. leaf-operand (nodes t s) (seen t s) q (c .before .before .before .before .before .left-end4 .result) (record { sfits = w .1 .ok }) (w .2) (c .before .before .before .before .is-leaf5 .ensures) (w .0 .taken) (w .1 .ensures))
+    (λ w. part-operand (nodes t s) (seen t s) q (c .before .before .before .before .before .left-end4 .result) (record { sfits = w .1 .ok }) (w .2) (w .1 .ensures)) (c .before .before .before .if9 .came))
     (⊎-elim
-    (λ w. leaf-operand (nodes t s) (seen t s) q (d - 1) (record { sfits = w .1 .ok }) (w .2) (c .before .before .is-leaf5 .ensures) (w .0 .taken) (w .1 .ensures))
-    (λ w. part-operand (nodes t s) (seen t s) q (d - 1) (record { sfits = w .1 .ok }) (w .2) (w .1 .ensures)) (c .before .if9 .came)) ∙ m .moved .same-value (nodes t s) (seen t s) refl (s .pre .1 .count-places)))
+    (λ w. leaf-operand (nodes t s) (seen t s) q (d - 1) (record { sfits = w .1 .ok }) (w .2) (c .before .before .is-leaf6 .ensures) (w .0 .taken) (w .1 .ensures))
+    (λ w. part-operand (nodes t s) (seen t s) q (d - 1) (record { sfits = w .1 .ok }) (w .2) (w .1 .ensures)) (c .before .if10 .came)) ∙ m .moved .same-value (nodes t s) (seen t s) refl (s .pre .1 .count-places)))
 
 pub +value-before-spec : {M : Type 1} → statement M
 +value-before-spec =
@@ -481,33 +507,35 @@ pub +value-before-spec : {M : Type 1} → statement M
     (leaf-requires t)
     (returns t)
     (sub-i t)
-    (shared-slice-read-kind t)
+    (element-copy-out-kind t)
+    (is-leaf-requires-2 t)
+    (leaf-requires-2 t)
     (value-before-requires t)
     (mul-numbered t)
-    (shared-slice-copy-out-numbered t)
+    (element-copy-out-numbered t)
     (numbered-requires t)
     (absent-requires t)
     (value-before-requires-2 t)
     (negated-requires t)
     (left-end-requires t)
     (left-end-requires-2 t)
-    (is-leaf-requires-2 t)
-    (leaf-requires-2 t)
+    (is-leaf-requires-3 t)
+    (leaf-requires-3 t)
     (value-before-requires-3 t)
     (in-bound-requires t)
     (truth-requires t)
-    (is-leaf-requires-3 t)
-    (leaf-requires-3 t)
+    (is-leaf-requires-4 t)
+    (leaf-requires-4 t)
     (value-before-requires-4 t)
     (absent-requires-2 t)
     (left-end-requires-3 t)
     (value-before-requires-5 t)
     (left-end-requires-4 t)
-    (is-leaf-requires-4 t)
-    (leaf-requires-4 t)
-    (value-before-requires-6 t)
     (is-leaf-requires-5 t)
     (leaf-requires-5 t)
+    (value-before-requires-6 t)
+    (is-leaf-requires-6 t)
+    (leaf-requires-6 t)
     (value-before-requires-7 t)
     (apply-coded-requires t)
     (returns-2 t)
@@ -520,3 +548,4 @@ pub +value-before-spec : {M : Type 1} → statement M
     (returns-9 t)
     (returns-10 t)
     (returns-11 t)
+    (returns-12 t)

@@ -1,5 +1,6 @@
--- `evaluate::evaluate` meets its contract: the tests are those of the definition, and the rest, behind the nodes that only change the place (Shifting), is a
--- leaf, the stored value of a `first`, or the recursion, whose number is read back (Decoding).
+-- `evaluate::evaluate` meets its contract: the tests are those of the definition, since the slices tell how many elements the lists of nodes have, and the
+-- rest, behind the nodes that only change the place (Shifting), is a leaf, the stored value of a `first`, or the recursion, whose number is read back
+-- (Decoding).
 use native.Mathlib.Omega.{arith}
 use borrow.Author.Tests.{not-true}
 use mathlib.Core.Path.{refl, sym, _∙_, ap}
@@ -9,7 +10,7 @@ use Rattle.arithmetic.specs.Coded.{coded}
 use Rattle.arithmetic.proofs.Coded.{held-result}
 use Rattle.evaluate.proofs.Leaves.{not-leaf}
 use Rattle.evaluate.proofs.Decoding.{held-before, read-before}
-use Rattle.evaluate.proofs.Recursion.{leaf-before, stored-arm, no-kind, no-stored, no-start, no-place, root-value}
+use Rattle.evaluate.proofs.Recursion.{Arrays, leaf-before, stored-arm, no-node, no-place, root-value}
 use Rattle.evaluate.proofs.evaluate.Statement.{statement}
 use Rattle.evaluate.proofs.evaluate.Tie as tie
 
@@ -19,6 +20,10 @@ nodes s = stored (s .args .kinds .now) (s .args .values .now) (s .args .starts .
 abbrev seen : tie.Start → View
 seen s = view (s .args .window .now) (s .args .streams) (s .args .firsts .now) (s .args .whole)
 
+-- What the slices tell of the arrays that they are made of.
+arrays : (c : tie.After-start-list) → Arrays (nodes (c .before .before .before))
+arrays c = record { kinds = c .before .before .kind-list .given .0; values = c .before .value-list .given .0; starts = c .start-list .given .0 }
+
 places-requires : tie.Need-places-requires
 places-requires c κs = search needs
 
@@ -27,32 +32,16 @@ no-value-requires c κs = search needs
 
 returns : tie.Need-returns
 returns c =
-    let s = c .before .before .before .before .before in
-    c .no-value .ensures ∙ no-kind (nodes s) (seen s) (s .args .root) (s .args .place) (c .before .if1 .taken)
+    let s = c .before .before .before .before .before .before in
+    c .no-value .ensures ∙ no-node (arrays (c .before .before .before)) (seen s) (s .args .root) (s .args .place) (c .before .if1 .taken)
 
 no-value-requires-2 : tie.Need-no-value-requires-2
 no-value-requires-2 c κs = search needs
 
 returns-2 : tie.Need-returns-2
 returns-2 c =
-    let s = c .before .before .before .before .before .before in
-    c .no-value2 .ensures ∙ no-stored (nodes s) (seen s) (s .args .root) (s .args .place) (c .before .before .if1 .left) (c .before .if2 .taken)
-
-no-value-requires-3 : tie.Need-no-value-requires-3
-no-value-requires-3 c κs = search needs
-
-returns-3 : tie.Need-returns-3
-returns-3 c =
     let s = c .before .before .before .before .before .before .before in
-    c .no-value3 .ensures ∙ no-start (nodes s) (seen s) (s .args .root) (s .args .place) (c .before .before .before .if1 .left) (c .before .before .if2 .left) (c .before .if3 .taken)
-
-no-value-requires-4 : tie.Need-no-value-requires-4
-no-value-requires-4 c κs = search needs
-
-returns-4 : tie.Need-returns-4
-returns-4 c =
-    let s = c .before .before .before .before .before .before .before .before in
-    c .no-value4 .ensures ∙ no-place (nodes s) (seen s) (s .args .root) (s .args .place) (c .before .before .before .before .if1 .left) (c .before .before .before .if2 .left) (c .before .before .if3 .left) (c .before .before .before .before .before .places .ensures) (c .before .if4 .taken)
+    c .no-value2 .ensures ∙ no-place (arrays (c .before .before .before .before)) (seen s) (s .args .root) (s .args .place) (c .before .before .if1 .left) (c .before .before .before .places .ensures) (c .before .if2 .taken)
 
 add-shifted : tie.Need-add-shifted
 add-shifted c = search needs
@@ -69,35 +58,35 @@ leaf-requires c κs = search needs
 bounded-requires : tie.Need-bounded-requires
 bounded-requires c κs = search needs
 
-returns-5 : tie.Need-returns-5
-returns-5 c =
-    let s = c .before .before .before .before .before .before .before .before .before .before .before .before in
+returns-3 : tie.Need-returns-3
+returns-3 c =
+    let s = c .before .before .before .before .before .before .before .before .before .before .before in
     let m = c .before .before .before .before .shifted .ensures in
     let d = c .before .before .before .before .shifted .result .end in
     let q = c .before .before .before .before .shifted .result .place in
-    let root = m .moved .same-value (nodes s) (seen s) refl (c .before .before .before .before .before .before .before .before .before .places .ensures)
-    ∙ root-value (nodes s) (seen s) (s .args .root) (s .args .place) (c .before .before .before .before .before .before .before .before .if1 .left) (c .before .before .before .before .before .before .before .if2 .left) (c .before .before .before .before .before .before .if3 .left) (c .before .before .before .before .before .before .before .before .before .places .ensures) (c .before .before .before .before .before .if4 .left) in
+    let root = m .moved .same-value (nodes s) (seen s) refl (c .before .before .before .before .before .before .before .places .ensures)
+    ∙ root-value (arrays (c .before .before .before .before .before .before .before .before)) (seen s) (s .args .root) (s .args .place) (c .before .before .before .before .before .before .if1 .left) (c .before .before .before .before .before .before .before .places .ensures) (c .before .before .before .before .before .if2 .left) in
     c .bounded .ensures
-    ∙ read-before (nodes s) (seen s) d q (held-result (record { sfits = c .before .leaf .ok }) (c .before .leaf .ensures ∙ ap coded (leaf-before (nodes s) (seen s) q d (sym (c .before .before .before .is-leaf .ensures) ∙ c .before .before .if5 .taken))))
+    ∙ read-before (nodes s) (seen s) d q (held-result (record { sfits = c .before .leaf .ok }) (c .before .leaf .ensures ∙ ap coded (leaf-before (nodes s) (seen s) q d (sym (c .before .before .before .is-leaf .ensures) ∙ c .before .before .if3 .taken))))
     ∙ root
 
 sub-i : tie.Need-sub-i
 sub-i c =
-    let s = c .before .before .before .before .before .before .before .before .before .before in
+    let s = c .before .before .before .before .before .before .before .before .before in
     let m = c .before .before .shifted .ensures in
     let d = c .before .before .shifted .result .end in
     let q = c .before .before .shifted .result .place in
-    let n = not-leaf (s .args .kinds .now) d (sym (c .before .is-leaf .ensures) ∙ c .if5 .left) in
+    let n = not-leaf (s .args .kinds .now) d (sym (c .before .is-leaf .ensures) ∙ c .if3 .left) in
     omega (arith, n .0)
 
-shared-slice-read-if6 : tie.Need-shared-slice-read-if6
-shared-slice-read-if6 c = search needs
+element-copy-out-if4 : tie.Need-element-copy-out-if4
+element-copy-out-if4 c = search needs
 
 mul-numbered : tie.Need-mul-numbered
 mul-numbered c = search needs
 
-shared-slice-copy-out-numbered : tie.Need-shared-slice-copy-out-numbered
-shared-slice-copy-out-numbered c = search needs
+element-copy-out-numbered : tie.Need-element-copy-out-numbered
+element-copy-out-numbered c = search needs
 
 numbered-requires : tie.Need-numbered-requires
 numbered-requires c κs = search needs
@@ -105,17 +94,17 @@ numbered-requires c κs = search needs
 bounded-requires-2 : tie.Need-bounded-requires-2
 bounded-requires-2 c κs = search needs
 
-returns-6 : tie.Need-returns-6
-returns-6 c =
-    let s = c .before .before .before .before .before .before .before .before .before .before .before .before .before .before .before .before in
+returns-4 : tie.Need-returns-4
+returns-4 c =
+    let s = c .before .before .before .before .before .before .before .before .before .before .before .before .before .before .before in
     let m = c .before .before .before .before .before .before .before .before .shifted .ensures in
     let d = c .before .before .before .before .before .before .before .before .shifted .result .end in
     let q = c .before .before .before .before .before .before .before .before .shifted .result .place in
-    let n = not-leaf (s .args .kinds .now) d (sym (c .before .before .before .before .before .before .before .is-leaf .ensures) ∙ c .before .before .before .before .before .before .if5 .left) in
-    let root = m .moved .same-value (nodes s) (seen s) refl (c .before .before .before .before .before .before .before .before .before .before .before .before .before .places .ensures)
-    ∙ root-value (nodes s) (seen s) (s .args .root) (s .args .place) (c .before .before .before .before .before .before .before .before .before .before .before .before .if1 .left) (c .before .before .before .before .before .before .before .before .before .before .before .if2 .left) (c .before .before .before .before .before .before .before .before .before .before .if3 .left) (c .before .before .before .before .before .before .before .before .before .before .before .before .before .places .ensures) (c .before .before .before .before .before .before .before .before .before .if4 .left) in
+    let n = not-leaf (s .args .kinds .now) d (sym (c .before .before .before .before .before .before .before .is-leaf .ensures) ∙ c .before .before .before .before .before .before .if3 .left) in
+    let root = m .moved .same-value (nodes s) (seen s) refl (c .before .before .before .before .before .before .before .before .before .before .before .places .ensures)
+    ∙ root-value (arrays (c .before .before .before .before .before .before .before .before .before .before .before .before)) (seen s) (s .args .root) (s .args .place) (c .before .before .before .before .before .before .before .before .before .before .if1 .left) (c .before .before .before .before .before .before .before .before .before .before .before .places .ensures) (c .before .before .before .before .before .before .before .before .before .if2 .left) in
     c .bounded2 .ensures
-    ∙ read-before (nodes s) (seen s) d q (held-result (record { sfits = c .before .numbered .ok }) (c .before .numbered .ensures ∙ ap coded (stored-arm (nodes s) (seen s) q d (n .0) (record { sfits = omega (arith, c .before .before .numbered-arg .given) }) (c .before .before .before .before .if6 .taken) (not-true (s .args .whole) (c .before .before .before .if7 .taken)))))
+    ∙ read-before (nodes s) (seen s) d q (held-result (record { sfits = c .before .numbered .ok }) (c .before .numbered .ensures ∙ ap coded (stored-arm (nodes s) (seen s) q d (n .0) (record { sfits = omega (arith, c .before .before .numbered-arg .given) }) (c .before .before .before .before .if4 .taken) (not-true (s .args .whole) (c .before .before .before .if5 .taken)))))
     ∙ root
 
 value-before-requires : tie.Need-value-before-requires
@@ -124,14 +113,14 @@ value-before-requires c κs = search needs
 bounded-requires-3 : tie.Need-bounded-requires-3
 bounded-requires-3 c κs = search needs
 
-returns-7 : tie.Need-returns-7
-returns-7 c =
-    let s = c .before .before .before .before .before .before .before .before .before .before .before .before .before .before in
+returns-5 : tie.Need-returns-5
+returns-5 c =
+    let s = c .before .before .before .before .before .before .before .before .before .before .before .before .before in
     let m = c .before .before .before .before .before .before .shifted .ensures in
     let d = c .before .before .before .before .before .before .shifted .result .end in
     let q = c .before .before .before .before .before .before .shifted .result .place in
-    let root = m .moved .same-value (nodes s) (seen s) refl (c .before .before .before .before .before .before .before .before .before .before .before .places .ensures)
-    ∙ root-value (nodes s) (seen s) (s .args .root) (s .args .place) (c .before .before .before .before .before .before .before .before .before .before .if1 .left) (c .before .before .before .before .before .before .before .before .before .if2 .left) (c .before .before .before .before .before .before .before .before .if3 .left) (c .before .before .before .before .before .before .before .before .before .before .before .places .ensures) (c .before .before .before .before .before .before .before .if4 .left) in
+    let root = m .moved .same-value (nodes s) (seen s) refl (c .before .before .before .before .before .before .before .before .before .places .ensures)
+    ∙ root-value (arrays (c .before .before .before .before .before .before .before .before .before .before)) (seen s) (s .args .root) (s .args .place) (c .before .before .before .before .before .before .before .before .if1 .left) (c .before .before .before .before .before .before .before .before .before .places .ensures) (c .before .before .before .before .before .before .before .if2 .left) in
     c .bounded3 .ensures
     ∙ held-before (nodes s) (seen s) d q (record { sfits = c .before .value-before .ok }) (c .before .value-before .ensures)
     ∙ root
@@ -145,23 +134,19 @@ evaluate-spec =
     returns
     no-value-requires-2
     returns-2
-    no-value-requires-3
-    returns-3
-    no-value-requires-4
-    returns-4
     add-shifted
     shifted-requires
     is-leaf-requires
     leaf-requires
     bounded-requires
-    returns-5
+    returns-3
     sub-i
-    shared-slice-read-if6
+    element-copy-out-if4
     mul-numbered
-    shared-slice-copy-out-numbered
+    element-copy-out-numbered
     numbered-requires
     bounded-requires-2
-    returns-6
+    returns-4
     value-before-requires
     bounded-requires-3
-    returns-7)
+    returns-5)

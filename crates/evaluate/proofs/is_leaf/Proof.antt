@@ -10,11 +10,11 @@ returns c = leaf-empty (c .before .args .kinds .now) (c .before .args .end) (c .
 sub-result : tie.Need-sub-result
 sub-result c = search needs
 
-shared-slice-read-result : tie.Need-shared-slice-read-result
-shared-slice-read-result c = search needs
+element-copy-out-result : tie.Need-element-copy-out-result
+element-copy-out-result c = search needs
 
 returns-2 : tie.Need-returns-2
 returns-2 c = leaf-last (c .before .before .args .kinds .now) (c .before .before .args .end) (c .before .if1 .left)
 
 pub is-leaf-spec : {M : Type 1} → statement M
-is-leaf-spec = tie.close (tie.spec returns sub-result shared-slice-read-result returns-2)
+is-leaf-spec = tie.close (tie.spec returns sub-result element-copy-out-result returns-2)

@@ -22,8 +22,8 @@ loop-holds c = moved-none (c .pre .1)
 sub-kind : tie.Need-sub-kind Inv-loop μ-loop
 sub-kind c = search needs
 
-shared-slice-read-kind : tie.Need-shared-slice-read-kind Inv-loop μ-loop
-shared-slice-read-kind c = search needs
+element-copy-out-kind : tie.Need-element-copy-out-kind Inv-loop μ-loop
+element-copy-out-kind c = search needs
 
 add-if2 : tie.Need-add-if2 Inv-loop μ-loop
 add-if2 c = search needs
@@ -87,7 +87,7 @@ shifted-spec =
     μ-loop
     loop-holds
     sub-kind
-    shared-slice-read-kind
+    element-copy-out-kind
     add-if2
     returns
     add-at

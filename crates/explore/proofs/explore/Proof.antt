@@ -18,13 +18,13 @@ slice-aggregate-settle c = search needs
 
 settle-requires : tie.Need-settle-requires
 settle-requires c κs =
-    let start = c .before .before .before .before .before .before .before .before .before .before .before .before .before .before .before .before .before .before .before .before .before in
+    let start = c .before .before .before .before .before .before .before .before .before .before .before .before .before .before .before .before .before .before .before in
     let l = start .pre .1 in
     (cleared-chained (start .args .heads .now) _ _ _ (omega (arith, l .some-row, l .heads-room)) (c .before .before .before .before .before .before .before .fill .ensures), (refl, l .few-rows, l .links-room, l .keys-room, l .flags-room))
 
 search-requires : tie.Need-search-requires
 search-requires c κs =
-    let start = c .before .before .before .before .before .before .before .before .before .before .before .before .before .before .before .before .before .before .before .before .before .before .before .before .before .before .before .before .before .before .before .before .before .before .before in
+    let start = c .before .before .before .before .before .before .before .before .before .before .before .before .before .before .before .before .before .before .before .before .before .before .before .before .before .before .before .before .before .before .before .before .before in
     let l = start .pre .1 in
     let settle = c .before .before .before .before .before .before .before .before .before .before .before .before .before .settle in
     (start .pre .0, (sizes-lent (record { keys-long = settle .kept .1 .1 .0; heads-long = settle .kept .0 ∙ c .before .before .before .before .before .before .before .before .before .before .before .before .before .before .before .before .before .before .before .before .before .fill .kept .0; links-long = settle .kept .1 .0; entries-long = refl; flags-long = settle .kept .1 .1 .1 .0 }) l, settled-start (l .some-row) (l .flags-room) (settle .ensures)))

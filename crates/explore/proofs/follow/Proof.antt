@@ -23,7 +23,7 @@ abbrev row : tie.Start → List ℕ
 row c = rowAt (c .args .keys .now) (c .args .s)
 
 abbrev start-of : tie.After-extend → tie.Start
-start-of c = c .before .before .before .before .before .before .before .before .before .before .before .before .before .before .before .before .before
+start-of c = c .before .before .before .before .before .before .before .before .before .before .before .before .before .before .before
 
 extended : (c : tie.After-extend) → Extended cutTowardZero (store (start-of c)) (row (start-of c)) (start-of c .args .a) (c .extend .result) (c .extend .last .1 .1 .1 .1 .1 .1 .1 .1 .1 .1 .1 .1 .1 .1 .1 .1 .0)
 extended c = subst (λ k. Extended cutTowardZero (store (start-of c)) k (start-of c .args .a) (c .extend .result) (c .extend .last .1 .1 .1 .1 .1 .1 .1 .1 .1 .1 .1 .1 .1 .1 .1 .1 .0)) (row-part (start-of c .args .keys .now) (start-of c .args .s)) (c .extend .ensures .0)
@@ -58,7 +58,7 @@ slice-aggregate-extend c = search needs
 
 extend-requires : tie.Need-extend-requires
 extend-requires c κs =
-    let start = c .before .before .before .before .before .before .before .before .before .before .before .before .before .before .before .before in
+    let start = c .before .before .before .before .before .before .before .before .before .before .before .before .before .before in
     let a = start .args in (
       start .pre .0,
       (

@@ -38,7 +38,7 @@ abbrev μ-rows : tie.MeasureT-rows
 -- ---- the places
 
 abbrev start-of : tie.In-rows Inv-loop μ-loop Inv-rows μ-rows → tie.Start Inv-loop μ-loop Inv-rows μ-rows
-start-of c = c .before .before .before .before .before .before .before .before .before .before .before .before .before
+start-of c = c .before .before .before .before .before .before .before .before .before .before .before
 
 abbrev in-rows-of : tie.At-loop Inv-loop μ-loop Inv-rows μ-rows → tie.In-rows Inv-loop μ-loop Inv-rows μ-rows
 in-rows-of c = c .before .before .before .before .before .before .before .before .before .before
@@ -104,7 +104,7 @@ left-sizes c = sizes-trans (sizes (in-loop-of c .before)) (follow-sizes c)
 -- ---- the needs
 
 rows-holds : tie.Need-rows-holds Inv-loop μ-loop Inv-rows μ-rows
-rows-holds c = let start = c .before .before .before .before .before .before .before .before .before .before .before in (refl, turn-begin _ _ _ _ _ (start .pre .1 .0 .some-row) (start .pre .1 .1 .0) (start .pre .1 .1 .1), sizes-refl)
+rows-holds c = let start = c .before .before .before .before .before .before .before .before .before in (refl, turn-begin _ _ _ _ _ (start .pre .1 .0 .some-row) (start .pre .1 .1 .0) (start .pre .1 .1 .1), sizes-refl)
 
 mul-start : tie.Need-mul-start Inv-loop μ-loop Inv-rows μ-rows
 mul-start c = omega (arith, few-rows c)

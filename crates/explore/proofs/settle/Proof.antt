@@ -5,8 +5,14 @@ use borrow.Author.Needs.{needs}
 use Rattle.explore.proofs.settle.Statement.{statement}
 use Rattle.explore.proofs.settle.Tie as tie
 
+bucket-requires : tie.Need-bucket-requires
+bucket-requires c κs = search needs
+
 find-requires : tie.Need-find-requires
-find-requires c κs = search needs
+find-requires c κs =
+    let start = c .before .before .before .before .before .before .before .before .before in
+    let bucket = c .before .before .before .bucket in
+    (start .pre .0, (start .pre .1 .0, bucket .ensures .0, bucket .ensures .1))
 
 sub-result : tie.Need-sub-result
 sub-result c = search needs
@@ -21,10 +27,13 @@ same-length-3 : tie.Need-same-length-3
 same-length-3 c = search needs
 
 returns : tie.Need-returns
-returns c = settled-found _ _ _ _ _ _ _ _ _ (c .before .find .ensures) (c .if1 .taken) (c .before .before .before .before .before .before .before .before .before .before .pre .0)
+returns c = settled-found _ _ _ _ _ _ _ _ _ (c .before .find .ensures) (c .if1 .taken) (c .before .before .before .before .before .before .before .before .before .before .before .pre .0)
 
 insert-requires : tie.Need-insert-requires
-insert-requires c κs = let start = c .before .before .before .before .before .before .before .before .before .before .before .before .before .before in (start .pre .0, (start .pre .1 .0, omega (arith, c .before .before .before .if2 .taken, start .pre .1 .1), omega (arith, c .before .before .before .if2 .taken, start .pre .1 .2), omega (arith, c .before .before .before .if2 .taken, start .pre .1 .3)))
+insert-requires c κs =
+    let start = c .before .before .before .before .before .before .before .before .before .before .before .before .before .before .before in
+    let bucket = c .before .before .before .before .before .before .before .before .before .bucket in
+    (start .pre .0, ((bucket .ensures .0, bucket .ensures .1), (start .pre .1 .0, omega (arith, c .before .before .before .if2 .taken, start .pre .1 .1), omega (arith, c .before .before .before .if2 .taken, start .pre .1 .2), omega (arith, c .before .before .before .if2 .taken, start .pre .1 .3))))
 
 shared-slice-read-flag : tie.Need-shared-slice-read-flag
 shared-slice-read-flag c = search needs
@@ -60,12 +69,13 @@ same-length-10 : tie.Need-same-length-10
 same-length-10 c = search needs
 
 returns-3 : tie.Need-returns-3
-returns-3 c = settled-full _ _ _ _ _ _ _ _ _ (c .before .before .find .ensures) (c .before .if1 .left) (c .if2 .left) (c .before .before .before .before .before .before .before .before .before .before .before .pre .0)
+returns-3 c = settled-full _ _ _ _ _ _ _ _ _ (c .before .before .find .ensures) (c .before .if1 .left) (c .if2 .left) (c .before .before .before .before .before .before .before .before .before .before .before .before .pre .0)
 
 pub settle-spec : {M : Type 1} → statement M
 settle-spec =
     tie.close
     (tie.spec
+    bucket-requires
     find-requires
     sub-result
     same-length

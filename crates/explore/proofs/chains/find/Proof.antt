@@ -14,17 +14,13 @@ use Rattle.explore.proofs.chains.find.Statement.{statement}
 use Rattle.explore.proofs.chains.find.Tie as tie
 use Rattle.explore.proofs.chains.find.Reads as reads
 use Rattle.explore.proofs.chains.find.Lts as lts
-use Rattle.explore.proofs.chains.bucket.Reads as bucket-reads
 use Rattle.explore.proofs.chains.same.Reads as same-reads
 
 abbrev Inv-loop : tie.InvT-loop
-Inv-loop heads links keys n key h j₀ j = Left links keys n (length heads) key j
+Inv-loop heads links keys n h key j₀ j = Left links keys n (length heads) key j
 
 abbrev μ-loop : tie.MeasureT-loop
-μ-loop heads links keys n key h j₀ j = j
-
-bucket-requires : tie.Need-bucket-requires Inv-loop μ-loop
-bucket-requires c κs = search needs
+μ-loop heads links keys n h key j₀ j = j
 
 mul-j : tie.Need-mul-j Inv-loop μ-loop
 mul-j c = search needs
@@ -33,16 +29,16 @@ shared-slice-read-j : tie.Need-shared-slice-read-j Inv-loop μ-loop
 shared-slice-read-j c = search needs
 
 cast-j : tie.Need-cast-j Inv-loop μ-loop
-cast-j c = omega (arith, c .shared-slice-known5 .given (c .before .bucket .result))
+cast-j c = omega (arith, c .shared-slice-known5 .given (c .before .before .before .before .before .args .h))
 
 loop-holds : tie.Need-loop-holds Inv-loop μ-loop
-loop-holds c = rw (c .before .bucket .ensures .0) (left-first (c .before .before .before .before .before .before .pre .0) _)
+loop-holds c = let begin = c .before .before .before .before .before in rw (begin .pre .1 .1) (left-first (begin .pre .0) _)
 
 sub-i : tie.Need-sub-i Inv-loop μ-loop
 sub-i c = search needs
 
 abbrev start : tie.At-loop Inv-loop μ-loop → tie.Start Inv-loop μ-loop
-start c = c .before .before .before .before .before .before .before
+start c = c .before .before .before .before .before .before
 
 pos : (c : tie.In-loop Inv-loop μ-loop) → 0 < c .before .loop .j
 pos c = omega (arith, c .loop-test .taken)
@@ -72,7 +68,7 @@ part-same-end : tie.Need-part-same-end Inv-loop μ-loop
 part-same-end c = omega (arith, fits c)
 
 same-requires : tie.Need-same-requires Inv-loop μ-loop
-same-requires c κs = part-long _ _ _ (fits (c .before)) ∙ sym (start (c .before .before) .pre .1)
+same-requires c κs = part-long _ _ _ (fits (c .before)) ∙ sym (start (c .before .before) .pre .1 .0)
 
 returns : tie.Need-returns Inv-loop μ-loop
 returns c =
@@ -114,7 +110,6 @@ find-spec =
     (tie.spec
     Inv-loop
     μ-loop
-    bucket-requires
     mul-j
     shared-slice-read-j
     cast-j

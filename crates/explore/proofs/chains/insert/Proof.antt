@@ -6,11 +6,7 @@ use Rattle.explore.proofs.chains.insert.Statement.{statement}
 use Rattle.explore.proofs.chains.insert.Tie as tie
 use Rattle.explore.proofs.chains.insert.Reads as reads
 use Rattle.explore.proofs.chains.insert.Lts as lts
-use Rattle.explore.proofs.chains.bucket.Reads as bucket-reads
 use Rattle.explore.proofs.chains.put.Reads as put-reads
-
-bucket-requires : tie.Need-bucket-requires
-bucket-requires c κs = search needs
 
 mul-put : tie.Need-mul-put
 mul-put c = search needs
@@ -53,15 +49,14 @@ same-length-3 c = search needs
 
 returns : tie.Need-returns
 returns c =
-    let bucket = c .before .before .before .before .before .bucket in
     let put = c .before .before .before .put in
-    let start = c .before .before .before .before .before .before .before .before .before .before in
+    let start = c .before .before .before .before .before .before .before .before .before in
     let args = start .args in
     let pre = start .pre in
     let done : Inserts (args .keys .now) (put .last .0) (args .n) (args .key .now) =
-    rw (put .ensures, pre .1 .0) (stored (args .keys .now) (args .n) (args .key .now) (pre .1 .0) (pre .1 .3)) in (
-      inserted (args .heads .now) (args .links .now) (args .keys .now) (args .n) (args .key .now) (put .last .0) (bucket .result)
-          (bucket .ensures .0) (bucket .ensures .1) (pre .1 .2) (pre .1 .3) (put .kept .0) done (pre .0),
+    rw (put .ensures, pre .1 .1 .0) (stored (args .keys .now) (args .n) (args .key .now) (pre .1 .1 .0) (pre .1 .1 .3)) in (
+      inserted (args .heads .now) (args .links .now) (args .keys .now) (args .n) (args .key .now) (put .last .0) (args .h)
+          (pre .1 .0 .0) (pre .1 .0 .1) (pre .1 .1 .2) (pre .1 .1 .3) (put .kept .0) done (pre .0),
       done,
     )
 
@@ -69,7 +64,6 @@ pub insert-spec : {M : Type 1} → statement M
 insert-spec =
     tie.close
     (tie.spec
-    bucket-requires
     mul-put
     put-requires
     mul-links

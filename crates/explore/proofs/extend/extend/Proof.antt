@@ -10,7 +10,7 @@ use Rattle.meaning.specs.Arithmetic.{cutTowardZero}
 use Rattle.explore.specs.Key.{letterRoom, firstsIn}
 use Rattle.explore.specs.Step.{Store, storeOf, lettersAfter}
 use Rattle.explore.proofs.ChainLaws.{part-long}
-use Rattle.explore.proofs.PreparedLaws.{one-more, window-room, letters-after, values-after, prepared-again}
+use Rattle.explore.proofs.PreparedLaws.{one-more, copy-room, window-room, letters-after, values-after, prepared-again}
 use Rattle.explore.proofs.StepLaws.{part-ready, finished-extended}
 use borrow.Author.Needs.{needs}
 use Rattle.explore.proofs.extend.extend.Statement.{statement}
@@ -18,7 +18,7 @@ use Rattle.explore.proofs.extend.extend.Tie as tie
 
 -- Where the letter is put: the start, the stored sheet, and what is known of the letters.
 abbrev start-of : tie.After-add-letter → tie.Start
-start-of c = c .before .before .before .before .before .before .before .before .before .before .before .before .before .before
+start-of c = c .before .before .before .before .before .before .before .before .before .before .before .before
 
 abbrev store : tie.Start → Store
 store c =
@@ -58,18 +58,18 @@ shared-slice-read-size : tie.Need-shared-slice-read-size
 shared-slice-read-size c = search needs
 
 cast-size : tie.Need-cast-size
-cast-size c = omega (arith, c .shared-slice-known8 .given 0)
+cast-size c = omega (arith, c .shared-slice-known6 .given 0)
 
 fewer-requires : tie.Need-fewer-requires
 fewer-requires c κs = search needs
 
 add-letter-requires : tie.Need-add-letter-requires
 add-letter-requires c κs =
-    let start = c .before .before .before .before .before .before .before .before .before .before .before .before .before in
+    let start = c .before .before .before .before .before .before .before .before .before .before .before in
     let prepared = start .pre .1 .1 .1 .0 in
     let fewer = c .before .before .fewer in
     let some : fewer .result ≤ letterRoom = omega (arith, fewer .ensures, start .pre .0 .few-letters) in
-    (omega (arith, some, prepared .recent-long), omega (arith, window-room {n = fewer .result} (start .pre .0 .few-streams) some, prepared .window-long), start .pre .1 .1 .0 .inside)
+    (omega (arith, some, prepared .recent-long), start .pre .0 .few-streams, omega (arith, copy-room {n = fewer .result} (start .pre .0 .few-streams) some, prepared .window-long), start .pre .1 .1 .0 .inside)
 
 add-count : tie.Need-add-count
 add-count c = search needs

@@ -37,10 +37,10 @@ sub-shift : tie.Need-sub-shift
 sub-shift c = search needs
 
 cast-write-key : tie.Need-cast-write-key
-cast-write-key c = omega (arith, c .before .before .before .before .before .before .before .before .before .before .before .before .before .before .before .before .before .pre .1)
+cast-write-key c = omega (arith, c .before .before .before .before .before .before .before .before .before .before .before .before .before .before .before .pre .1)
 
 mul-write-key : tie.Need-mul-write-key
-mul-write-key c = omega (arith, c .before .before .before .before .before .before .before .before .before .before .before .before .before .before .before .before .before .pre .1)
+mul-write-key c = omega (arith, c .before .before .before .before .before .before .before .before .before .before .before .before .before .before .before .pre .1)
 
 sub-write-key : tie.Need-sub-write-key
 sub-write-key c = search needs
@@ -61,7 +61,7 @@ slice-aggregate-write-key c =
 
 write-key-requires : tie.Need-write-key-requires
 write-key-requires c κs =
-    let start = c .before .before .before .before .before .before .before .before .before .before .before .before .before .before .before .before .before .before .before in
+    let start = c .before .before .before .before .before .before .before .before .before .before .before .before .before .before .before .before .before in
     let after = c .before .before .before .before .before .firsts-after in
     let shorter = c .before .before .before .fewer in (
       start .pre .1 .3,
@@ -74,7 +74,7 @@ same-length c = search needs
 
 returns-2 : tie.Need-returns-2
 returns-2 c =
-    let args = c .before .before .before .before .before .before .before .before .before .before .before .before .before .before .before .before .before .before .before .before .before .before .args in
+    let args = c .before .before .before .before .before .before .before .before .before .before .before .before .before .before .before .before .before .before .before .before .args in
     let judged = c .before .before .before .before .before .before .before .before .before .before .before .before .judge-letter in
     record {
       answer = sym (not-false _ (c .before .before .before .before .before .before .before .before .before .before .if1 .left)) ∙ ap (λ j. j .ok) (judged .ensures);

@@ -11,7 +11,7 @@ use Rattle.explore.proofs.extend.firsts_after.Tie as tie
 
 returns : tie.Need-returns
 returns c =
-    let args = c .before .before .before .before .before .before .args in
+    let args = c .before .before .before .before .args in
     (sym (simp (le-leb (args .size) (args .width) (omega (arith, c .if1 .taken)), lt-ltb (args .size) (args .width) (c .if1 .taken))), search needs)
 
 raise-all-requires : tie.Need-raise-all-requires
@@ -22,7 +22,7 @@ same-length c = search needs
 
 returns-2 : tie.Need-returns-2
 returns-2 c =
-    let args = c .before .before .before .before .before .before .before .before .before .before .before .args in
+    let args = c .before .before .before .before .before .before .before .before .before .args in
     let is : args .size ≡ args .width = c .before .before .before .before .if2 .taken in
     (c .before .before .raise-all .ensures ∙ sym (simp (le-leb (args .size) (args .width) (omega arith), le-ltb (args .size) (args .width) (omega arith))), search needs)
 
@@ -34,9 +34,9 @@ same-length-2 c = search needs
 
 returns-3 : tie.Need-returns-3
 returns-3 c =
-    let args = c .before .before .before .before .before .before .before .before .before .before .before .args in
+    let args = c .before .before .before .before .before .before .before .before .before .args in
     let more : args .width < args .size = omega (arith, c .before .before .before .before .before .if1 .left, c .before .before .before .before .if2 .left) in
-    (ap (take (length (args .held-firsts .now))) (c .before .before .put .ensures) ∙ copied-all (args .numbers .now) (args .held-firsts .now) (omega (arith, c .before .before .before .before .before .before .before .before .before .before .before .pre .1)) ∙ sym (simp (lt-leb (args .size) (args .width) more)), search needs)
+    (ap (take (length (args .held-firsts .now))) (c .before .before .put .ensures) ∙ copied-all (args .numbers .now) (args .held-firsts .now) (omega (arith, c .before .before .before .before .before .before .before .before .before .pre .1)) ∙ sym (simp (lt-leb (args .size) (args .width) more)), search needs)
 
 pub firsts-after-spec : {M : Type 1} → statement M
 firsts-after-spec =

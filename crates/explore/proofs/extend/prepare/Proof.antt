@@ -44,9 +44,9 @@ fill-window-requires c κs =
     let at = c .before .before .before .before .before .before .before in
     let start = at .before .before .before .before in
     let args = start .args in
-    let long = letters-part-long (args .letter-values .now) (args .streams) (args .width) (args .count) (at .fewer .result) (args .key .now) (args .recent .now) (at .fewer .ensures) (start .pre .1 .0) (start .pre .0 .0) (start .pre .0 .2) in (
+    let long = letters-part-long (args .letter-values .now) (args .streams) (args .width) (args .count) (at .fewer .result) (args .key .now) (args .recent .now) (at .fewer .ensures) (start .pre .1 .0) (start .pre .0 .0) (start .pre .0 .1) (start .pre .0 .2) in (
       rw long (omega (arith, window-room {n = at .fewer .result} (start .pre .0 .1) (omega (arith, at .fewer .ensures, start .pre .0 .0)), start .pre .1 .1 .1)),
-      part-values (args .letter-values .now) (args .streams) (args .width) (args .count) (at .fewer .result) (args .key .now) (args .recent .now) (at .fewer .ensures) (start .pre .1 .0) (start .pre .0 .0) (start .pre .0 .2),
+      part-values (args .letter-values .now) (args .streams) (args .width) (args .count) (at .fewer .result) (args .key .now) (args .recent .now) (at .fewer .ensures) (start .pre .1 .0) (start .pre .0 .0) (start .pre .0 .1) (start .pre .0 .2),
     )
 
 add-firsts-end : tie.Need-add-firsts-end
@@ -81,7 +81,7 @@ returns c =
     let copy = c .before .before .before .before .before .before .before .before .before .before .put in
     let fill = c .before .before .before .before .before .fill-window in
     let lowers = c .before .lower-all in
-    prepared (args .letter-values .now) (args .streams) (args .width) (args .count) (at .fewer .result) (args .key .now) (args .recent .now) (at .fewer .ensures) (start .pre .1 .0) (start .pre .0 .0) (start .pre .0 .2)
+    prepared (args .letter-values .now) (args .streams) (args .width) (args .count) (at .fewer .result) (args .key .now) (args .recent .now) (at .fewer .ensures) (start .pre .1 .0) (start .pre .0 .0) (start .pre .0 .1) (start .pre .0 .2)
     (start .pre .1 .1 .0) (copy .ensures) (fill .ensures) (lowers .ensures) (copy .kept .0 ∙ start .pre .1 .1 .0) (fill .kept .0 ∙ start .pre .1 .1 .1) (lowers .kept .0 ∙ start .pre .1 .1 .2)
 
 pub prepare-spec : {M : Type 1} → statement M

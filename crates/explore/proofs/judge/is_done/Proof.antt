@@ -9,7 +9,7 @@ use Rattle.explore.proofs.judge.is_done.Statement.{statement}
 use Rattle.explore.proofs.judge.is_done.Tie as tie
 
 returns : tie.Need-returns
-returns c = sym (simp (eq-eqb (c .before .before .before .args .marks % 2) 1 (c .if1 .taken)))
+returns c = sym (simp (eq-eqb (c .before .args .marks % 2) 1 (c .if1 .taken)))
 
 value-of-requires : tie.Need-value-of-requires
 value-of-requires c κs = search needs
@@ -18,7 +18,7 @@ returns-2 : tie.Need-returns-2
 returns-2 c =
     let value = c .value-of in
     bits-not-zero (value .result) (record { sfits = value .ok }) ∙ ap truth (value .ensures)
-    ∙ sym (simp (ne-eqb (c .before .before .before .before .args .marks % 2) 1 (c .before .if1 .left)))
+    ∙ sym (simp (ne-eqb (c .before .before .args .marks % 2) 1 (c .before .if1 .left)))
 
 pub is-done-spec : {M : Type 1} → statement M
 is-done-spec = tie.close (tie.spec returns value-of-requires returns-2)

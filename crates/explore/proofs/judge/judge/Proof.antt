@@ -24,7 +24,7 @@ abbrev μ-loop : tie.MeasureT-loop
 μ-loop kinds values starts relations lefts rights window streams firsts place whole marks marking₀ j₀ marking j = length relations - j
 
 abbrev start : tie.At-loop Inv-loop μ-loop → tie.Start Inv-loop μ-loop
-start c = c .before .before .before .before .before .before .before
+start c = c .before .before .before .before .before
 
 begin-requires : tie.Need-begin-requires Inv-loop μ-loop
 begin-requires c κs = search needs
@@ -42,7 +42,7 @@ shared-slice-read-left : tie.Need-shared-slice-read-left Inv-loop μ-loop
 shared-slice-read-left c = search needs
 
 cast-left : tie.Need-cast-left Inv-loop μ-loop
-cast-left c = omega (arith, c .shared-slice-known7 .given (c .before .before .before .loop .j))
+cast-left c = omega (arith, c .shared-slice-known5 .given (c .before .before .before .loop .j))
 
 mul-right : tie.Need-mul-right Inv-loop μ-loop
 mul-right c = search needs
@@ -51,7 +51,7 @@ shared-slice-read-right : tie.Need-shared-slice-read-right Inv-loop μ-loop
 shared-slice-read-right c = search needs
 
 cast-right : tie.Need-cast-right Inv-loop μ-loop
-cast-right c = omega (arith, c .shared-slice-known8 .given (c .before .before .before .before .loop .j))
+cast-right c = omega (arith, c .shared-slice-known6 .given (c .before .before .before .before .loop .j))
 
 is-done-requires : tie.Need-is-done-requires Inv-loop μ-loop
 is-done-requires c κs = search needs

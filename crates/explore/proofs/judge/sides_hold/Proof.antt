@@ -21,7 +21,7 @@ returns : tie.Need-returns
 returns c =
     let a = c .before .before .value-of in
     let b = c .before .value-of2 in
-    c .sign-holds .ensures ∙ ap₂ (holds (signAt (c .before .before .before .before .before .args .relation)))
+    c .sign-holds .ensures ∙ ap₂ (holds (signAt (c .before .before .before .args .relation)))
     (toZ-ofZ w64 (a .result) (record { sfits = a .ok }) ∙ a .ensures) (toZ-ofZ w64 (b .result) (record { sfits = b .ok }) ∙ b .ensures)
 
 pub sides-hold-spec : {M : Type 1} → statement M

@@ -4,6 +4,7 @@ use mathlib.Core.Path.{refl, _∙_, ap}
 use native.Mathlib.Numerals.{add-one}
 use lib.ListN.{take, set}
 use lib.Seq.{take-suc-set}
+use Rattle.explore.specs.Step.{streamRoom}
 use Rattle.explore.proofs.KeyLists.{letter-put}
 use Rattle.explore.proofs.PreparedLaws.{one-more}
 use borrow.Author.Needs.{needs}
@@ -53,7 +54,7 @@ returns c =
     let put = c .before .copy-values in (
       ap (λ n. take n (set (args .recent .now) (args .held) (args .letter))) (add-one (args .held)) ∙ take-suc-set (args .recent .now) (args .held) (args .letter) (start .pre .0),
       ap (λ n. take n (put .last .0)) (one-more (args .held) (args .streams)) ∙ ap (take (args .held * args .streams + args .streams)) (put .ensures)
-          ∙ letter-put (args .streams) (args .letter-values .now) (args .letter) (args .held * args .streams) (args .letter * args .streams) (args .window .now) refl (start .pre .2) (start .pre .1),
+          ∙ letter-put (args .streams) (args .letter-values .now) streamRoom (args .letter) (args .held * args .streams) (args .letter * args .streams) (args .window .now) (start .pre .1) refl (start .pre .3) (start .pre .2),
     )
 
 pub add-letter-spec : {M : Type 1} → statement M

@@ -87,7 +87,7 @@ loop-again c =
       omega (arith, in-loop .loop-test .taken),
       rw (add-one, suc-mul) (omega (arith, loop .inv .1)),
       rw (c .before .copy-values .ensures) (window-more streams (args .letter-values .now) (args .letters .now) (loop .p) (loop .at) from (loop .window) (in-loop .loop-test .taken) refl (inside in-loop) (room in-loop) (loop .inv .2)),
-      rw (c .before .copy-values .ensures) (window-long streams (args .letter-values .now) (getD (args .letters .now) (loop .p) 0) (loop .at) from (loop .window) refl (inside in-loop) (room in-loop)) ∙ loop .inv .3,
+      rw (c .before .copy-values .ensures) (window-long streams (args .letter-values .now) streams (getD (args .letters .now) (loop .p) 0) (loop .at) from (loop .window) (omega arith) refl (inside in-loop) (room in-loop)) ∙ loop .inv .3,
     )
 
 same-length : tie.Need-same-length Inv-loop μ-loop

@@ -30,7 +30,7 @@ shared-slice-read-node : tie.Need-shared-slice-read-node Inv-loop μ-loop
 shared-slice-read-node c = search needs
 
 cast-node : tie.Need-cast-node Inv-loop μ-loop
-cast-node c = omega (arith, c .shared-slice-known4 .given (c .before .before .loop .i))
+cast-node c = omega (arith, c .shared-slice-known2 .given (c .before .before .loop .i))
 
 value-of-requires : tie.Need-value-of-requires Inv-loop μ-loop
 value-of-requires c κs = search needs
@@ -53,7 +53,7 @@ loop-less c = search needs
 loop-again : tie.Need-loop-again Inv-loop μ-loop
 loop-again c =
     let at-loop = c .before .before .before .before in
-    let start = at-loop .before .before .before .before .before in
+    let start = at-loop .before .before .before in
     let value = c .before .value-of in (
       omega arith,
       mapped-more _ (start .args .first-nodes .now) (at-loop .loop .numbers) (at-loop .loop .i) 0 _ (c .before .before .before .loop-test .taken) (omega arith)

@@ -17,6 +17,9 @@ returns-3 c = search needs
 mul-if4 : tie.Need-mul-if4
 mul-if4 c = let s = c .before .before .before in omega (arith, product-small (s .args .letters) (s .args .streams) (omega arith) (omega (arith, s .pre)))
 
+add-if4 : tie.Need-add-if4
+add-if4 c = let s = c .before .before .before in omega (arith, product-small (s .args .letters) (s .args .streams) (omega arith) (omega (arith, s .pre)))
+
 returns-4 : tie.Need-returns-4
 returns-4 c = search needs
 
@@ -52,6 +55,7 @@ is-lent-spec =
     returns-2
     returns-3
     mul-if4
+    add-if4
     returns-4
     mul-if5
     returns-5
