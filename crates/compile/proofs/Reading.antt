@@ -1,4 +1,5 @@
--- From the answer to a text to the outcome of its compile: a refusal leaves every table zero, and a sheet that is read has the sheet's outcome.
+-- From the reader's answer to a text: a refusal of the text is the outcome of its compile and leaves every table zero, and a sheet that is read is
+-- stored in the form that the compile of a sheet asks for.
 use Prim.Native.Nat.{ℕ}
 use native.Mathlib.Omega.{arith}
 use mathlib.Core.Path.{_≡_, sym, ap, subst}
@@ -17,12 +18,10 @@ use Rattle.reader.specs.declared.Reading.{Reading}
 use Rattle.reader.specs.Stored.{storedSheet, readingOf}
 use Rattle.minimise.specs.Outcome.{MinimiseOutcome}
 use Rattle.outcome.specs.Room.{zeros}
-use Rattle.outcome.specs.Compile as outcome
-use Rattle.outcome.specs.Compile.{CompileAnswer, Room, Tables, allZero, CompileOutcome, unread, Explorable}
+use Rattle.outcome.specs.Compile.{Room, Tables, allZero, CompileOutcome, unread}
 use Rattle.outcome.proofs.AcceptedCompile.{refusal-positive}
 use Rattle.compile.specs.declared.Compiled.{Compiled}
 use Rattle.compile.specs.Lent.{roomOf, tablesOf, answerOf, refusedWith}
-use Rattle.compile.specs.Sheet.{SituationsFit, SheetOutcome, tooManySituations, tooFewRows, noSolution, compiled}
 use Rattle.compile.specs.Stored.{IsStoredSheet}
 
 -- Where there are no rows there is no graph, so every table is cleared.
@@ -64,13 +63,3 @@ module _ {A : Arithmetic} {L : Layout} {text : List ℕ} where
   pub refused-outcome : {room : Room} {n : ℕ} {answer : Compiled} {t : Tables} → AnswerTo A L text (refused n) → answer ≡ refusedWith n → t ≡ allZero room → CompileOutcome A L text room (answerOf answer) t
   refused-outcome {room} {n} {answer} {t} r a z =
       subst (λ x. CompileOutcome A L text room (answerOf x) t) (sym a) (subst (CompileOutcome A L text room (answerOf (refusedWith n))) (sym z) (unread r))
-
-  module _ {s : Sheet} (read : AnswerTo A L text (sheet s)) where
-    explorable : {room : Room} {m : ℕ} → SituationsFit A s room m → Explorable A L text room s m
-    explorable f = record { read = read; counted = f .counted; withinBound = f .withinBound; withinRoom = f .withinRoom }
-
-    pub read-outcome : {room : Room} {a : CompileAnswer} {t : Tables} → SheetOutcome A s room a t → CompileOutcome A L text room a t
-    read-outcome (tooManySituations h x) = outcome.tooManySituations read h x
-    read-outcome (tooFewRows h x) = outcome.tooFewRows read h x
-    read-outcome (noSolution f x) = outcome.noSolution (explorable f) x
-    read-outcome (compiled f x) = outcome.compiled (explorable f) x

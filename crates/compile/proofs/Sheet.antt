@@ -27,11 +27,11 @@ use Rattle.minimise.specs.Outcome.{Tables as Held, cleared, IsAccepted, IsRefus
 use Rattle.minimise.specs.declared.Minimised.{Minimised}
 use Rattle.minimise.proofs.Outcome.{all-zero}
 use Rattle.outcome.specs.Room.{zeros, zeroTables}
-use Rattle.outcome.specs.Compile.{refusedBy, Room, roomRows, Tables, allZero, situationBound}
+use Rattle.outcome.specs.Compile.{refusedBy, Room, roomRows, Tables, allZero, SituationsFit, SheetOutcome, tooManySituations, tooFewRows, noSolution, compiled, situationBound}
 use Rattle.outcome.proofs.CompileTotal.{no-streams}
 use Rattle.compile.specs.declared.Compiled.{Compiled}
 use Rattle.compile.specs.Lent.{roomOf, tablesOf, answerOf, refusedWith, madeOf}
-use Rattle.compile.specs.Sheet.{SituationsFit, SheetOutcome, tooManySituations, tooFewRows, noSolution, compiled, Found, RoomFor}
+use Rattle.compile.specs.Sheet.{Found, RoomFor}
 use Rattle.compile.proofs.Rows.{Holds, fewest-hold, le-of-not-lt, limit-rows, limit-bound, within-rows, within-bound, rows-lent}
 
 -- ---- the rows are a graph

@@ -1,13 +1,12 @@
--- What a compile gives once the sheet is read, and the slices that hold a stored sheet.
-use Prim.Native.Nat.{ℕ, _+_, _*_, _≤_, _<_}
+-- What exploring gives, the slices that hold a stored sheet, and the room that exploring needs.
+use Prim.Native.Nat.{ℕ, _+_, _*_, _≤_}
 use mathlib.Core.Path.{_≡_}
 use mathlib.Core.Logic.{_⊎_}
 use mathlib.Core.List.{List, []}
 use lib.IntN.{ℤ}
 use lib.ListN.{length}
-use Rattle.meaning.specs.Value.{Streams}
 use Rattle.meaning.specs.Arithmetic.{Arithmetic}
-use Rattle.meaning.specs.Expression.{Sheet, Solution}
+use Rattle.meaning.specs.Expression.{Sheet}
 use Rattle.meaning.specs.Letter.{letterCount}
 use Rattle.meaning.specs.Situation.{SituationCount, MoreSituations}
 use Rattle.meaning.specs.Window.{B, D}
@@ -16,25 +15,11 @@ use Rattle.nodes.specs.Postfix.{Node}
 use Rattle.explore.specs.Step.{streamRoom}
 use Rattle.explore.specs.Rows.{ExploredRows}
 use Rattle.explore.specs.StoredSheet.{storedSheet}
-use Rattle.outcome.specs.Compile.{CompileAnswer, refusedBy, Room, roomRows, Tables, allZero, HoldsTable, situationBound}
+use Rattle.outcome.specs.Compile.{situationBound}
 
-module _ (A : Arithmetic) (s : Sheet) where
-  -- The sheet's m situations fit the bound and the rows lent: neither 8 nor 10 applies.
-  pub record SituationsFit (room : Room) (m : ℕ) : Type 0 where
-    pub counted : SituationCount A s m
-    pub withinBound : m ≤ situationBound
-    pub withinRoom : m ≤ roomRows room (letterCount (s .streams))
-
-  -- The outcome of a compile whose sheet is read. The cases are those of `CompileOutcome`.
-  pub data SheetOutcome (room : Room) : CompileAnswer → Tables → Type 0 where
-    tooManySituations : situationBound ≤ roomRows room (letterCount (s .streams)) → MoreSituations A s situationBound → SheetOutcome room (refusedBy 8) (allZero room)
-    tooFewRows : roomRows room (letterCount (s .streams)) < situationBound → MoreSituations A s (roomRows room (letterCount (s .streams))) → SheetOutcome room (refusedBy 10) (allZero room)
-    noSolution : {m : ℕ} → SituationsFit room m → ((w : Streams) → Solution A s w → ⊥) → SheetOutcome room (refusedBy 9) (allZero room)
-    compiled : {m n : ℕ} {t : Tables} → SituationsFit room m → HoldsTable A s room n t → SheetOutcome room (record { refusal = 0; states = n; situations = m }) t
-
-  -- Exploring gives the number of situations and their rows, or 0 where there are more than the limit.
-  abbrev pub Found : (limit n : ℕ) (entries flags : List ℕ) → Type 0
-  Found limit n entries flags = ((n ≡ 0) × MoreSituations A s limit) ⊎ ((n ≤ limit) × SituationCount A s n × ExploredRows A s n entries flags)
+-- Exploring gives the number of situations and their rows, or 0 where there are more than the limit.
+abbrev pub Found : (A : Arithmetic) (s : Sheet) (limit n : ℕ) (entries flags : List ℕ) → Type 0
+Found A s limit n entries flags = ((n ≡ 0) × MoreSituations A s limit) ⊎ ((n ≤ limit) × SituationCount A s n × ExploredRows A s n entries flags)
 
 -- The lists hold the stored form of a sheet. Behind its nodes others may stand.
 pub record SlicesOf (s : Sheet) (kinds : List ℕ) (values : List ℤ) (starts relations lefts rights firstNodes : List ℕ) (lows highs : List ℤ) (ahead width letters : ℕ) : Type 0 where

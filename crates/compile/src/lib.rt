@@ -8,9 +8,9 @@ ghost use Rattle.meaning.specs.Expression.{Sheet};
 ghost use Rattle.sheet.specs.Accepted.{Accepted};
 ghost use Rattle.sheet.specs.Form.{threeHeaderLines};
 ghost use Rattle.reader.specs.Stored.{storedSheet};
-ghost use Rattle.outcome.specs.Compile.{allZero, CompileOutcome};
+ghost use Rattle.outcome.specs.Compile.{allZero, SheetOutcome, CompileOutcome};
 ghost use Rattle.compile.specs.Lent.{roomOf, tablesOf, answerOf, refusedWith, madeOf};
-ghost use Rattle.compile.specs.Sheet.{SheetOutcome, Found, SlicesOf, HasRoom, RoomFor};
+ghost use Rattle.compile.specs.Sheet.{Found, SlicesOf, HasRoom, RoomFor};
 ghost use Rattle.compile.specs.Stored.{IsStoredSheet};
 
 // The refusal's number or 0, "the number of states and the number of distinct situations". Laid out as in C, so that an exported function can give

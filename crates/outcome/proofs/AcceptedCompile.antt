@@ -1,15 +1,14 @@
--- What a compile without a refusal says: the text was read as a sheet, the numbers reported are its count of situations and the states of its
--- table, and the used rows hold that table.
+-- What a compile without a refusal says: the text was read as a sheet, the numbers reported are its count of situations, which fit,
+-- and the states of its table, and the used rows hold that table.
 use Prim.Native.Nat.{ℕ, _<_, _≤_}
 use native.Mathlib.Omega.{arith}
 use mathlib.Core.Path.{_≡_}
 use mathlib.Core.List.{List}
 use Rattle.meaning.specs.Arithmetic.{Arithmetic}
 use Rattle.meaning.specs.Expression.{Sheet}
-use Rattle.meaning.specs.Situation.{SituationCount}
 use Rattle.sheet.specs.Form.{Layout}
 use Rattle.sheet.specs.Refusal.{Answer, refused, sheet, AnswerTo, refused1, refused2, refused3, refused4, refused5, refused6, refused7, accepted}
-use Rattle.outcome.specs.Compile.{CompileAnswer, Room, Tables, HoldsTable, CompileOutcome, unread, tooManySituations, tooFewRows, noSolution, compiled}
+use Rattle.outcome.specs.Compile.{CompileAnswer, Room, Tables, HoldsTable, SituationsFit, tooManySituations, tooFewRows, noSolution, compiled, CompileOutcome, unread, read}
 
 -- A sheet is no refusal, so any number of 1 to 7 serves for it.
 numberOf : Answer → ℕ
@@ -38,13 +37,13 @@ module _ {A : Arithmetic} {L : Layout} {text : List ℕ} where
 pub record AcceptedCompile (A : Arithmetic) (L : Layout) (text : List ℕ) (room : Room) (a : CompileAnswer) (t : Tables) : Type 0 where
   pub source : Sheet
   pub read : AnswerTo A L text (sheet source)
-  pub counted : SituationCount A source (a .situations)
+  pub fit : SituationsFit A source room (a .situations)
   pub held : HoldsTable A source room (a .states) t
 
 pub accepted-compile : {A : Arithmetic} {L : Layout} {text : List ℕ} {room : Room} {a : CompileAnswer} {t : Tables} → CompileOutcome A L text room a t → a .refusal ≡ 0
     → AcceptedCompile A L text room a t
 accepted-compile (unread r) e = absurd (omega (arith, refusal-positive r))
-accepted-compile (tooManySituations r h x) e = absurd (omega arith)
-accepted-compile (tooFewRows r h x) e = absurd (omega arith)
-accepted-compile (noSolution x f) e = absurd (omega arith)
-accepted-compile (compiled x h) e = record { source = _; read = x .read; counted = x .counted; held = h }
+accepted-compile (read r (tooManySituations h x)) e = absurd (omega arith)
+accepted-compile (read r (tooFewRows h x)) e = absurd (omega arith)
+accepted-compile (read r (noSolution x f)) e = absurd (omega arith)
+accepted-compile (read r (compiled x h)) e = record { source = _; read = r; fit = x; held = h }

@@ -28,7 +28,7 @@ use Rattle.sheet.specs.Reading.{answerTo}
 use Rattle.sheet.proofs.Reading.{answer-correct}
 use Rattle.sheet.proofs.Accepted.{accepted-facts}
 use Rattle.outcome.specs.Room.{Lent, rowsHeld, fewestRows, zeros, zeroTables}
-use Rattle.outcome.specs.Compile.{CompileAnswer, refusedBy, Room, roomRows, Tables, allZero, HoldsTable, Explorable, CompileOutcome, unread, tooManySituations, tooFewRows, noSolution, compiled, situationBound}
+use Rattle.outcome.specs.Compile.{CompileAnswer, Room, roomRows, Tables, HoldsTable, SituationsFit, tooManySituations, tooFewRows, noSolution, compiled, CompileOutcome, unread, read, situationBound}
 use Rattle.outcome.proofs.SituationGraph.{table-or-no-word}
 use Rattle.outcome.proofs.StateCount.{states-at-most-situations}
 
@@ -105,8 +105,8 @@ no-streams {A} {s} known f w x =
     f (p .word) (p .spells .letters) (solution-word A known (p .spells) .1 x)
 
 module _ (A : Arithmetic) (L : Layout) (text : List ℕ) (room : Room) where
-  explorable-outcome : {s : Sheet} {m : ℕ} → Explorable A L text room s m → HasOutcome A L text room
-  explorable-outcome {s} {m} e = go (table-or-no-word Situation-discrete A s (e .counted) (omega (arith, e .withinBound)))
+  fit-outcome : {s : Sheet} {m : ℕ} → AnswerTo A L text (sheet s) → SituationsFit A s room m → HasOutcome A L text room
+  fit-outcome {s} {m} r e = go (table-or-no-word Situation-discrete A s (e .counted) (omega (arith, e .withinBound)))
     where
       go : HasTable (SolutionWord A s) (letterCount (s .streams)) ⊎ NoSolution (letterCount (s .streams)) (SolutionWord A s) → HasOutcome A L text room
       go (inl t) =
@@ -117,8 +117,8 @@ module _ (A : Arithmetic) (L : Layout) (text : List ℕ) (room : Room) where
           let two = fewest-second (record { perRow = letterCount (s .streams); size = room .entries }) (record { perRow = 1; size = room .finals }) (room .work) in
           let fe : n * letterCount (s .streams) ≤ room .entries = rows-fit n (letterCount (s .streams)) (room .entries) (omega arith) in
           let ff : n * 1 ≤ room .finals = rows-fit n 1 (room .finals) (omega arith) in
-          record { answer = _; tables = _; outcome = compiled e (holds-padded A s room (t .stored) fe (omega arith)) }
-      go (inr f) = record { answer = _; tables = _; outcome = noSolution e (no-streams (record { sides = accepted-facts (e .read) .namesKnown }) f) }
+          record { answer = _; tables = _; outcome = read r (compiled e (holds-padded A s room (t .stored) fe (omega arith))) }
+      go (inr f) = record { answer = _; tables = _; outcome = read r (noSolution e (no-streams (record { sides = accepted-facts r .namesKnown }) f)) }
 
   read-outcome : {s : Sheet} → AnswerTo A L text (sheet s) → HasOutcome A L text room
   read-outcome {s} r = go (decLe situationBound rows)
@@ -127,12 +127,12 @@ module _ (A : Arithmetic) (L : Layout) (text : List ℕ) (room : Room) where
       rows = roomRows room (letterCount (s .streams))
 
       many : situationBound ≤ rows → ((m : ℕ) × (m ≤ situationBound) × SituationCount A s m) ⊎ MoreSituations A s situationBound → HasOutcome A L text room
-      many h (inl c) = explorable-outcome (record { read = r; counted = c .2; withinBound = c .1; withinRoom = omega (arith, c .1, h) })
-      many h (inr x) = record { answer = _; tables = _; outcome = tooManySituations r h x }
+      many h (inl c) = fit-outcome r (record { counted = c .2; withinBound = c .1; withinRoom = omega (arith, c .1, h) })
+      many h (inr x) = record { answer = _; tables = _; outcome = read r (tooManySituations h x) }
 
       few : rows < situationBound → ((m : ℕ) × (m ≤ rows) × SituationCount A s m) ⊎ MoreSituations A s rows → HasOutcome A L text room
-      few h (inl c) = explorable-outcome (record { read = r; counted = c .2; withinBound = omega (arith, c .1, h); withinRoom = c .1 })
-      few h (inr x) = record { answer = _; tables = _; outcome = tooFewRows r h x }
+      few h (inl c) = fit-outcome r (record { counted = c .2; withinBound = omega (arith, c .1, h); withinRoom = c .1 })
+      few h (inr x) = record { answer = _; tables = _; outcome = read r (tooFewRows h x) }
 
       go : Dec (situationBound ≤ rows) → HasOutcome A L text room
       go (yes h) = many h (counted-or-more A s situationBound)

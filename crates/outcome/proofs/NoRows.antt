@@ -10,7 +10,7 @@ use Rattle.meaning.specs.Situation.{situation, IsSituation, MoreSituations}
 use Rattle.meaning.proofs.Exploration.{start-situation}
 use Rattle.sheet.specs.Form.{Layout}
 use Rattle.sheet.specs.Refusal.{sheet, AnswerTo}
-use Rattle.outcome.specs.Compile.{CompileAnswer, refusedBy, Room, roomRows, Tables, allZero, CompileOutcome, tooFewRows}
+use Rattle.outcome.specs.Compile.{CompileAnswer, refusedBy, Room, roomRows, Tables, allZero, tooFewRows, CompileOutcome, read}
 use Rattle.outcome.proofs.CompileUnique.{compile-unique}
 
 pub some-situation : (A : Arithmetic) (s : Sheet) → MoreSituations A s 0
@@ -22,8 +22,8 @@ some-situation A s =
       longer = omega arith;
     }
 
-module _ (A : Arithmetic) (L : Layout) (text : List ℕ) (room : Room) {s : Sheet} (read : AnswerTo A L text (sheet s)) (none : roomRows room (letterCount (s .streams)) ≡ 0) where
+module _ (A : Arithmetic) (L : Layout) (text : List ℕ) (room : Room) {s : Sheet} (r : AnswerTo A L text (sheet s)) (none : roomRows room (letterCount (s .streams)) ≡ 0) where
   pub no-rows-refused : {a : CompileAnswer} {t : Tables} → CompileOutcome A L text room a t → (a ≡ refusedBy 10) × (t ≡ allZero room)
   no-rows-refused o =
       compile-unique A L text room o
-      (tooFewRows read (omega (arith, none)) (subst (MoreSituations A s) (sym none) (some-situation A s)))
+      (read r (tooFewRows (omega (arith, none)) (subst (MoreSituations A s) (sym none) (some-situation A s))))

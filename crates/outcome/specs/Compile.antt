@@ -57,25 +57,26 @@ pub record HoldsTable (A : Arithmetic) (s : Sheet) (room : Room) (states : ℕ) 
   pub finalsBeyond : drop states (t .finals) ≡ zeros (room .finals - states)
   pub workZero : t .work ≡ zeroTables (room .work)
 
--- The sheet is read, and its m situations fit the bound and the rows lent: none of refusals 1 to 8 and 10 applies.
-pub record Explorable (A : Arithmetic) (L : Layout) (text : List ℕ) (room : Room) (s : Sheet) (m : ℕ) : Type 0 where
-  pub read : AnswerTo A L text (sheet s)
+-- The sheet's m situations fit the bound and the rows lent: neither 8 nor 10 applies.
+pub record SituationsFit (A : Arithmetic) (s : Sheet) (room : Room) (m : ℕ) : Type 0 where
   pub counted : SituationCount A s m
   pub withinBound : m ≤ situationBound
   pub withinRoom : m ≤ roomRows room (letterCount (s .streams))
+
+-- What a compile gives once the sheet is read.
+pub data SheetOutcome (A : Arithmetic) (s : Sheet) (room : Room) : CompileAnswer → Tables → Type 0 where
+  -- "8: all lent tables hold 4,096 rows or more, and there are more situations."
+  tooManySituations : situationBound ≤ roomRows room (letterCount (s .streams)) → MoreSituations A s situationBound → SheetOutcome A s room (refusedBy 8) (allZero room)
+  -- "10: the fewest rows any lent table holds, R, is below 4,096, and the situations exceed R"
+  tooFewRows : roomRows room (letterCount (s .streams)) < situationBound → MoreSituations A s (roomRows room (letterCount (s .streams))) → SheetOutcome A s room (refusedBy 10) (allZero room)
+  -- "9: no solution."
+  noSolution : {m : ℕ} → SituationsFit A s room m → ((w : Streams) → Solution A s w → ⊥) → SheetOutcome A s room (refusedBy 9) (allZero room)
+  -- "A sheet is accepted if its compile gives no refusal."
+  compiled : {m n : ℕ} {t : Tables} → SituationsFit A s room m → HoldsTable A s room n t → SheetOutcome A s room (record { refusal = 0; states = n; situations = m }) t
 
 -- "The lowest that applies to the whole sheet is given, but 10 comes before 9."
 pub data CompileOutcome (A : Arithmetic) (L : Layout) (text : List ℕ) (room : Room) : CompileAnswer → Tables → Type 0 where
   -- refusals 1 to 7
   unread : {n : ℕ} → AnswerTo A L text (refused n) → CompileOutcome A L text room (refusedBy n) (allZero room)
-  -- "8: all lent tables hold 4,096 rows or more, and there are more situations."
-  tooManySituations : {s : Sheet} → AnswerTo A L text (sheet s) → situationBound ≤ roomRows room (letterCount (s .streams)) → MoreSituations A s situationBound
-      → CompileOutcome A L text room (refusedBy 8) (allZero room)
-  -- "10: the fewest rows any lent table holds, R, is below 4,096, and the situations exceed R"
-  tooFewRows : {s : Sheet} → AnswerTo A L text (sheet s) → roomRows room (letterCount (s .streams)) < situationBound → MoreSituations A s (roomRows room (letterCount (s .streams)))
-      → CompileOutcome A L text room (refusedBy 10) (allZero room)
-  -- "9: no solution."
-  noSolution : {s : Sheet} {m : ℕ} → Explorable A L text room s m → ((w : Streams) → Solution A s w → ⊥) → CompileOutcome A L text room (refusedBy 9) (allZero room)
-  -- "A sheet is accepted if its compile gives no refusal."
-  compiled : {s : Sheet} {m n : ℕ} {t : Tables} → Explorable A L text room s m → HoldsTable A s room n t
-      → CompileOutcome A L text room (record { refusal = 0; states = n; situations = m }) t
+  -- none of refusals 1 to 7 applies
+  read : {s : Sheet} {a : CompileAnswer} {t : Tables} → AnswerTo A L text (sheet s) → SheetOutcome A s room a t → CompileOutcome A L text room a t

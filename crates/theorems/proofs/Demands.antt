@@ -28,7 +28,7 @@ use Rattle.sheet.specs.Form.{threeHeaderLines}
 use Rattle.sheet.specs.Refusal.{refused, sheet, AnswerTo}
 use Rattle.sheet.proofs.Accepted.{accepted-facts}
 use Rattle.outcome.specs.Room.{zeroTables}
-use Rattle.outcome.specs.Compile.{CompileAnswer, refusedBy, situationBound, Room, roomRows, Tables, allZero, HoldsTable, Explorable, CompileOutcome, unread, tooManySituations, tooFewRows, noSolution, compiled}
+use Rattle.outcome.specs.Compile.{CompileAnswer, refusedBy, situationBound, Room, roomRows, Tables, allZero, HoldsTable, SituationsFit, tooManySituations, tooFewRows, noSolution, compiled, CompileOutcome, unread, read}
 use Rattle.outcome.specs.NormalForm.{NormalAnswer, notGiven, NormalOutcome, unread, tooShort, given}
 use Rattle.outcome.proofs.Answers.{one-sheet, refused≢sheet}
 use Rattle.outcome.proofs.AcceptedCompile.{AcceptedCompile, accepted-compile, refusal-in-range}
@@ -54,7 +54,7 @@ ReadAs text s = AnswerTo cutTowardZero threeHeaderLines text (sheet s)
 
 -- The sheet is read and has m situations, and none of refusals 1 to 8 and 10 applies.
 abbrev pub NoneOfTheOthers : List ℕ → Room → Sheet → ℕ → Type 0
-NoneOfTheOthers text room s m = Explorable cutTowardZero threeHeaderLines text room s m
+NoneOfTheOthers text room s m = ReadAs text s × SituationsFit cutTowardZero s room m
 
 abbrev pub Solves : Sheet → Streams → Type 0
 Solves s w = Solution cutTowardZero s w
@@ -71,10 +71,10 @@ module _ {text : List ℕ} {room : Room} {a : CompileAnswer} {t : Tables} (call 
     where
       go : {b : CompileAnswer} {u : Tables} → Call text room b u → b .refusal ≤ 10
       go (unread r) = omega (arith, refusal-in-range r .1)
-      go (tooManySituations r x y) = omega arith
-      go (tooFewRows r x y) = omega arith
-      go (noSolution e f) = omega arith
-      go (compiled e x) = omega arith
+      go (read r (tooManySituations x y)) = omega arith
+      go (read r (tooFewRows x y)) = omega arith
+      go (read r (noSolution e f)) = omega arith
+      go (read r (compiled e x)) = omega arith
 
   -- "A refusal returns its number with states and situations 0." "After a refused compile every lent table is zero".
   pub refused-zero : 0 < a .refusal → (a ≡ refusedBy (a .refusal)) × (t ≡ allZero room)
@@ -82,10 +82,10 @@ module _ {text : List ℕ} {room : Room} {a : CompileAnswer} {t : Tables} (call 
     where
       go : {b : CompileAnswer} {u : Tables} → Call text room b u → 0 < b .refusal → (b ≡ refusedBy (b .refusal)) × (u ≡ allZero room)
       go (unread r) h = (refl, refl)
-      go (tooManySituations r x y) h = (refl, refl)
-      go (tooFewRows r x y) h = (refl, refl)
-      go (noSolution e f) h = (refl, refl)
-      go (compiled e x) h = absurd (omega arith)
+      go (read r (tooManySituations x y)) h = (refl, refl)
+      go (read r (tooFewRows x y)) h = (refl, refl)
+      go (read r (noSolution e f)) h = (refl, refl)
+      go (read r (compiled e x)) h = absurd (omega arith)
 
   -- "work tables are zero after every call"
   pub work-zero : t .work ≡ zeroTables (room .work)
@@ -93,10 +93,10 @@ module _ {text : List ℕ} {room : Room} {a : CompileAnswer} {t : Tables} (call 
     where
       go : {b : CompileAnswer} {u : Tables} → Call text room b u → u .work ≡ zeroTables (room .work)
       go (unread r) = refl
-      go (tooManySituations r x y) = refl
-      go (tooFewRows r x y) = refl
-      go (noSolution e f) = refl
-      go (compiled e x) = x .workZero
+      go (read r (tooManySituations x y)) = refl
+      go (read r (tooFewRows x y)) = refl
+      go (read r (noSolution e f)) = refl
+      go (read r (compiled e x)) = x .workZero
 
   -- ---- demand 2, for an accepted sheet: "A sheet is accepted if its compile gives no refusal."
 
@@ -122,14 +122,9 @@ module _ {text : List ℕ} {room : Room} {a : CompileAnswer} {t : Tables} (call 
     path↔solution r h = path↔begins-solution cutTowardZero s (read-known read) (held .table) r h
 
     few-states : a .states ≤ situationBound
-    few-states = go call accepted
-      where
-        go : {b : CompileAnswer} {u : Tables} → Call text room b u → b .refusal ≡ 0 → b .states ≤ situationBound
-        go (unread r) e = absurd (omega (arith, refusal-in-range r .0))
-        go (tooManySituations r x y) e = absurd (omega arith)
-        go (tooFewRows r x y) e = absurd (omega arith)
-        go (noSolution x f) e = absurd (omega arith)
-        go (compiled {s = q} x h) e = omega (arith, states-at-most-situations cutTowardZero q (h .table .table) (x .counted), x .withinBound)
+    few-states =
+        let c = accepted-compile call accepted in
+        omega (arith, states-at-most-situations cutTowardZero (c .source) (c .held .table .table) (c .fit .counted), c .fit .withinBound)
 
     -- The same for steps along the bytes of the used rows, from state 0: no step is refused exactly if the record begins a solution.
     pub steps↔solution : (r : Record) → OfLetters (s .streams) r
@@ -142,7 +137,7 @@ module _ {text : List ℕ} {room : Room} {a : CompileAnswer} {t : Tables} (call 
     pub situations-counted : SituationCount cutTowardZero s (a .situations)
     situations-counted =
         let c = accepted-compile call accepted in
-        subst (λ q. SituationCount cutTowardZero q (a .situations)) (one-sheet (c .read) read) (c .counted)
+        subst (λ q. SituationCount cutTowardZero q (a .situations)) (one-sheet (c .read) read) (c .fit .counted)
 
     pub table-stored : StoredTable (SolutionWord cutTowardZero s) k (a .states) (t .entries) (t .finals)
     table-stored = held .table
@@ -156,35 +151,35 @@ module _ {text : List ℕ} {room : Room} {a : CompileAnswer} {t : Tables} (call 
   -- "8: all lent tables hold 4,096 rows or more, and there are more situations."
   pub eight↔ : (a .refusal ≡ 8)
       ↔ ((s : Sheet) × ReadAs text s × (situationBound ≤ roomRows room (letterCount (s .streams))) × MoreSituations cutTowardZero s situationBound)
-  eight↔ = (go call, λ x. ap (λ b. b .refusal) (one-outcome (tooManySituations (x .1) (x .2) (x .3)) .0))
+  eight↔ = (go call, λ x. ap (λ b. b .refusal) (one-outcome (read (x .1) (tooManySituations (x .2) (x .3))) .0))
     where
       go : {b : CompileAnswer} {u : Tables} → Call text room b u → b .refusal ≡ 8
           → (s : Sheet) × ReadAs text s × (situationBound ≤ roomRows room (letterCount (s .streams))) × MoreSituations cutTowardZero s situationBound
       go (unread r) e = absurd (omega (arith, refusal-in-range r .1))
-      go (tooManySituations {s = q} r x y) e = (q, r, x, y)
-      go (tooFewRows r x y) e = absurd (omega arith)
-      go (noSolution x f) e = absurd (omega arith)
-      go (compiled x h) e = absurd (omega arith)
+      go (read {s = q} r (tooManySituations x y)) e = (q, r, x, y)
+      go (read r (tooFewRows x y)) e = absurd (omega arith)
+      go (read r (noSolution x f)) e = absurd (omega arith)
+      go (read r (compiled x h)) e = absurd (omega arith)
 
   -- "10: the fewest rows any lent table holds, R, is below 4,096, and the situations exceed R"
   pub ten↔ : (a .refusal ≡ 10)
       ↔ ((s : Sheet) × ReadAs text s × (roomRows room (letterCount (s .streams)) < situationBound) × MoreSituations cutTowardZero s (roomRows room (letterCount (s .streams))))
-  ten↔ = (go call, λ x. ap (λ b. b .refusal) (one-outcome (tooFewRows (x .1) (x .2) (x .3)) .0))
+  ten↔ = (go call, λ x. ap (λ b. b .refusal) (one-outcome (read (x .1) (tooFewRows (x .2) (x .3))) .0))
     where
       go : {b : CompileAnswer} {u : Tables} → Call text room b u → b .refusal ≡ 10
           → (s : Sheet) × ReadAs text s × (roomRows room (letterCount (s .streams)) < situationBound) × MoreSituations cutTowardZero s (roomRows room (letterCount (s .streams)))
       go (unread r) e = absurd (omega (arith, refusal-in-range r .1))
-      go (tooManySituations r x y) e = absurd (omega arith)
-      go (tooFewRows {s = q} r x y) e = (q, r, x, y)
-      go (noSolution x f) e = absurd (omega arith)
-      go (compiled x h) e = absurd (omega arith)
+      go (read r (tooManySituations x y)) e = absurd (omega arith)
+      go (read {s = q} r (tooFewRows x y)) e = (q, r, x, y)
+      go (read r (noSolution x f)) e = absurd (omega arith)
+      go (read r (compiled x h)) e = absurd (omega arith)
 
   -- ---- demand 3, where none of refusals 1 to 8 and 10 applies
 
   module _ {s : Sheet} {m : ℕ} (none : NoneOfTheOthers text room s m) where
     -- What is said of another sheet read from the text is said of this one.
     of-sheet : {q : Sheet} (P : Sheet → Type 0) → ReadAs text q → P q → P s
-    of-sheet P r x = subst P (one-sheet r (none .read)) x
+    of-sheet P r x = subst P (one-sheet r (none .0)) x
 
     -- The compile gives 9 and there is no solution; or it gives no refusal, the number of situations and the table.
     pub nine-or-table : ((a .refusal ≡ 9) × ((w : Streams) → Solves s w → ⊥))
@@ -193,14 +188,14 @@ module _ {text : List ℕ} {room : Room} {a : CompileAnswer} {t : Tables} (call 
       where
         go : {b : CompileAnswer} {u : Tables} → Call text room b u
             → ((b .refusal ≡ 9) × ((w : Streams) → Solves s w → ⊥)) ⊎ ((b .refusal ≡ 0) × (b .situations ≡ m) × HoldsTable cutTowardZero s room (b .states) u)
-        go (unread r) = absurd (refused≢sheet r (none .read))
-        go (tooManySituations r x y) =
-            absurd (count-excludes-more cutTowardZero s (none .counted) situationBound (none .withinBound) (of-sheet (λ q. MoreSituations cutTowardZero q situationBound) r y))
-        go (tooFewRows r x y) =
-            absurd (count-excludes-more cutTowardZero s (none .counted) (roomRows room (letterCount (s .streams))) (none .withinRoom) (of-sheet (λ q. MoreSituations cutTowardZero q (roomRows room (letterCount (q .streams)))) r y))
-        go (noSolution e f) = inl (refl, of-sheet (λ q. (w : Streams) → Solves q w → ⊥) (e .read) f)
-        go (compiled {m = c} {n = n} {t = u} e h) =
-            inr (refl, count-unique cutTowardZero s (of-sheet (λ q. SituationCount cutTowardZero q c) (e .read) (e .counted)) (none .counted), of-sheet (λ q. HoldsTable cutTowardZero q room n u) (e .read) h)
+        go (unread r) = absurd (refused≢sheet r (none .0))
+        go (read r (tooManySituations x y)) =
+            absurd (count-excludes-more cutTowardZero s (none .1 .counted) situationBound (none .1 .withinBound) (of-sheet (λ q. MoreSituations cutTowardZero q situationBound) r y))
+        go (read r (tooFewRows x y)) =
+            absurd (count-excludes-more cutTowardZero s (none .1 .counted) (roomRows room (letterCount (s .streams))) (none .1 .withinRoom) (of-sheet (λ q. MoreSituations cutTowardZero q (roomRows room (letterCount (q .streams)))) r y))
+        go (read r (noSolution e f)) = inl (refl, of-sheet (λ q. (w : Streams) → Solves q w → ⊥) r f)
+        go (read r (compiled {m = c} {n = n} {t = u} e h)) =
+            inr (refl, count-unique cutTowardZero s (of-sheet (λ q. SituationCount cutTowardZero q c) r (e .counted)) (none .1 .counted), of-sheet (λ q. HoldsTable cutTowardZero q room n u) r h)
 
     -- "9: no solution."
     pub nine↔no-solution : (a .refusal ≡ 9) ↔ ((w : Streams) → Solves s w → ⊥)
@@ -218,12 +213,12 @@ module _ {text : List ℕ} {room : Room} {a : CompileAnswer} {t : Tables} (call 
       go : {b : CompileAnswer} {u : Tables} → Call text room b u → (b .refusal ≡ 0) ⊎ (b .refusal ≡ 9) → (s : Sheet) × (m : ℕ) × NoneOfTheOthers text room s m
       go (unread r) (inl e) = absurd (omega (arith, refusal-in-range r .0))
       go (unread r) (inr e) = absurd (omega (arith, refusal-in-range r .1))
-      go (tooManySituations r x y) (inl e) = absurd (omega arith)
-      go (tooManySituations r x y) (inr e) = absurd (omega arith)
-      go (tooFewRows r x y) (inl e) = absurd (omega arith)
-      go (tooFewRows r x y) (inr e) = absurd (omega arith)
-      go (noSolution {s = q} {m = c} x f) e = (q, c, x)
-      go (compiled {s = q} {m = c} x h) e = (q, c, x)
+      go (read r (tooManySituations x y)) (inl e) = absurd (omega arith)
+      go (read r (tooManySituations x y)) (inr e) = absurd (omega arith)
+      go (read r (tooFewRows x y)) (inl e) = absurd (omega arith)
+      go (read r (tooFewRows x y)) (inr e) = absurd (omega arith)
+      go (read {s = q} r (noSolution {m = c} x f)) e = (q, c, (r, x))
+      go (read {s = q} r (compiled {m = c} x h)) e = (q, c, (r, x))
 
 -- ---- demand 1, the normal form and the step
 
@@ -271,8 +266,8 @@ over s q e = λ i. record { streams = e i; constraints = q .constraints }
 pub equal-rows↔same-solutions : {text text′ : List ℕ} {room room′ : Room} {a a′ : CompileAnswer} {t t′ : Tables} → Call text room a t → Call text′ room′ a′ t′
     → {s s′ : Sheet} → ReadAs text s → ReadAs text′ s′ → a .refusal ≡ 0 → a′ .refusal ≡ 0 → s′ .streams ≡ s .streams
     → SameUsedRows (letterCount (s .streams)) (a .states) (t .entries) (t .finals) (a′ .states) (t′ .entries) (t′ .finals) ↔ HaveSameSolutions cutTowardZero s s′
-equal-rows↔same-solutions {a = a} {a′ = a′} {t = t} {t′ = t′} call call′ {s} {s′} read read′ e e′ same =
+equal-rows↔same-solutions {a = a} {a′ = a′} {t = t} {t′ = t′} call call′ {s} {s′} r r′ e e′ same =
     let p = over s s′ same in
     subst (λ q. SameUsedRows (letterCount (s .streams)) (a .states) (t .entries) (t .finals) (a′ .states) (t′ .entries) (t′ .finals) ↔ HaveSameSolutions cutTowardZero s q) (sym p)
-    (used-rows↔same-solutions cutTowardZero (s .streams) (s .constraints) (s′ .constraints) (read-known read) (subst NamesKnown p (read-known read′)) (table-stored call read e)
-    (subst (λ q. StoredTable (SolutionWord cutTowardZero q) (letterCount (q .streams)) (a′ .states) (t′ .entries) (t′ .finals)) p (table-stored call′ read′ e′)))
+    (used-rows↔same-solutions cutTowardZero (s .streams) (s .constraints) (s′ .constraints) (read-known r) (subst NamesKnown p (read-known r′)) (table-stored call r e)
+    (subst (λ q. StoredTable (SolutionWord cutTowardZero q) (letterCount (q .streams)) (a′ .states) (t′ .entries) (t′ .finals)) p (table-stored call′ r′ e′)))

@@ -1,7 +1,8 @@
 -- `compile::compile` meets its contract: the reader's answer is that to the text, and what follows it is the outcome.
 use borrow.Author.Needs.{needs}
 use Rattle.sheet.proofs.Accepted.{accepted-facts}
-use Rattle.compile.proofs.Reading.{reading-refused, reading-sheet, read-stored, refused-outcome, read-outcome}
+use Rattle.outcome.specs.Compile.{read}
+use Rattle.compile.proofs.Reading.{reading-refused, reading-sheet, read-stored, refused-outcome}
 use Rattle.compile.proofs.compile.Statement.{statement}
 use Rattle.compile.proofs.compile.Tie as tie
 
@@ -77,7 +78,7 @@ same-length-18 c = search needs
 returns-2 : tie.Need-returns-2
 returns-2 c =
     let r = reading-sheet (c .before .before .before .before .before .before .before .before .before .before .before .before .before .before .before .before .before .before .before .before .before .before .before .before .before .before .before .before .before .before .read .ensures) (c .before .before .before .before .before .before .before .before .before .before .before .before .before .before .before .before .before .before .before .before .before .before .before .before .before .before .before .before .before .if1 .left) in
-    read-outcome (r .read) (c .before .before .before .before .before .before .before .before .before .before .before .before .before .before .before .before .before .before .compile-stored .ensures (r .source) (accepted-facts (r .read)) (r .same))
+    read (r .read) (c .before .before .before .before .before .before .before .before .before .before .before .before .before .before .before .before .before .before .compile-stored .ensures (r .source) (accepted-facts (r .read)) (r .same))
 
 pub compile-spec : {M : Type 1} → statement M
 compile-spec =
