@@ -173,18 +173,18 @@ module _ (s : Sheet) where
       streams-counted _ _ cs (g .2) ∙ omega (arith, w .count, length-append (addedBy c) (allAdded cs))
 
 -- Decoded one by one, the entries are the constraints of the normal form.
-pub entries-decoded : (text : List ℕ) (s : Sheet) → map (decoded s) (encoded text s) ≡ normalForm cutTowardZero s .constraints
-entries-decoded text s = maps (rowsOf s) ∙ all-say s
+pub entries-decoded : (s : Sheet) → map (decoded s) (encoded s) ≡ normalForm cutTowardZero s .constraints
+entries-decoded s = maps (rowsOf s) ∙ all-say s
   where
     maps : (rows : List Row) → map (decoded s) (map (λ r. entryOf r (sourceInterval cutTowardZero s (r .source))) rows) ≡ map (says s) rows
     maps [] = refl
     maps (r ∷ rows) = ap (λ l. says s r ∷ l) (maps rows)
 
-pub encoded-length : (text : List ℕ) (s : Sheet) → length (encoded text s) ≡ length (normalForm cutTowardZero s .constraints)
-encoded-length text s = sym (length-map (encoded text s) (decoded s)) ∙ ap length (entries-decoded text s)
+pub encoded-length : (s : Sheet) → length (encoded s) ≡ length (normalForm cutTowardZero s .constraints)
+encoded-length s = sym (length-map (encoded s) (decoded s)) ∙ ap length (entries-decoded s)
 
 -- Each entry says the constraint of the normal form in its own place.
-pub entry-decodes : (text : List ℕ) (s : Sheet) (i : ℕ) (c : Constraint) → i < length (normalForm cutTowardZero s .constraints)
-    → decoded s (getD (encoded text s) i blank) ≡ getD (normalForm cutTowardZero s .constraints) i c
-entry-decodes text s i c h =
-    sym (getD-map (decoded s) (encoded text s) i blank c (omega (arith, encoded-length text s))) ∙ ap (λ l. getD l i c) (entries-decoded text s)
+pub entry-decodes : (s : Sheet) (i : ℕ) (c : Constraint) → i < length (normalForm cutTowardZero s .constraints)
+    → decoded s (getD (encoded s) i blank) ≡ getD (normalForm cutTowardZero s .constraints) i c
+entry-decodes s i c h =
+    sym (getD-map (decoded s) (encoded s) i blank c (omega (arith, encoded-length s))) ∙ ap (λ l. getD l i c) (entries-decoded s)

@@ -36,25 +36,25 @@ Outcome text room = NormalOutcome blank encoded cutTowardZero threeHeaderLines t
 abbrev readFrom : Made → ℕ → List Entry
 readFrom m room = listed (entryAt (m .numbers) (m .ends)) room
 
-rows-counted : (text : List ℕ) (s : Sheet) → length (rowsOf s) ≡ entryCount blank encoded cutTowardZero s
-rows-counted text s = sym (length-map (rowsOf s) (λ r. entryOf r (sourceInterval cutTowardZero s (r .source)))) ∙ encoded-length text s
+rows-counted : (s : Sheet) → length (rowsOf s) ≡ entryCount cutTowardZero s
+rows-counted s = sym (length-map (rowsOf s) (λ r. entryOf r (sourceInterval cutTowardZero s (r .source)))) ∙ encoded-length s
 
 module _ (text : List ℕ) (room : ℕ) where
   short : {s : Sheet} → AnswerTo cutTowardZero threeHeaderLines text (sheet s) → room < length (rowsOf s) → Outcome text room (notGiven 10) (readFrom (refusedMade 10) room)
-  short {s} r h = subst (Outcome text room (notGiven 10)) (sym (blanks (replicate 28896 0) (replicate 8256 _) room refl refl)) (tooShort r (omega (arith, rows-counted text s)))
+  short {s} r h = subst (Outcome text room (notGiven 10)) (sym (blanks (replicate 28896 0) (replicate 8256 _) room refl refl)) (tooShort r (omega (arith, rows-counted s)))
 
   whole : {s : Sheet} → AnswerTo cutTowardZero threeHeaderLines text (sheet s) → length (rowsOf s) ≤ room
       → Outcome text room (record { refusal = 0; entries = length (rowsOf s); added = streamsAfter (length (s .streams)) (linesOf 0 (s .constraints)) - length (s .streams) })
       (listed (entryAt (numbersWith (rowsOf s)) (endsWith (sheetRange s) (rowsOf s))) room)
   whole {s} r h =
       let ok = accepted-facts r in
-      let count = rows-counted text s in
+      let count = rows-counted s in
       let streams = streams-counted s 0 (length (s .streams)) (s .constraints) (stand-self (nodeExpressions (s .constraints))) ∙ sym (streams-length cutTowardZero s) in
       let list =
       listing (rowsOf s) (sheetRange s) (sourceInterval cutTowardZero s) (rows-few ok) (All-map (rowsOf s) (λ x k. (k .ends, k .kind, k .relation)) (sheet-sound s ok)) room h
-      ∙ ap (λ k. encoded text s ++ replicate (room - k) blank) count in
+      ∙ ap (λ k. encoded s ++ replicate (room - k) blank) count in
       subst (λ l. Outcome text room (record { refusal = 0; entries = length (rowsOf s); added = streamsAfter (length (s .streams)) (linesOf 0 (s .constraints)) - length (s .streams) }) l) (sym list)
-      (subst (λ a. Outcome text room a (givenList blank encoded cutTowardZero text room s)) (λ i. record { refusal = 0; entries = sym count i; added = sym streams i - length (s .streams) }) (given r (omega arith)))
+      (subst (λ a. Outcome text room a (givenList blank encoded cutTowardZero room s)) (λ i. record { refusal = 0; entries = sym count i; added = sym streams i - length (s .streams) }) (given r (omega arith)))
 
   by-answer : (a : Answer) → AnswerTo cutTowardZero threeHeaderLines text a → Outcome text room (answerOf (entriesFor a room .answer)) (readFrom (entriesFor a room) room)
   unfolding madeOf

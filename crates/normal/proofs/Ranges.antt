@@ -134,8 +134,8 @@ pub record NamedBy (k : ℕ) (e : Entry) : Type 0 where
   pub left : e .left ≡ k
 
 -- Every added stream is the left of some entry.
-pub streams-named : (text : List ℕ) (s : Sheet) (k : ℕ) → length (s .streams) ≤ k → k < length (normalForm cutTowardZero s .streams) → Some (NamedBy k) (encoded text s)
-streams-named text s k l h =
+pub streams-named : (s : Sheet) (k : ℕ) → length (s .streams) ≤ k → k < length (normalForm cutTowardZero s .streams) → Some (NamedBy k) (encoded s)
+streams-named s k l h =
     let total = streams-counted s 0 (length (s .streams)) (s .constraints) (stand-self (nodeExpressions (s .constraints))) ∙ sym (streams-length cutTowardZero s) in
     some-map (NamedBy k) (λ r. entryOf r (sourceInterval cutTowardZero s (r .source))) (λ r p. record { kind = p .kind; left = p .left }) (rowsOf s)
     (some-right (NamesStream k) (ownRows (length (s .streams)) (linesOf 0 (s .constraints))) (addedRows (length (s .streams)) (linesOf 0 (s .constraints))) (lines-cover 0 (s .constraints) (length (s .streams)) k l (omega arith)))
@@ -323,8 +323,8 @@ module _ (s : Sheet) where
 abbrev pub HasRange : Sheet → Entry → Type 0
 HasRange s e = 2 ≤ e .kind → _≡_ {A = Interval} (record { low = e .low; high = e .high }) (rangeOf (normalForm cutTowardZero s .streams) (e .left))
 
-pub entries-ranged : (text : List ℕ) (s : Sheet) → All (HasRange s) (encoded text s)
-entries-ranged text s =
+pub entries-ranged : (s : Sheet) → All (HasRange s) (encoded s)
+entries-ranged s =
     let n = length (s .streams) in
     let h = lines-ranged s 0 n (s .constraints) (stand-self (nodeExpressions (s .constraints))) (streamed-added s) (omega arith) (omega arith) in
     all-map (HasRange s) (λ r. entryOf r (sourceInterval cutTowardZero s (r .source))) (λ r k. row-range s r k) (rowsOf s)

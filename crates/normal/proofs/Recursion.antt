@@ -17,7 +17,7 @@ module _ (kinds starts : List ℕ) where
     same-left : (e : ℕ) → e ≤ i → leftEnd starts e ≤ i
     same-left e h = let l = leftEnd-≤ starts e in omega arith
 
-    rewritingByKind-local : (k : Kind) → rewritingByKind kinds starts k f i ≡ rewritingByKind kinds starts k g i
+    rewritingByKind-local : (k : Kind) → rewritingByKind starts k f i ≡ rewritingByKind starts k g i
     rewritingByKind-local integerNode = refl
     rewritingByKind-local nameNode = refl
     rewritingByKind-local firstNode = same i (omega arith)
@@ -30,7 +30,7 @@ module _ (kinds starts : List ℕ) where
     rewritingByKind-local operatorNode = ap₂ joined (same _ (same-left i (omega arith))) (same i (omega arith))
 
   -- What the part of node i adds.
-  pub rewritingBefore-node : (i : ℕ) → rewritingBefore kinds starts (suc i) ≡ rewritingByKind kinds starts (kindOf (getD kinds i 0)) (rewritingBefore kinds starts) i
+  pub rewritingBefore-node : (i : ℕ) → rewritingBefore kinds starts (suc i) ≡ rewritingByKind starts (kindOf (getD kinds i 0)) (rewritingBefore kinds starts) i
   unfolding rewritingBefore rewritingStep
   rewritingBefore-node i = answer-step nothingAdded (rewritingStep kinds starts) i (λ f g h. rewritingByKind-local f g i h (kindOf (getD kinds i 0)))
 
@@ -42,12 +42,12 @@ module _ (kinds starts : List ℕ) where
   before = rewritingBefore kinds starts
 
   module _ (e : ℕ) (h : e ≡ 0 → ⊥) where
-    by-kind : (k : Kind) → kindOf (getD kinds (e - 1) 0) ≡ k → before e ≡ rewritingByKind kinds starts k before (e - 1)
+    by-kind : (k : Kind) → kindOf (getD kinds (e - 1) 0) ≡ k → before e ≡ rewritingByKind starts k before (e - 1)
     by-kind k q =
         let s : e ≡ suc (e - 1) = omega arith in
-        ap before s ∙ rewritingBefore-node (e - 1) ∙ ap (λ j. rewritingByKind kinds starts j before (e - 1)) q
+        ap before s ∙ rewritingBefore-node (e - 1) ∙ ap (λ j. rewritingByKind starts j before (e - 1)) q
 
-    by-number : (k : ℕ) → getD kinds (e - 1) 0 ≡ k → before e ≡ rewritingByKind kinds starts (kindOf k) before (e - 1)
+    by-number : (k : ℕ) → getD kinds (e - 1) 0 ≡ k → before e ≡ rewritingByKind starts (kindOf k) before (e - 1)
     by-number k q = by-kind (kindOf k) (ap kindOf q)
 
     pub leaf-arm : getD kinds (e - 1) 0 < 2 → before e ≡ nothingAdded

@@ -60,9 +60,9 @@ module _ (N : Nodes) where
   abbrev before : ℕ → Rewriting
   before = rewritingBefore (N .kinds) (N .starts)
 
-  by-node : {m s k : ℕ} {v : ℤ} {x : Rewriting} → NodeAt N m k v s → rewritingByKind (N .kinds) (N .starts) (kindOf k) before m ≡ x → before (suc m) ≡ x
+  by-node : {m s k : ℕ} {v : ℤ} {x : Rewriting} → NodeAt N m k v s → rewritingByKind (N .starts) (kindOf k) before m ≡ x → before (suc m) ≡ x
   by-node {m} {s} {k} {v} {x} n e =
-      rewritingBefore-node (N .kinds) (N .starts) m ∙ ap (λ j. rewritingByKind (N .kinds) (N .starts) (kindOf j) before m) (n .kind) ∙ e
+      rewritingBefore-node (N .kinds) (N .starts) m ∙ ap (λ j. rewritingByKind (N .starts) (kindOf j) before m) (n .kind) ∙ e
 
   -- What a stored expression adds.
   pub rewriting-stored : {n f m : ℕ} {e : Expression} → StoredAt N n f e m → before m ≡ rewriting n e
@@ -74,7 +74,7 @@ module _ (N : Nodes) where
   rewriting-stored (storedNegation s x) = by-node x (rewriting-stored s)
   rewriting-stored (storedBinary {m = m} {o = o} {b = b} s t x) =
       by-node x
-      (ap (λ j. rewritingByKind (N .kinds) (N .starts) j before m) (operatorCode-coded o .kind)
+      (ap (λ j. rewritingByKind (N .starts) j before m) (operatorCode-coded o .kind)
       ∙ ap₂ joined (ap before (leftEnd-stored t) ∙ rewriting-stored s) (rewriting-stored t ∙ ap (λ k. rewriting k b) (stored-end s)))
   rewriting-stored (storedConditional {c = c} {a = a} {b = b} r s t x) =
       let g = stored-end r in

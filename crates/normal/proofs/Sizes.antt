@@ -107,7 +107,7 @@ pub record FieldsFit (e : Entry) : Type 0 where
   pub right : e .right < 65536
   pub rightAdded : e .«right_added» < 65536
 
-module _ (text : List ℕ) {s : Sheet} (ok : Accepted cutTowardZero s) where
+module _ {s : Sheet} (ok : Accepted cutTowardZero s) where
   abbrev n : ℕ
   n = length (s .streams)
 
@@ -118,16 +118,16 @@ module _ (text : List ℕ) {s : Sheet} (ok : Accepted cutTowardZero s) where
   pub streams-bounded : length (normalForm cutTowardZero s .streams) ≤ 8 + 3 * 1024
   streams-bounded = omega (arith, streams-few, streams-counted s 0 n (s .constraints) (stand-self (nodeExpressions (s .constraints))), streams-length cutTowardZero s)
 
-  pub entries-bounded : length (encoded text s) ≤ 32 + 4 * 1024
+  pub entries-bounded : length (encoded s) ≤ 32 + 4 * 1024
   entries-bounded = omega (arith, rows-few ok, length-map (rowsOf s) (λ r. entryOf r (sourceInterval cutTowardZero s (r .source))))
 
-  pub fields-fit : All FieldsFit (encoded text s)
+  pub fields-fit : All FieldsFit (encoded s)
   fields-fit =
       let h = lines-fit 0 n (s .constraints) (omega (arith, ok .expressionCount)) (omega (arith, streams-few)) in
       all-map FieldsFit (λ r. entryOf r (sourceInterval cutTowardZero s (r .source))) (λ r f. record { left = f .left; leftAdded = f .leftAdded; right = f .right; rightAdded = f .rightAdded }) (rowsOf s)
       (All-append Fits (ownRows n (linesOf 0 (s .constraints))) (addedRows n (linesOf 0 (s .constraints))) .1 h)
 
   -- "Magnitudes to 1,000,000,000."
-  pub ranges-bounded : All (λ e. InBounds (record { low = e .low; high = e .high })) (encoded text s)
+  pub ranges-bounded : All (λ e. InBounds (record { low = e .low; high = e .high })) (encoded s)
   ranges-bounded =
       all-map (λ e. InBounds (record { low = e .low; high = e .high })) (λ r. entryOf r (sourceInterval cutTowardZero s (r .source))) (λ r k. record { above = k .bounds .above; below = k .bounds .below }) (rowsOf s) (sheet-sound s ok)

@@ -57,9 +57,9 @@ entryOf r I =
 abbrev pub rowsOf : Sheet → List Row
 rowsOf s = allRows (length (s .streams)) (linesOf 0 (s .constraints))
 
--- The entries of the normal form. The bytes play no part beyond the sheet that they give.
-abbrev pub encoded : List ℕ → Sheet → List Entry
-encoded text s = map (λ r. entryOf r (sourceInterval cutTowardZero s (r .source))) (rowsOf s)
+-- The entries of the normal form.
+abbrev pub encoded : Sheet → List Entry
+encoded s = map (λ r. entryOf r (sourceInterval cutTowardZero s (r .source))) (rowsOf s)
 
 -- ---- what an entry says
 

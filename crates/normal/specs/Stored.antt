@@ -9,20 +9,20 @@ use Rattle.nodes.specs.Bounds.{noRange, nodeSummary}
 use Rattle.nodes.specs.declared.Range.{Range}
 use Rattle.normal.specs.Rows.{Rewriting, nothingAdded, joined, nextRewriting, fbyRewriting, Line, lineOf}
 
-module _ (kinds starts : List ℕ) where
-  -- What node i, a node of this kind, adds, from what the parts add that end up to i.
-  abbrev pub rewritingByKind : Kind → (ℕ → Rewriting) → ℕ → Rewriting
-  rewritingByKind integerNode before i = nothingAdded
-  rewritingByKind nameNode before i = nothingAdded
-  rewritingByKind firstNode before i = before i
-  rewritingByKind nextNode before i = nextRewriting i (before i)
-  rewritingByKind negationNode before i = before i
-  rewritingByKind conditionalNode before i = joined (before (leftEnd starts (leftEnd starts i))) (joined (before (leftEnd starts i)) (before i))
-  rewritingByKind fbyNode before i = fbyRewriting (leftEnd starts i) i (before (leftEnd starts i)) (before i)
-  rewritingByKind operatorNode before i = joined (before (leftEnd starts i)) (before i)
+-- What node i, a node of this kind, adds, from what the parts add that end up to i.
+abbrev pub rewritingByKind : List ℕ → Kind → (ℕ → Rewriting) → ℕ → Rewriting
+rewritingByKind starts integerNode before i = nothingAdded
+rewritingByKind starts nameNode before i = nothingAdded
+rewritingByKind starts firstNode before i = before i
+rewritingByKind starts nextNode before i = nextRewriting i (before i)
+rewritingByKind starts negationNode before i = before i
+rewritingByKind starts conditionalNode before i = joined (before (leftEnd starts (leftEnd starts i))) (joined (before (leftEnd starts i)) (before i))
+rewritingByKind starts fbyNode before i = fbyRewriting (leftEnd starts i) i (before (leftEnd starts i)) (before i)
+rewritingByKind starts operatorNode before i = joined (before (leftEnd starts i)) (before i)
 
+module _ (kinds starts : List ℕ) where
   unfoldable pub rewritingStep : (ℕ → Rewriting) → ℕ → Rewriting
-  rewritingStep before i = rewritingByKind (kindOf (getD kinds i 0)) before i
+  rewritingStep before i = rewritingByKind starts (kindOf (getD kinds i 0)) before i
 
   -- What the part adds that ends before the place e.
   unfoldable pub rewritingBefore : ℕ → Rewriting

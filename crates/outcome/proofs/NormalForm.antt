@@ -14,7 +14,7 @@ use Rattle.sheet.proofs.Reading.{answer-correct}
 use Rattle.outcome.specs.NormalForm.{NormalAnswer, notGiven, entryCount, givenAnswer, givenList, NormalOutcome, unread, tooShort, given}
 use Rattle.outcome.proofs.Answers.{one-number, one-sheet, refused≢sheet}
 
-module _ {E : Type 0} (blank : E) (encoded : List ℕ → Sheet → List E) (A : Arithmetic) (L : Layout) (text : List ℕ) (room : ℕ) where
+module _ {E : Type 0} (blank : E) (encoded : Sheet → List E) (A : Arithmetic) (L : Layout) (text : List ℕ) (room : ℕ) where
   abbrev Outcome : NormalAnswer → List E → Type 0
   Outcome = NormalOutcome blank encoded A L text room
 
@@ -24,18 +24,18 @@ module _ {E : Type 0} (blank : E) (encoded : List ℕ → Sheet → List E) (A :
   normal-unique (unread r) (given r′ h) = absurd (refused≢sheet r r′)
   normal-unique (tooShort r h) (unread r′) = absurd (refused≢sheet r′ r)
   normal-unique (tooShort r h) (tooShort r′ h′) = (refl, refl)
-  normal-unique (tooShort {s} r h) (given r′ h′) = absurd (clash s h (subst (λ q. entryCount blank encoded A q ≤ room) (one-sheet r′ r) h′))
+  normal-unique (tooShort {s} r h) (given r′ h′) = absurd (clash s h (subst (λ q. entryCount A q ≤ room) (one-sheet r′ r) h′))
     where
-      clash : (s : Sheet) → room < entryCount blank encoded A s → entryCount blank encoded A s ≤ room → ⊥
+      clash : (s : Sheet) → room < entryCount A s → entryCount A s ≤ room → ⊥
       clash s h g = omega arith
   normal-unique (given r h) (unread r′) = absurd (refused≢sheet r′ r)
-  normal-unique (given {s} r h) (tooShort r′ h′) = absurd (clash s h (subst (λ q. room < entryCount blank encoded A q) (one-sheet r′ r) h′))
+  normal-unique (given {s} r h) (tooShort r′ h′) = absurd (clash s h (subst (λ q. room < entryCount A q) (one-sheet r′ r) h′))
     where
-      clash : (s : Sheet) → entryCount blank encoded A s ≤ room → room < entryCount blank encoded A s → ⊥
+      clash : (s : Sheet) → entryCount A s ≤ room → room < entryCount A s → ⊥
       clash s h g = omega arith
   normal-unique (given r h) (given r′ h′) =
       let e = one-sheet r r′ in
-      (ap (givenAnswer blank encoded A) e, ap (givenList blank encoded A text room) e)
+      (ap (givenAnswer A) e, ap (givenList blank encoded A room) e)
 
   -- An outcome, whatever its numbers and contents.
   pub record HasOutcome : Type 0 where
@@ -46,10 +46,10 @@ module _ {E : Type 0} (blank : E) (encoded : List ℕ → Sheet → List E) (A :
   pub normal-total : HasOutcome
   normal-total = go (answerTo A L text) (answer-correct A L text)
     where
-      read : {s : Sheet} → AnswerTo A L text (sheet s) → Dec (entryCount blank encoded A s ≤ room) → HasOutcome
+      read : {s : Sheet} → AnswerTo A L text (sheet s) → Dec (entryCount A s ≤ room) → HasOutcome
       read r (yes h) = record { answer = _; list = _; outcome = given r h }
       read r (no h) = record { answer = _; list = _; outcome = tooShort r (omega arith) }
 
       go : (a : Answer) → AnswerTo A L text a → HasOutcome
       go (refused n) r = record { answer = _; list = _; outcome = unread r }
-      go (sheet s) r = read r (decLe (entryCount blank encoded A s) room)
+      go (sheet s) r = read r (decLe (entryCount A s) room)

@@ -18,21 +18,21 @@ pub record NormalAnswer : Type 0 where
 abbrev pub notGiven : ℕ → NormalAnswer
 notGiven n = record { refusal = n; entries = 0; added = 0 }
 
--- `blank` is the record with all fields 0, and `encoded text s` the records of the entries of the normal form of s, in order.
-module _ {E : Type 0} (blank : E) (encoded : List ℕ → Sheet → List E) where
-  abbrev pub entryCount : Arithmetic → Sheet → ℕ
-  entryCount A s = length (normalForm A s .constraints)
+abbrev pub entryCount : Arithmetic → Sheet → ℕ
+entryCount A s = length (normalForm A s .constraints)
 
-  abbrev pub givenAnswer : Arithmetic → Sheet → NormalAnswer
-  givenAnswer A s = record { refusal = 0; entries = entryCount A s; added = length (normalForm A s .streams) - length (s .streams) }
+abbrev pub givenAnswer : Arithmetic → Sheet → NormalAnswer
+givenAnswer A s = record { refusal = 0; entries = entryCount A s; added = length (normalForm A s .streams) - length (s .streams) }
 
+-- `blank` is the record with all fields 0, and `encoded s` the records of the entries of the normal form of s, in order.
+module _ {E : Type 0} (blank : E) (encoded : Sheet → List E) where
   -- "Room [..] in a list beyond what is given, is zero".
-  abbrev pub givenList : Arithmetic → List ℕ → ℕ → Sheet → List E
-  givenList A text room s = encoded text s ++ replicate (room - entryCount A s) blank
+  abbrev pub givenList : Arithmetic → ℕ → Sheet → List E
+  givenList A room s = encoded s ++ replicate (room - entryCount A s) blank
 
   -- "The normal form can meet 1 to 7 and 10, and leaves its list zero."
   pub data NormalOutcome (A : Arithmetic) (L : Layout) (text : List ℕ) (room : ℕ) : NormalAnswer → List E → Type 0 where
     unread : {n : ℕ} → AnswerTo A L text (refused n) → NormalOutcome A L text room (notGiven n) (replicate room blank)
     -- "10: [..] or the list for the normal form is shorter than its entries."
     tooShort : {s : Sheet} → AnswerTo A L text (sheet s) → room < entryCount A s → NormalOutcome A L text room (notGiven 10) (replicate room blank)
-    given : {s : Sheet} → AnswerTo A L text (sheet s) → entryCount A s ≤ room → NormalOutcome A L text room (givenAnswer A s) (givenList A text room s)
+    given : {s : Sheet} → AnswerTo A L text (sheet s) → entryCount A s ≤ room → NormalOutcome A L text room (givenAnswer A s) (givenList A room s)

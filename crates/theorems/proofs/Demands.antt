@@ -223,7 +223,7 @@ module _ {text : List ℕ} {room : Room} {a : CompileAnswer} {t : Tables} (call 
 -- ---- demand 1, the normal form and the step
 
 -- "The normal form can meet 1 to 7 and 10, and leaves its list zero."
-pub refused-list-zero : {E : Type 0} {blank : E} {encoded : List ℕ → Sheet → List E} {text : List ℕ} {room : ℕ} {b : NormalAnswer} {l : List E}
+pub refused-list-zero : {E : Type 0} {blank : E} {encoded : Sheet → List E} {text : List ℕ} {room : ℕ} {b : NormalAnswer} {l : List E}
     → NormalOutcome blank encoded cutTowardZero threeHeaderLines text room b l → 0 < b .refusal → (b ≡ notGiven (b .refusal)) × (l ≡ replicate room blank)
 refused-list-zero (unread r) h = (refl, refl)
 refused-list-zero (tooShort r x) h = (refl, refl)
