@@ -1,26 +1,31 @@
 -- Nodes stored one after the other: stores in a row are one store, and what stands below the first stays. By induction over the nodes.
 use Prim.Native.Nat.{ℕ, suc, _+_, _≤_}
 use mathlib.Core.Path.{_≡_, refl, sym, ap, _∙_}
-use mathlib.Core.List.{List, [], _∷_, _++_, map}
+use mathlib.Core.List.{List, [], _∷_, _++_, map, map-append}
 use native.Mathlib.Omega.{arith}
-use lib.ListN.{length, take, set}
+use lib.ListN.{length, take, set, length-map}
 use lib.Seq.{sets, take-set-le, take-take}
 use Rattle.nodes.specs.Postfix.{Node, kindsOf, valuesOf, startsOf}
 use Rattle.parse.specs.Stored.{Arrays, store, SameBelow}
 
-sets-append : {A : Type 0} (g : Node → A) (x : List A) (n : ℕ) (l m : List Node) → sets (sets x n (map g l)) (n + length l) (map g m) ≡ sets x n (map g (l ++ m))
-sets-append g x n [] m = let same : n + 0 ≡ n = omega arith in ap (λ k. sets x k (map g m)) same
-sets-append g x n (y ∷ l) m =
-    let next : n + suc (length l) ≡ suc n + length l = omega arith in
-    ap (λ k. sets (sets (set x n (g y)) (suc n) (map g l)) k (map g m)) next ∙ sets-append g (set x n (g y)) (suc n) l m
+-- What is stored in two pieces is stored in one.
+pub sets-append : {A : Type 0} (x : List A) (n : ℕ) (vs ws : List A) → sets (sets x n vs) (n + length vs) ws ≡ sets x n (vs ++ ws)
+sets-append x n [] ws = let same : n + 0 ≡ n = omega arith in ap (λ k. sets x k ws) same
+sets-append x n (v ∷ vs) ws =
+    let next : n + suc (length vs) ≡ suc n + length vs = omega arith in
+    ap (λ k. sets (sets (set x n v) (suc n) vs) k ws) next ∙ sets-append (set x n v) (suc n) vs ws
+
+sets-map : {A : Type 0} (g : Node → A) (x : List A) (n : ℕ) (l m : List Node) → sets (sets x n (map g l)) (n + length l) (map g m) ≡ sets x n (map g (l ++ m))
+sets-map g x n l m =
+    ap (λ k. sets (sets x n (map g l)) (n + k) (map g m)) (sym (length-map l g)) ∙ sets-append x n (map g l) (map g m) ∙ ap (sets x n) (sym (map-append g l m))
 
 pub store-append : (a : Arrays) (n : ℕ) (l m : List Node) → store (store a n l) (n + length l) m ≡ store a n (l ++ m)
 unfolding store
 store-append a n l m =
     λ i. record {
-      kinds = sets-append (λ x. x .kind) (a .kinds) n l m i;
-      values = sets-append (λ x. x .value) (a .values) n l m i;
-      starts = sets-append (λ x. x .start) (a .starts) n l m i;
+      kinds = sets-map (λ x. x .kind) (a .kinds) n l m i;
+      values = sets-map (λ x. x .value) (a .values) n l m i;
+      starts = sets-map (λ x. x .start) (a .starts) n l m i;
     }
 
 -- One more node after nodes that were stored.

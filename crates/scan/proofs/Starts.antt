@@ -1,17 +1,19 @@
 -- The k-th start of a text's tokens is where its k-th token begins: the tokens from that place on are those from the k-th on, and a byte of a
--- token stands there. By induction over the bytes, where a run may have begun before them.
-use Prim.Native.Nat.{ℕ, zero, suc, _+_, _-_, _≤_, _<_}
+-- token stands there. By induction over the places: the starts below a place and the tokens that begin from there on are all tokens.
+use Prim.Native.Nat.{ℕ, zero, suc, _+_, _≤_, _<_}
 use mathlib.Core.Path.{_≡_, refl, sym, ap, ap₂, subst, _∙_}
 use mathlib.Core.Bool.{Bool, true, false, not, cond, _&&_, _||_, true≢false}
-use mathlib.Core.List.{List, [], _∷_}
+use mathlib.Core.List.{List, [], _∷_, _++_}
 use native.Mathlib.Omega.{arith}
+use native.Mathlib.Decide.{decLt}
+use native.Mathlib.Numerals.{add-one}
 use lib.Dec.{T}
-use lib.ListN.{length, drop, getD, drop-of-length-le}
+use lib.ListN.{length, drop, getD, length-append, List·getD-append}
+use lib.Seq.{drop-cons, drop-drop, drop-length, getD-at}
 use Rattle.text.specs.Bytes.{Token, ByteClass, inside, isBracket, isInside, startsInside, extendFirst, addToTokens, tokens}
 use Rattle.text.proofs.Reflects.{to-true, T-reflects}
 use Rattle.text.proofs.Bytes.{HasClass, aBracket, anInside, aBetween, classOf-has, inside-not-bracket, bracket-not-inside}
-use Rattle.scan.proofs.Tokens.{drop-at}
-use Rattle.scan.specs.Start.{isVisible, beginsToken, tokenStartsFrom, tokenStarts}
+use Rattle.scan.specs.Start.{isVisible, beginsToken, insideBefore, tokenStartsAt, tokenStartsBelow, tokenStarts}
 
 -- The tokens that begin in these bytes, where `g` says whether the byte before them is inside a run.
 abbrev without : Bool → List Token → List Token
@@ -74,72 +76,80 @@ begun-none : (g : Bool) → begun g [] ≡ []
 unfolding tokens
 begun-none g = no-run g [] refl
 
--- As many starts as tokens.
-starts-length : (g : Bool) (i : ℕ) (l : List ℕ) → length (tokenStartsFrom g i l) ≡ length (begun g l)
-unfolding tokenStartsFrom
-starts-length g i [] = ap length (sym (begun-none g))
-starts-length g i (b ∷ bs) = by (beginsToken g b) (tokenStartsFrom (isInside b) (suc i) bs) (step g b bs) (starts-length (isInside b) (suc i) bs)
-  where
-    by : {ts us vs : List Token} (m : Bool) (ss : List ℕ) → Step b ts us vs m → length ss ≡ length vs → length (cond m (i ∷ ss) ss) ≡ length us
-    by true ss (begins e v p q) h = ap suc h ∙ ap length (sym (p ∙ q))
-    by true ss (goes-on e p) h = absurd (true≢false e)
-    by false ss (begins e v p q) h = absurd (true≢false (sym e))
-    by false ss (goes-on e p) h = h ∙ ap length (sym p)
+-- The k-th token begins at the place s.
+record BeginsAt (text : List ℕ) (k s : ℕ) : Type 0 where
+  pub same : tokens (drop s text) ≡ drop k (tokens text)
+  pub stands : T (isVisible (getD text s 0))
 
--- A place of bytes from the place i on where the tokens us are left.
-record Left (i : ℕ) (l : List ℕ) (us : List Token) (s : ℕ) : Type 0 where
-  pub after : i ≤ s
-  pub same : tokens (drop (s - i) l) ≡ us
-  pub stands : T (isVisible (getD l (s - i) 0))
+-- The starts of the first tokens, and the tokens after those.
+record Found (text starts : List ℕ) (later : List Token) : Type 0 where
+  pub count : length starts + length later ≡ length (tokens text)
+  pub rest : later ≡ drop (length starts) (tokens text)
+  pub each : (k : ℕ) → k < length starts → BeginsAt text k (getD starts k 0)
 
-left-later : {i : ℕ} {bs : List ℕ} {us : List Token} {s : ℕ} (b : ℕ) → Left (suc i) bs us s → Left i (b ∷ bs) us s
-left-later {i} {bs} {us} {s} b h =
-    let one : suc (s - suc i) ≡ s - i = omega (arith, h .after) in
+found-next : (text : List ℕ) (i : ℕ) {starts : List ℕ} {us vs : List Token} (m : Bool) → Step (getD text i 0) (tokens (drop i text)) us vs m → Found text starts us → Found text (cond m (starts ++ (i ∷ [])) starts) vs
+found-next text i {starts} true (begins e v p q) h =
+    let more : length (starts ++ (i ∷ [])) ≡ length starts + 1 = length-append starts (i ∷ []) in
     record {
-      after = omega (arith, h .after);
-      same = ap (λ n. tokens (drop n (b ∷ bs))) (sym one) ∙ h .same;
-      stands = subst (λ n. T (isVisible (getD (b ∷ bs) n 0))) one (h .stands);
+      count = omega (arith, h .count, more, ap length (p ∙ q));
+      rest = ap (drop 1) (sym (p ∙ q) ∙ h .rest) ∙ drop-drop 1 (length starts) (tokens text) ∙ ap (λ n. drop n (tokens text)) (sym more);
+      each = λ k l. by k (omega arith) (decLt k (length starts));
     }
-
-starts-left : (g : Bool) (i : ℕ) (l : List ℕ) (k : ℕ) → k < length (tokenStartsFrom g i l) → Left i l (drop k (begun g l)) (getD (tokenStartsFrom g i l) k 0)
-unfolding tokenStartsFrom
-starts-left g i [] k h = absurd (omega arith)
-starts-left g i (b ∷ bs) k h = by (beginsToken g b) (tokenStartsFrom (isInside b) (suc i) bs) (step g b bs) (λ j n. starts-left (isInside b) (suc i) bs j n) k h
   where
-    at-once : {us vs : List Token} {w : Token} (ss : List ℕ) → T (isVisible b) → us ≡ tokens (b ∷ bs) → us ≡ w ∷ vs → ((j : ℕ) → j < length ss → Left (suc i) bs (drop j vs) (getD ss j 0)) → (j : ℕ) → j < suc (length ss) → Left i (b ∷ bs) (drop j us) (getD (i ∷ ss) j 0)
-    at-once ss v p q f zero n =
-        let none : 0 ≡ i - i = omega arith in
-        record { after = omega arith; same = ap (λ a. tokens (drop a (b ∷ bs))) (sym none) ∙ sym p; stands = subst (λ a. T (isVisible (getD (b ∷ bs) a 0))) none v }
-    at-once ss v p q f (suc j) n = left-later b (subst (λ us. Left (suc i) bs (drop (suc j) us) (getD ss j 0)) (sym q) (f j (omega arith)))
-
-    by : {us vs : List Token} (m : Bool) (ss : List ℕ) → Step b (tokens (b ∷ bs)) us vs m → ((j : ℕ) → j < length ss → Left (suc i) bs (drop j vs) (getD ss j 0)) → (j : ℕ) → j < length (cond m (i ∷ ss) ss) → Left i (b ∷ bs) (drop j us) (getD (cond m (i ∷ ss) ss) j 0)
-    by true ss (begins e v p q) f j n = at-once ss v p (p ∙ q) f j n
-    by true ss (goes-on e p) f j n = absurd (true≢false e)
-    by false ss (begins e v p q) f j n = absurd (true≢false (sym e))
-    by false ss (goes-on e p) f j n = left-later b (subst (λ us. Left (suc i) bs (drop j us) (getD ss j 0)) (sym p) (f j n))
+    by : (k : ℕ) → k < length starts + 1 → Dec (k < length starts) → BeginsAt text k (getD (starts ++ (i ∷ [])) k 0)
+    by k l (yes b) = subst (BeginsAt text k) (sym (List·getD-append starts (i ∷ []) 0 k b)) (h .each k b)
+    by k l (no b) =
+        let last : length starts ≡ k = omega arith in
+        subst (BeginsAt text k) (sym (getD-at starts i [] 0 k last)) (record { same = sym p ∙ h .rest ∙ ap (λ n. drop n (tokens text)) last; stands = v })
+found-next text i true (goes-on e p) h = absurd (true≢false e)
+found-next text i false (begins e v p q) h = absurd (true≢false (sym e))
+found-next text i false (goes-on e p) h = subst (Found text _) p h
 
 module _ (text : List ℕ) where
+  -- The tokens that begin from the place i on.
+  abbrev begunFrom : ℕ → List Token
+  begunFrom i = begun (insideBefore text i) (drop i text)
+
+  found : (i : ℕ) → i ≤ length text → Found text (tokenStartsBelow text i) (begunFrom i)
+  unfolding tokenStartsBelow
+  found zero h = record { count = omega arith; rest = refl; each = λ k l. absurd (omega arith) }
+  found (suc i) h =
+      let b = getD text i 0 in
+      let here : drop i text ≡ b ∷ drop (suc i) text = drop-cons text i 0 (omega arith) in
+      found-next text i (tokenStartsAt text i)
+      (subst (λ l. Step b (tokens l) (begun (insideBefore text i) l) (begunFrom (suc i)) (tokenStartsAt text i)) (sym here) (step (insideBefore text i) b (drop (suc i) text)))
+      (found i (omega arith))
+
+  all-found : Found text (tokenStarts text) (begunFrom (length text))
+  all-found = found (length text) (omega arith)
+
   pub token-starts-length : length (tokenStarts text) ≡ length (tokens text)
-  token-starts-length = starts-length false 0 text
+  token-starts-length =
+      let none : begunFrom (length text) ≡ [] = ap (begun (insideBefore text (length text))) (drop-length text) ∙ begun-none (insideBefore text (length text)) in
+      omega (arith, all-found .count, ap length none)
 
   module _ (k : ℕ) (h : k < length (tokens text)) where
-    known : k < length (tokenStarts text)
-    known = let z = token-starts-length in omega arith
+    begins-at : BeginsAt text k (getD (tokenStarts text) k 0)
+    begins-at = all-found .each k (omega (arith, token-starts-length))
 
     pub token-start : tokens (drop (getD (tokenStarts text) k 0) text) ≡ drop k (tokens text)
-    token-start = let whole : getD (tokenStarts text) k 0 ≡ getD (tokenStarts text) k 0 - 0 = omega arith in ap (λ n. tokens (drop n text)) whole ∙ starts-left false 0 text k known .same
+    token-start = begins-at .same
 
     pub token-start-stands : T (isVisible (getD text (getD (tokenStarts text) k 0) 0))
-    token-start-stands = let whole : getD (tokenStarts text) k 0 - 0 ≡ getD (tokenStarts text) k 0 = omega arith in subst (λ n. T (isVisible (getD text n 0))) whole (starts-left false 0 text k known .stands)
+    token-start-stands = begins-at .stands
 
--- One byte of a loop over the bytes.
-pub starts-next : (g : Bool) (text : List ℕ) (i : ℕ) → i < length text
-    → tokenStartsFrom g i (drop i text) ≡ cond (beginsToken g (getD text i 0)) (i ∷ tokenStartsFrom (isInside (getD text i 0)) (i + 1) (drop (i + 1) text)) (tokenStartsFrom (isInside (getD text i 0)) (i + 1) (drop (i + 1) text))
-unfolding tokenStartsFrom
-starts-next g text i h =
-    let next : suc i ≡ i + 1 = omega arith in
-    ap (tokenStartsFrom g i) (drop-at text i h) ∙ ap (λ n. cond (beginsToken g (getD text i 0)) (i ∷ tokenStartsFrom (isInside (getD text i 0)) n (drop (i + 1) text)) (tokenStartsFrom (isInside (getD text i 0)) n (drop (i + 1) text))) next
+  -- ---- one byte of a loop over the bytes
 
-pub starts-end : (g : Bool) (text : List ℕ) (i : ℕ) → length text ≤ i → tokenStartsFrom g i (drop i text) ≡ []
-unfolding tokenStartsFrom
-starts-end g text i h = ap (tokenStartsFrom g i) (drop-of-length-le text h)
+  pub starts-few : (i : ℕ) → i ≤ length text → length (tokenStartsBelow text i) ≤ length (tokens text)
+  starts-few i h = omega (arith, found i h .count)
+
+  pub starts-none : tokenStartsBelow text 0 ≡ []
+  unfolding tokenStartsBelow
+  starts-none = refl
+
+  pub starts-next : (i : ℕ) → tokenStartsBelow text (i + 1) ≡ cond (tokenStartsAt text i) (tokenStartsBelow text i ++ (i ∷ [])) (tokenStartsBelow text i)
+  unfolding tokenStartsBelow
+  starts-next i = ap (tokenStartsBelow text) (add-one i)
+
+  pub inside-next : (i : ℕ) → isInside (getD text i 0) ≡ insideBefore text (i + 1)
+  inside-next i = ap (insideBefore text) (sym (add-one i))

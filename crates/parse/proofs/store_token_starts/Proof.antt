@@ -1,4 +1,5 @@
--- `parse::store_token_starts` meets its contract: what is stored and the starts from the loop's place on are all starts of the line's tokens.
+-- `parse::store_token_starts` meets its contract: the starts below the loop's place are stored, and at the end these are all starts of the
+-- line's tokens.
 use Prim.Native.Nat.{_-_}
 use mathlib.Core.Path.{sym, _∙_}
 use mathlib.Core.Logic.{⊎-elim}
