@@ -3,12 +3,13 @@ use Prim.Native.Nat.{ℕ, zero, suc, _+_, _-_, _<_}
 use native.Mathlib.Omega.{arith}
 use native.Mathlib.Decide.{decLt}
 use native.Mathlib.Nat.{le-of-suc-le-suc, not-suc-le-zero}
-use mathlib.Core.Path.{_≡_, refl, sym, subst}
+use mathlib.Core.Path.{_≡_, refl, sym, _∙_, ap, subst}
 use mathlib.Core.Bool.{Bool, true, false, not, cond}
 use mathlib.Core.Logic.{_↔_}
 use mathlib.Core.List.{List, [], _∷_, _++_, map, List·Memᴰ, List·Memᴰ·head, List·Memᴰ·tail}
 use lib.Dec.{T}
-use lib.ListN.{length, getD}
+use lib.ListN.{length, getD, set}
+use lib.Seq.{sets}
 
 -- ---- choices
 
@@ -68,3 +69,10 @@ pub getD-map : {X Y : Type 0} (f : X → Y) (xs : List X) (j : ℕ) (d : X) (e :
 getD-map f [] j d e l = absurd (not-suc-le-zero l)
 getD-map f (x ∷ xs) zero d e l = refl
 getD-map f (x ∷ xs) (suc j) d e l = getD-map f xs j d e (le-of-suc-le-suc l)
+
+-- What is written in two pieces, one behind the other, is written in one.
+pub sets-append : {X : Type 0} (l : List X) (n : ℕ) (xs ys : List X) → sets (sets l n xs) (n + length xs) ys ≡ sets l n (xs ++ ys)
+sets-append l n [] ys = let same : n + 0 ≡ n = omega arith in ap (λ k. sets l k ys) same
+sets-append l n (x ∷ xs) ys =
+    let next : n + suc (length xs) ≡ suc n + length xs = omega arith in
+    ap (λ k. sets (sets (set l n x) (suc n) xs) k ys) next ∙ sets-append (set l n x) (suc n) xs ys

@@ -11,7 +11,7 @@ use borrow.Author.Tests.{lt-ltb, le-ltb}
 use Rattle.nodes.specs.declared.Range.{Range}
 use Rattle.normal.specs.Table.{rowBound, sourceAt, endsOf, endsUpTo, blank, entryAt, listed}
 use Rattle.normal.specs.declared.Entry.{Entry}
-use Rattle.normal.proofs.Writing.{sets-append}
+use Rattle.meaning.proofs.Lists.{sets-append}
 
 pub length-endsUpTo : (range : ℕ → Range) (numbers : List ℕ) (n : ℕ) → length (endsUpTo range numbers n) ≡ n * 2
 unfolding endsUpTo

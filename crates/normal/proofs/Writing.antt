@@ -6,17 +6,12 @@ use mathlib.Core.List.{List, [], _∷_, _++_, append-assoc}
 use lib.IntN.{ℤ}
 use lib.ListN.{length, set, length-append}
 use lib.Seq.{sets}
+use Rattle.meaning.proofs.Lists.{sets-append}
 use Rattle.normal.specs.Rows.{Row, Rewriting, equationRow, nothingAdded, joined, nextEntries, nextRewriting, fbyEntries, fbyRewriting, untilRow, untilEntries}
 use Rattle.normal.specs.Table.{rowBound, streamLimit, numbersOf, flat, putRows, HasRoom, Wrote}
 use Rattle.normal.specs.declared.Written.{Written}
 
 -- ---- stores
-
-pub sets-append : {A : Type 0} (l : List A) (n : ℕ) (xs ys : List A) → sets (sets l n xs) (n + length xs) ys ≡ sets l n (xs ++ ys)
-sets-append l n [] ys = let same : n + 0 ≡ n = omega arith in ap (λ k. sets l k ys) same
-sets-append l n (x ∷ xs) ys =
-    let next : n + suc (length xs) ≡ suc n + length xs = omega arith in
-    ap (λ k. sets (sets (set l n x) (suc n) xs) k ys) next ∙ sets-append (set l n x) (suc n) xs ys
 
 -- Seven stores from a place on.
 pub seven-stores : (t : List ℕ) (a p q r s u v w : ℕ)

@@ -7,10 +7,10 @@ use native.Mathlib.Omega.{arith}
 use lib.ListN.{length, take, drop, getD, set, length-append}
 use lib.Seq.{sets, sets-eq, length-sets, length-take-le, drop-at, take-append-seam}
 use Rattle.text.specs.Bytes.{isInside, tokens}
+use Rattle.meaning.proofs.Lists.{sets-append}
 use Rattle.scan.specs.Place.{between}
 use Rattle.scan.specs.Start.{beginsToken, insideBefore, tokenStartsBelow, tokenStarts}
 use Rattle.scan.proofs.Starts.{token-starts-length, starts-few, starts-none, starts-next, inside-next}
-use Rattle.parse.proofs.Store.{sets-append}
 
 -- The starts below the place i are stored, and `inside` says whether a byte of a run stands before it.
 pub record Filled (line old new : List ℕ) (from count : ℕ) (inside : Bool) (i : ℕ) : Type 0 where

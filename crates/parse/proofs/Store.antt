@@ -5,16 +5,11 @@ use mathlib.Core.List.{List, [], _∷_, _++_, map, map-append}
 use native.Mathlib.Omega.{arith}
 use lib.ListN.{length, take, set, length-map}
 use lib.Seq.{sets, take-set-le, take-take}
+use Rattle.meaning.proofs.Lists.{sets-append}
 use Rattle.nodes.specs.Postfix.{Node, kindsOf, valuesOf, startsOf}
 use Rattle.parse.specs.Stored.{Arrays, store, SameBelow}
 
--- What is stored in two pieces is stored in one.
-pub sets-append : {A : Type 0} (x : List A) (n : ℕ) (vs ws : List A) → sets (sets x n vs) (n + length vs) ws ≡ sets x n (vs ++ ws)
-sets-append x n [] ws = let same : n + 0 ≡ n = omega arith in ap (λ k. sets x k ws) same
-sets-append x n (v ∷ vs) ws =
-    let next : n + suc (length vs) ≡ suc n + length vs = omega arith in
-    ap (λ k. sets (sets (set x n v) (suc n) vs) k ws) next ∙ sets-append (set x n v) (suc n) vs ws
-
+-- What is stored of nodes in two pieces is stored in one.
 sets-map : {A : Type 0} (g : Node → A) (x : List A) (n : ℕ) (l m : List Node) → sets (sets x n (map g l)) (n + length l) (map g m) ≡ sets x n (map g (l ++ m))
 sets-map g x n l m =
     ap (λ k. sets (sets x n (map g l)) (n + k) (map g m)) (sym (length-map l g)) ∙ sets-append x n (map g l) (map g m) ∙ ap (sets x n) (sym (map-append g l m))

@@ -8,13 +8,8 @@ use lib.Dec.{leb}
 use lib.ListN.{length, set, length-append}
 use lib.Seq.{sets}
 use borrow.Author.Tests.{leb-true, leb-false}
+use Rattle.meaning.proofs.Lists.{sets-append}
 use Rattle.print.specs.Append.{Appends}
-
-sets-append : (a b out : List ℕ) (at : ℕ) → sets out at (a ++ b) ≡ sets (sets out at a) (at + length a) b
-sets-append [] b out at = let e : at ≡ at + 0 = omega arith in ap (λ k. sets out k b) e
-sets-append (x ∷ a) b out at =
-    let e : suc at + length a ≡ at + suc (length a) = omega arith in
-    sets-append a b (set out at x) (suc at) ∙ ap (λ k. sets (sets (set out at x) (suc at) a) k b) e
 
 pub appends-nothing : {at : ℕ} {out : List ℕ} → at ≤ suc (length out) → Appends at [] out out at
 appends-nothing h = record { same-length = refl; written = λ b. (refl, omega arith); no-room = λ b. omega arith }
@@ -51,7 +46,7 @@ module _ {at : ℕ} {a out out₁ : List ℕ} {r₁ : ℕ} (p : Appends at a out
           let w : r₁ + length b ≤ length out₁ = omega arith in
           let z = q .written w in
           let y = z .1 in
-          (z .0 ∙ ap (λ s. sets s r₁ b) (v .0) ∙ ap (λ k. sets (sets out at a) k b) x ∙ sym (sets-append a b out at), omega arith)
+          (z .0 ∙ ap (λ s. sets s r₁ b) (v .0) ∙ ap (λ k. sets (sets out at a) k b) x ∙ sets-append out at a b, omega arith)
 
       by : length out < at + length (a ++ b) → (t : Bool) → leb (at + length a) (length out) ≡ t → r₂ ≡ suc (length out)
       by h true e =

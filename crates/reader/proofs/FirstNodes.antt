@@ -27,7 +27,7 @@ use Rattle.nodes.proofs.FirstPlaces.{places-long, allPlaces-long}
 use Rattle.arithmetic.proofs.Machine.{held, number-cast}
 use Rattle.reader.specs.FirstNodes.{withFirsts, FewFirsts}
 use Rattle.reader.specs.Stored.{padded}
-use Rattle.reader.proofs.Stored.{sets-append}
+use Rattle.meaning.proofs.Lists.{sets-append}
 use Rattle.reader.proofs.Elements.{drop-next}
 use Rattle.reader.proofs.Room.{sets-padded}
 use Rattle.reader.proofs.Unknown.{operator-beyond}
@@ -110,7 +110,7 @@ Puts n f l e = (t : List ℕ) → placed n l t ≡ sets t f (firstPlaces n e)
 -- Two parts, and the places of both.
 placed-pair : (n f : ℕ) (l r : List Node) (p q : List ℕ) → ((t : List ℕ) → placed n l t ≡ sets t f p) → ((t : List ℕ) → placed (n + length l) r t ≡ sets t (f + length p) q)
     → (t : List ℕ) → placed n (l ++ r) t ≡ sets t f (p ++ q)
-placed-pair n f l r p q a b t = placed-append n l r t ∙ ap (placed (n + length l) r) (a t) ∙ b (sets t f p) ∙ sym (sets-append t f p q)
+placed-pair n f l r p q a b t = placed-append n l r t ∙ ap (placed (n + length l) r) (a t) ∙ b (sets t f p) ∙ sets-append t f p q
 
 placed-parts : (n f : ℕ) (a b : Expression) → Puts n f (postfix n f a) a → Puts (n + length (postfix n f a)) (f + length (firsts a)) (postfix (n + length (postfix n f a)) (f + length (firsts a)) b) b
     → (t : List ℕ) → placed n (postfix n f a ++ postfix (n + length (postfix n f a)) (f + length (firsts a)) b) t ≡ sets t f (firstPlaces n a ++ firstPlaces (n + length (subexpressions a)) b)

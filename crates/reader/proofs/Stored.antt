@@ -10,11 +10,12 @@ use lib.Seq.{sets}
 use Rattle.text.specs.Bytes.{Token, tokens}
 use Rattle.meaning.specs.Expression.{Constraint}
 use Rattle.meaning.specs.Window.{sideFirsts}
-use Rattle.nodes.specs.Postfix.{Node, kindsOf, valuesOf, startsOf, sideNodes, allNodes, StoredConstraint, storedConstraint, storedConstraints}
+use Rattle.nodes.specs.Postfix.{sideNodes, allNodes, StoredConstraint, storedConstraint, storedConstraints}
 use Rattle.sheet.specs.Parser.{andThen, parseConstraint}
 use Rattle.sheet.specs.Reading.{constraintsOf}
-use Rattle.parse.specs.Stored.{Arrays, arrays, store}
+use Rattle.parse.specs.Stored.{store}
 use Rattle.parse.specs.Bounded.{boundedConstraint}
+use Rattle.parse.proofs.Store.{store-append}
 use Rattle.reader.specs.Constraints.{State, withConstraint, readAll}
 
 -- The state after these constraints.
@@ -37,33 +38,6 @@ readAll-constraints names s (l ∷ ls) = by (parseConstraint names (tokens l)) (
     by none h = refl
     by (some c) h = h c ∙ sym (then-same (constraintsOf names ls) (λ cs. some (c ∷ cs)) (λ cs. some (withAll s cs)))
 
--- ---- storing in parts
-
-module _ {A : Type 0} where
-  -- What is stored in one piece is stored in two.
-  pub sets-append : (l : List A) (i : ℕ) (xs ys : List A) → sets l i (xs ++ ys) ≡ sets (sets l i xs) (i + length xs) ys
-  sets-append l i [] ys = ap (λ k. sets l k ys) (let e : i ≡ i + 0 = omega arith in e)
-  sets-append l i (x ∷ xs) ys = sets-append (set l i x) (suc i) xs ys ∙ ap (λ k. sets (sets (set l i x) (suc i) xs) k ys) (let e : suc i + length xs ≡ i + suc (length xs) = omega arith in e)
-
-  map-append : {X : Type 0} (f : X → A) (xs ys : List X) → map f (xs ++ ys) ≡ map f xs ++ map f ys
-  map-append f [] ys = refl
-  map-append f (x ∷ xs) ys = ap (λ l. f x ∷ l) (map-append f xs ys)
-
-  map-length : {X : Type 0} (f : X → A) (xs : List X) → length (map f xs) ≡ length xs
-  map-length f [] = refl
-  map-length f (x ∷ xs) = ap suc (map-length f xs)
-
-  pub sets-map : {X : Type 0} (f : X → A) (l : List A) (i : ℕ) (xs ys : List X) → sets l i (map f (xs ++ ys)) ≡ sets (sets l i (map f xs)) (i + length xs) (map f ys)
-  sets-map f l i xs ys =
-      ap (sets l i) (map-append f xs ys) ∙ sets-append l i (map f xs) (map f ys) ∙ ap (λ k. sets (sets l i (map f xs)) (i + k) (map f ys)) (map-length f xs)
-
-pub store-append : (a : Arrays) (n : ℕ) (xs ys : List Node) → store a n (xs ++ ys) ≡ store (store a n xs) (n + length xs) ys
-unfolding store
-store-append a n xs ys =
-    ap (λ k. arrays k (sets (a .values) n (valuesOf (xs ++ ys))) (sets (a .starts) n (startsOf (xs ++ ys)))) (sets-map (λ x. x .kind) (a .kinds) n xs ys)
-    ∙ ap (λ v. arrays (sets (sets (a .kinds) n (kindsOf xs)) (n + length xs) (kindsOf ys)) v (sets (a .starts) n (startsOf (xs ++ ys)))) (sets-map (λ x. x .value) (a .values) n xs ys)
-    ∙ ap (λ s. arrays (sets (sets (a .kinds) n (kindsOf xs)) (n + length xs) (kindsOf ys)) (sets (sets (a .values) n (valuesOf xs)) (n + length xs) (valuesOf ys)) s) (sets-map (λ x. x .start) (a .starts) n xs ys)
-
 -- ---- the nodes after all constraints
 
 pub withAll-nodes : (s : State) (cs : List Constraint)
@@ -75,7 +49,7 @@ withAll-nodes s (c ∷ cs) =
     let f = s .counts .firsts in
     let l = sideNodes n f (boundedConstraint c) in
     withAll-nodes (withConstraint s c) cs
-    ∙ sym (store-append (s .nodes) n l (allNodes (n + length l) (f + length (sideFirsts (boundedConstraint c))) (map boundedConstraint cs)))
+    ∙ store-append (s .nodes) n l (allNodes (n + length l) (f + length (sideFirsts (boundedConstraint c))) (map boundedConstraint cs))
 
 -- ---- the relations and the places of the sides after all constraints
 

@@ -7,7 +7,7 @@ use native.Mathlib.Omega.{arith}
 use native.Mathlib.Numerals.{add-one}
 use lib.ListN.{length, take, getD, set}
 use lib.Seq.{sets, take-suc, take-all, length-take-le}
-use Rattle.reader.proofs.Stored.{sets-append}
+use Rattle.meaning.proofs.Lists.{sets-append}
 use Rattle.reader.proofs.put_name.Statement.{statement}
 use Rattle.reader.proofs.put_name.Tie as tie
 
@@ -16,7 +16,7 @@ sets-more : (l : List ℕ) (k : ℕ) (name : List ℕ) (i : ℕ) → i < length 
 sets-more l k name i h =
     let there : length (take i name) ≡ i = length-take-le i name (omega arith) in
     ap (sets l k) (ap (λ n. take n name) (add-one i) ∙ take-suc name i 0 h)
-    ∙ sets-append l k (take i name) (getD name i 0 ∷ [])
+    ∙ sym (sets-append l k (take i name) (getD name i 0 ∷ []))
     ∙ ap (λ n. set (sets l k (take i name)) (k + n) (getD name i 0)) there
 
 abbrev Inv-loop : tie.InvT-loop
