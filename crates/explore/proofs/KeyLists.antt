@@ -1,14 +1,13 @@
 -- Lists that loops fill from the front: copies, padded copies, images under a function, the letters of a window, and a key. From the laws of
 -- lists alone.
-use Prim.Native.Nat.{ℕ, zero, suc, _+_, _-_, _*_, _≤_, _<_}
+use Prim.Native.Nat.{ℕ, _+_, _-_, _*_, _≤_, _<_}
 use native.Mathlib.Omega.{arith}
 use native.Mathlib.Numerals.{add-one}
 use native.Mathlib.Decide.{decLt}
-use native.Mathlib.Nat.{zero-mul, suc-mul}
-use mathlib.Core.Path.{_≡_, refl, sym, _∙_, ap, subst}
+use mathlib.Core.Path.{_≡_, refl, sym, _∙_, ap}
 use mathlib.Core.List.{List, [], _∷_, _++_, map, map-append, append-assoc, append-nil}
 use lib.IntN.{ℤ}
-use lib.ListN.{length, getD, take, drop, set, replicate, length-append, length-take, length-replicate, length-set, getD-replicate, replicate-append-replicate, List·getD-append, List·getD-eq-default, drop-of-length-le}
+use lib.ListN.{length, getD, take, drop, set, replicate, length-append, length-replicate, length-set, getD-replicate, replicate-append-replicate, List·getD-append, List·getD-eq-default, drop-of-length-le}
 use lib.Seq.{take-suc, take-suc-set, take-set-lt, set-split, getD-take, getD-append-add, length-take-le, take-all, take-length, take-take, take-at, drop-at, drop-drop, take-append-add, paste, take-paste, drop-paste, length-paste}
 use Rattle.explore.specs.Chains.{keySize}
 use Rattle.explore.specs.Key.{padded, encoded, letterRoom, firstRoom}

@@ -1,5 +1,5 @@
 -- Where the search of the reachable keys stands, and what one more entry and one more row make of it. From the laws of chains and of keys.
-use Prim.Native.Nat.{ℕ, zero, suc, _+_, _-_, _*_, _^_, _≤_, _<_}
+use Prim.Native.Nat.{ℕ, suc, _+_, _-_, _*_, _^_, _≤_, _<_}
 use native.Mathlib.Omega.{arith}
 use native.Mathlib.Numerals.{add-one}
 use native.Mathlib.Nat.{mul-le-mul-right, suc-mul, not-suc-le-zero, pow-suc}
@@ -7,19 +7,19 @@ use native.Mathlib.Decide.{ℕ-discrete, decLt}
 use lib.Pow.{pow-mono}
 use mathlib.Core.Path.{_≡_, refl, sym, _∙_, ap, subst}
 use mathlib.Core.Bool.{Bool, true, false, cond}
-use mathlib.Core.Logic.{_≢_, _⊎_, inl, inr, ⊎-elim}
-use mathlib.Core.List.{List, [], _∷_}
+use mathlib.Core.Logic.{_⊎_, inl, inr, ⊎-elim}
+use mathlib.Core.List.{List, []}
 use lib.Dec.{eqb}
-use lib.ListN.{length, getD, take, drop, set, replicate, length-set, drop-of-length-le}
+use lib.ListN.{length, getD, drop, set, length-set, drop-of-length-le}
 use lib.Seq.{getD-set-same, getD-set-other, drop-cons}
 use borrow.Author.Tests.{eq-eqb, ne-eqb}
 use Rattle.automaton.specs.Table.{no-state, Before, FirstMet}
 use Rattle.automaton.specs.Stored.{entry-at}
 use Rattle.meaning.specs.Arithmetic.{Arithmetic}
-use Rattle.explore.specs.Chains.{keySize, rowAt, Tables, Finds, Inserts}
-use Rattle.explore.specs.Key.{letterRoom, sizeIn}
-use Rattle.explore.specs.Step.{Store, judgedAfter, keyAfter, streamRoom, IsReady, HasValues, IsKey}
-use Rattle.explore.specs.Search.{startKey, everyMark, flagOf, Settled, Followed, Over, Searched, Turn, Reach, Reach.start, Reach.step, Known, IsRow, IsLent}
+use Rattle.explore.specs.Chains.{rowAt, Tables, Finds, Inserts}
+use Rattle.explore.specs.Key.{letterRoom}
+use Rattle.explore.specs.Step.{Store, judgedAfter, keyAfter, streamRoom, HasValues, IsKey}
+use Rattle.explore.specs.Search.{startKey, everyMark, flagOf, Settled, Followed, Searched, Turn, Reach, Reach.start, Reach.step, Known, IsRow, IsLent}
 use Rattle.explore.proofs.PreparedLaws.{one-more}
 use Rattle.explore.proofs.StepLaws.{keyAfter-key}
 

@@ -1,6 +1,6 @@
 -- The keys that are reached from the key of the empty record, letter by letter, in rows; and the table of their successors. "First met" is
 -- document 01's term.
-use Prim.Native.Nat.{ℕ, suc, _+_, _*_, _≤_, _<_}
+use Prim.Native.Nat.{ℕ, _+_, _*_, _≤_, _<_}
 use mathlib.Core.Path.{_≡_}
 use mathlib.Core.Bool.{Bool, true, false, cond}
 use mathlib.Core.Logic.{_⊎_}
@@ -12,7 +12,7 @@ use Rattle.automaton.specs.Stored.{entry-at}
 use Rattle.meaning.specs.Arithmetic.{Arithmetic}
 use Rattle.explore.specs.Chains.{keySize, rowAt, Tables, Inserts}
 use Rattle.explore.specs.Key.{digit, marksIn}
-use Rattle.explore.specs.Step.{Store, judgedAfter, keyAfter, streamRoom, IsReady}
+use Rattle.explore.specs.Step.{Store, judgedAfter, keyAfter, streamRoom}
 
 abbrev pub startKey : List ℕ
 startKey = replicate keySize 0

@@ -1,16 +1,16 @@
 -- Every compile has an outcome, whatever the bytes and the room. From the answer to a text (sheet), the exploration of situations (meaning) and
 -- the table of their graph (proofs/SituationGraph).
-use Prim.Native.Nat.{ℕ, zero, suc, _+_, _-_, _*_, _/_, _≤_, _<_, min}
+use Prim.Native.Nat.{ℕ, _+_, _-_, _*_, _/_, _≤_, _<_}
 use native.Mathlib.Omega.{arith}
 use native.Mathlib.Nat.{div-add-mod', mul-le-mul-right}
 use native.Mathlib.Decide.{decLe}
-use mathlib.Core.Path.{_≡_, refl, sym, _∙_, ap, subst}
+use mathlib.Core.Path.{_≡_, refl, sym, _∙_}
 use mathlib.Core.Logic.{_⊎_, inl, inr}
 use mathlib.Core.List.{List, [], _∷_, _++_}
 use lib.ListN.{length, getD, take, drop, length-append, length-replicate, List·getD-append}
 use lib.Seq.{length-take-le, getD-take, drop-at}
 use Rattle.automaton.specs.Solutions.{NoSolution}
-use Rattle.automaton.specs.Table.{no-state, SameRows}
+use Rattle.automaton.specs.Table.{SameRows}
 use Rattle.automaton.specs.Stored.{StoredTable, HasTable, entry-at, final-at}
 use Rattle.automaton.proofs.Places.{place-before}
 use Rattle.automaton.proofs.Transfer.{rows-table}

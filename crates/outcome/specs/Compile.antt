@@ -1,7 +1,7 @@
 -- What a compile gives: one relation over the sheet's bytes, the lent tables, the answer and the contents of every lent table afterwards.
-use Prim.Native.Nat.{ℕ, _+_, _-_, _*_, _≤_, _<_}
+use Prim.Native.Nat.{ℕ, _-_, _*_, _≤_, _<_}
 use mathlib.Core.Path.{_≡_}
-use mathlib.Core.List.{List, [], _∷_}
+use mathlib.Core.List.{List, _∷_}
 use lib.ListN.{length, drop}
 use Rattle.automaton.specs.Stored.{StoredTable}
 use Rattle.meaning.specs.Value.{Streams}
@@ -10,7 +10,7 @@ use Rattle.meaning.specs.Expression.{Sheet, Solution}
 use Rattle.meaning.specs.Letter.{letterCount, SolutionWord}
 use Rattle.meaning.specs.Situation.{SituationCount, MoreSituations}
 use Rattle.sheet.specs.Form.{Layout}
-use Rattle.sheet.specs.Refusal.{Answer, refused, sheet, AnswerTo}
+use Rattle.sheet.specs.Refusal.{refused, sheet, AnswerTo}
 use Rattle.outcome.specs.Room.{Lent, fewestRows, zeros, zeroTables}
 
 -- "4,096 situations"

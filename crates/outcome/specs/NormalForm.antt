@@ -1,13 +1,12 @@
 -- What a call for the normal form gives: one relation over the sheet's bytes, the lent list, the answer and the list afterwards.
 use Prim.Native.Nat.{ℕ, _-_, _≤_, _<_}
-use mathlib.Core.Path.{_≡_}
 use mathlib.Core.List.{List, _++_}
 use lib.ListN.{length, replicate}
 use Rattle.meaning.specs.Arithmetic.{Arithmetic}
 use Rattle.meaning.specs.Expression.{Sheet}
 use Rattle.meaning.specs.NormalForm.{normalForm}
 use Rattle.sheet.specs.Form.{Layout}
-use Rattle.sheet.specs.Refusal.{Answer, refused, sheet, AnswerTo}
+use Rattle.sheet.specs.Refusal.{refused, sheet, AnswerTo}
 
 -- The refusal's number or 0, the number of entries and of added streams.
 pub record NormalAnswer : Type 0 where

@@ -7,7 +7,7 @@
 -- lent. From the laws of the layers below.
 use Prim.Native.Nat.{ℕ, _*_, _≤_, _<_}
 use native.Mathlib.Omega.{arith}
-use mathlib.Core.Path.{_≡_, refl, sym, _∙_, ap, subst}
+use mathlib.Core.Path.{_≡_, refl, sym, ap, subst}
 use mathlib.Core.Logic.{_↔_, _⊎_, inl, inr}
 use mathlib.Core.List.{List, map}
 use lib.ListN.{length, take, replicate}
@@ -16,7 +16,7 @@ use Rattle.automaton.specs.Stored.{StoredTable, SameUsedRows, entry-at}
 use Rattle.automaton.proofs.Paths.{has-solution}
 use Rattle.meaning.specs.Value.{Streams}
 use Rattle.meaning.specs.Arithmetic.{cutTowardZero}
-use Rattle.meaning.specs.Expression.{Stream, Sheet, Solution}
+use Rattle.meaning.specs.Expression.{Sheet, Solution}
 use Rattle.meaning.specs.Letter.{Record, OfLetters, letterCount, letterNumber, SolutionWord}
 use Rattle.meaning.specs.Situation.{SituationCount, MoreSituations}
 use Rattle.meaning.specs.NormalForm.{normalForm, ExtendsUniquely}
@@ -31,7 +31,7 @@ use Rattle.outcome.specs.Room.{zeroTables}
 use Rattle.outcome.specs.Compile.{CompileAnswer, refusedBy, situationBound, Room, roomRows, Tables, allZero, HoldsTable, SituationsFit, tooManySituations, tooFewRows, noSolution, compiled, CompileOutcome, unread, read}
 use Rattle.outcome.specs.NormalForm.{NormalAnswer, notGiven, NormalOutcome, unread, tooShort, given}
 use Rattle.outcome.proofs.Answers.{one-sheet, refused≢sheet}
-use Rattle.outcome.proofs.AcceptedCompile.{AcceptedCompile, accepted-compile, refusal-in-range}
+use Rattle.outcome.proofs.AcceptedCompile.{accepted-compile, refusal-in-range}
 use Rattle.outcome.proofs.CompileUnique.{compile-unique}
 use Rattle.outcome.proofs.StateCount.{states-at-most-situations}
 use Rattle.stored.specs.Number.{tableBytes}

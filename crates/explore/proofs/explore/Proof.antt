@@ -1,5 +1,5 @@
 -- `explore` meets its contract: the chains are emptied, the empty record's key becomes the first row, and the search goes on from it.
-use mathlib.Core.Path.{_≡_, refl, _∙_}
+use mathlib.Core.Path.{refl, _∙_}
 use native.Mathlib.Omega.{arith}
 use Rattle.explore.proofs.ChainLaws.{cleared-chained}
 use Rattle.explore.proofs.SearchLaws.{sizes-lent, settled-start, searched-every}

@@ -1,12 +1,10 @@
 -- `chains::find` meets its contract. The loop goes along one chain: every row that holds the key is below the row that the loop has come to.
-use Prim.Native.Nat.{ℕ, _≤_, _<_, _-_, _*_, _+_}
-use mathlib.Core.Path.{_≡_, refl, sym, ap, _∙_}
-use mathlib.Core.List.{List}
+use Prim.Native.Nat.{_≤_, _<_, _-_, _*_, _+_}
+use mathlib.Core.Path.{refl, sym, _∙_}
 use native.Mathlib.Omega.{arith}
-use lib.ListN.{length, getD, take, drop}
+use lib.ListN.{length}
 use native.Mathlib.Nat.{not-suc-le-zero}
-use lib.Seq.{length-take-le}
-use Rattle.explore.specs.Chains.{keySize, rowAt, bucketOf, Tables, Finds}
+use Rattle.explore.specs.Chains.{keySize}
 use Rattle.marks.proofs.Laws.{says-yes, says-no}
 use Rattle.explore.proofs.ChainLaws.{Left, left-first, left-next, part-size, part-long}
 use borrow.Author.Needs.{needs}

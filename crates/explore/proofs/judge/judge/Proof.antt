@@ -1,17 +1,14 @@
 -- `judge::judge` meets its contract. The loop's invariant: the constraints passed are judged and the marks of their untils are told, so the
 -- answer is what is told, joined with the answer for the rest.
-use Prim.Native.Nat.{ℕ, _≤_, _<_, _-_, _*_, _+_}
-use mathlib.Core.Path.{_≡_, refl, sym, ap, _∙_}
+use Prim.Native.Nat.{_-_}
+use mathlib.Core.Path.{sym, _∙_}
 use mathlib.Core.Logic.{⊎-elim}
-use mathlib.Core.Bool.{true, false}
 use native.Mathlib.Omega.{arith}
 use borrow.Author.Needs.{needs}
 use borrow.Author.Tests.{not-true, not-false}
-use lib.ListN.{length, getD}
-use Rattle.meaning.specs.Value.{Value}
+use lib.ListN.{length}
 use Rattle.meaning.specs.Arithmetic.{cutTowardZero}
 use Rattle.nodes.specs.Evaluate.{stored, view, nodeValue}
-use Rattle.explore.specs.Marking.{grown}
 use Rattle.explore.proofs.JudgeLaws.{Told, told-start, weight-small, told-until, until-refused, told-sign, sign-refused, told-fits, told-end}
 use Rattle.explore.proofs.judge.judge.Statement.{statement}
 use Rattle.explore.proofs.judge.judge.Tie as tie

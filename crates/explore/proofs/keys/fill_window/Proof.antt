@@ -1,5 +1,5 @@
 -- `keys::fill_window` meets its contract: before each turn the window has the values of the letters passed.
-use Prim.Native.Nat.{ℕ, suc, _≤_, _<_, _-_, _*_, _+_}
+use Prim.Native.Nat.{suc, _≤_, _-_, _*_, _+_}
 use mathlib.Core.Path.{_≡_, refl, sym, ap, _∙_}
 use native.Mathlib.Omega.{arith}
 use native.Mathlib.Nat.{zero-mul, suc-mul, mul-le-mul-right}
