@@ -1,4 +1,4 @@
--- How long the lines can be, so that a program that lends 32 bytes for a refusal, 128 for a heading and 256 for an entry prints them whole.
+-- How long the lines can be: at most 32 bytes for a refusal, 128 for a heading and 256 for an entry.
 use Prim.Native.Nat.{ℕ, zero, suc, _+_, _*_, _/_, _%_, _≤_, _<_, min}
 use native.Mathlib.Omega.{arith}
 use native.Mathlib.Nat.{div-lt-iff-lt-mul, div-le-self}
@@ -18,7 +18,7 @@ use Rattle.automaton.specs.Table.{no-state}
 use Rattle.letters.specs.Described.{described}
 use Rattle.letters.proofs.Above.{between-fits}
 use Rattle.print.specs.Text.{digits, decimal, spaced, headingLine, entryLine, refusalLine}
-use Rattle.print.specs.Table.{placeText, storedName, storedNames}
+use Rattle.print.specs.Table.{placeText, storedName, storedNames, AllFit}
 use Rattle.print.proofs.Decimal.{digits-one, digits-more}
 use Rattle.print.proofs.Lines.{spaced-more}
 use Rattle.print.proofs.Places.{found, place-cases}
@@ -78,11 +78,6 @@ heading-length names lengths streams =
     let h = names-length names lengths (min streams 8) in
     let a = length-append (spaced (storedNames names lengths (min streams 8))) (110 ∷ 101 ∷ 120 ∷ 116 ∷ 10 ∷ []) in
     omega arith
-
--- The values are numbers of the machine.
-abbrev pub AllFit : List ℤ → Type 0
-AllFit [] = Unit {0}
-AllFit (v ∷ vs) = SFits w64 v × AllFit vs
 
 values-length : (vs : List ℤ) → AllFit vs → length (spaced (map decimal vs)) ≤ 21 * length vs
 values-length [] f = omega arith

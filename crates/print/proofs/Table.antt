@@ -19,7 +19,7 @@ use Rattle.letters.specs.Described.{hasLetter}
 use Rattle.letters.proofs.Counts.{length-described}
 use Rattle.letters.proofs.Streams.{unnamed, letterCount-unnamed, letterOf-unnamed}
 use Rattle.print.specs.Text.{headingLine, entryLine}
-use Rattle.print.specs.Table.{entryText, rowText, tableText, printed, placeText, placesText, storedNames}
+use Rattle.print.specs.Table.{entryText, rowText, tableText, printed, placeText, linesFrom, storedNames}
 use Rattle.print.proofs.Names.{eightBytes, Short, stored-names}
 
 module _ (ss : List Stream) (entries finals : List ℕ) (few : length ss ≤ 8) (bounded : letterCount ss ≤ letterBound) where
@@ -49,18 +49,19 @@ module _ (ss : List Stream) (entries finals : List ℕ) (few : length ss ≤ 8) 
       ∙ entry-unnamed state letter
 
   abbrev upTo : ℕ → List ℕ
-  upTo n = placesText (lowsOf ss) (highsOf ss) entries finals n
+  upTo n = linesFrom (placeText (lowsOf ss) (highsOf ss) entries finals) 0 n
 
   row-places : (state letter : ℕ) → letter ≤ letterCount ss → upTo (state * letterCount ss + letter) ≡ upTo (state * letterCount ss) ++ rowText ss entries finals state letter
-  unfolding placesText rowText
+  unfolding linesFrom rowText
   row-places state zero h = let e : state * letterCount ss + 0 ≡ state * letterCount ss = omega arith in ap upTo e ∙ sym (append-nil (upTo (state * letterCount ss)))
   row-places state (suc letter) h =
       let e : state * letterCount ss + suc letter ≡ suc (state * letterCount ss + letter) = omega arith in
-      ap upTo e ∙ ap₂ _++_ (row-places state letter (omega arith)) (place-text state letter h)
+      let z : 0 + (state * letterCount ss + letter) ≡ state * letterCount ss + letter = omega arith in
+      ap upTo e ∙ ap₂ _++_ (row-places state letter (omega arith)) (ap (placeText (lowsOf ss) (highsOf ss) entries finals) z ∙ place-text state letter h)
       ∙ append-assoc (upTo (state * letterCount ss)) (rowText ss entries finals state letter) (entryText ss entries finals state letter)
 
   pub table-places : (states : ℕ) → upTo (states * letterCount ss) ≡ tableText ss states entries finals
-  unfolding placesText tableText
+  unfolding linesFrom tableText
   table-places zero = let e : 0 * letterCount ss ≡ 0 = omega arith in ap upTo e
   table-places (suc state) =
       let e : suc state * letterCount ss ≡ state * letterCount ss + letterCount ss = omega arith in

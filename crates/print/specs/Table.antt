@@ -5,6 +5,8 @@ use mathlib.Core.List.{List, [], _∷_, _++_, map}
 use lib.Dec.{eqb}
 use lib.IntN.{ℤ}
 use lib.ListN.{getD, take, drop}
+use mir.Syntax.{w64}
+use mir.Val.{SFits}
 use Rattle.text.specs.Bytes.{Token}
 use Rattle.meaning.specs.Expression.{Stream}
 use Rattle.meaning.specs.Letter.{letterCount, letterOf}
@@ -40,10 +42,10 @@ placeText lows highs entries finals place =
     let letter = place % letterCount ss in
     cond (hasLetter ss letter 8) (entryText ss entries finals state letter) []
 
--- The text of the entries at the first places, one after the other.
-unfoldable pub placesText : List ℤ → List ℤ → List ℕ → List ℕ → ℕ → List ℕ
-placesText lows highs entries finals zero = []
-placesText lows highs entries finals (suc place) = placesText lows highs entries finals place ++ placeText lows highs entries finals place
+-- The text of lines from a number on, so many of them, one after the other.
+unfoldable pub linesFrom : (ℕ → List ℕ) → ℕ → ℕ → List ℕ
+linesFrom line from zero = []
+linesFrom line from (suc n) = linesFrom line from n ++ line (from + n)
 
 -- A name that is stored in the first of eight bytes: as many as its length says, or all that there are.
 abbrev pub storedName : List ℕ → List ℕ → ℕ → Token
@@ -57,3 +59,8 @@ storedNames names lengths (suc i) = storedNames names lengths i ++ (storedName n
 -- quotient is 0.
 abbrev pub rowsLent : ℕ → ℕ
 rowsLent letters = min 256 (32768 / letters)
+
+-- The values are numbers of the machine, so that each has at most 20 bytes in decimal.
+abbrev pub AllFit : List ℤ → Type 0
+AllFit [] = Unit {0}
+AllFit (v ∷ vs) = SFits w64 v × AllFit vs

@@ -1,2 +1,3 @@
 pub mod Answer
 pub mod Room
+pub mod Pages

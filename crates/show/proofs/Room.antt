@@ -5,6 +5,8 @@ use mathlib.Core.List.{List, [], _∷_}
 use Rattle.outcome.specs.Room.{Lent}
 use Rattle.outcome.specs.Compile.{Room}
 use Rattle.print.specs.Table.{rowsLent}
+use Rattle.reader.specs.declared.Sheet.{Sheet as StoredSheet}
+use Rattle.show.specs.declared.Printed.{Printed}
 use Rattle.show.specs.Answer.{lentRoom, CompiledWith}
 
 -- A table with this many numbers, and one number a row.
@@ -32,5 +34,5 @@ module _ {rows entries finals keys live class next heads links shared : ℕ} (le
   sized-lent = λ i. sized (row-product letters he i) (row-count hf i) (row-product 16 hk i) (row-count hl i) (row-count hc i) (row-count hn i) (row-count hh i) (row-count hi i) (row-count hs i)
 
   -- A compile in such tables is one in the rows lent.
-  pub lent-compiled : {text : List ℕ} {n : ℕ} → CompiledWith text (sized entries finals keys live class next heads links shared) n → CompiledWith text (lentRoom letters) n
-  lent-compiled {text} {n} c = subst (λ room. CompiledWith text room n) sized-lent c
+  pub lent-compiled : {text : List ℕ} {stored : StoredSheet} {r : Printed} → CompiledWith text (sized entries finals keys live class next heads links shared) stored r → CompiledWith text (lentRoom letters) stored r
+  lent-compiled {text} {stored} {r} c = subst (λ room. CompiledWith text room stored r) sized-lent c

@@ -1,90 +1,92 @@
-// Prints what `sluice` prints for a sheet: its table, or the line of its refusal. What is written are the lines of the crate `print`, in
-// order; no contract can say what reaches standard output, but `show` gives back the refusal's number, which its contract fixes.
+// Prints what `sluice` prints for a sheet: its table, or the line of its refusal. The crate `pages` gives the bytes; what is left here is the loop
+// that writes them. No contract can say what reaches standard output, so the loop counts the bytes that it hands over.
 use arithmetic::fewer;
 ghost use mathlib.Core.Path.{_≡_};
 ghost use Prim.Native.Nat.{_*_, _≤_};
 ghost use lib.ListN.{length};
 ghost use Rattle.compile.specs.Lent.{roomOf};
-ghost use Rattle.show.specs.Answer.{lentRoom, CompiledWith, Shown};
+ghost use Rattle.pages.specs.Lines.{IsPage};
+ghost use Rattle.pages.specs.Output.{lineOf, linesOf};
+ghost use Rattle.show.specs.Answer.{HasRanges, lentRoom, printoutOf, PrintsAll, CompiledWith, Shown};
 use libc::STDOUT_FILENO;
+use pages::Page;
 
-// Writes the first bytes of a line. The lines that are printed have room in the bytes lent below (`print`, proofs/Lengths); where one had
-// none, nothing would be written.
-fn write(line: &[u8], size: usize) {
-    if size <= line.len() {
-        io::write_all(STDOUT_FILENO, &line[..size]);
-    }
+// The number of the refusal that was printed, or 0; how many bytes were handed over, and whether each write took them.
+pub struct Printed {
+    pub refusal: u32,
+    pub size: usize,
+    pub whole: bool,
 }
 
-fn show_refusal(number: u32) {
-    let mut line = [0u8; 32];
-    let size = print::refusal_line(number, &mut line);
-    write(&line, size);
-}
-
-fn show_heading(names: &[u8], lengths: &[u8], streams: usize) {
-    let mut line = [0u8; 128];
-    let size = print::heading(names, lengths, streams, &mut line);
-    write(&line, size);
-}
-
-// The line of each entry that is not 65,535, at the first places.
-fn show_entries(entries: &[u16], finals: &[u8], lows: &[i64], highs: &[i64], places: usize) {
-    let mut place = 0;
-    while place < places {
-        let mut line = [0u8; 256];
-        let size = print::entry_text(entries, finals, lows, highs, place, &mut line);
-        write(&line, size);
-        place += 1;
-    }
-}
-
-// The same, from the ranges of so many streams.
-fn show_ranged(
+// The next lines, from a line's number on.
+fn next_page(
+    sheet: reader::Sheet,
+    refusal: u32,
+    states: u32,
     entries: &[u16],
     finals: &[u8],
-    lows: &[i64],
-    highs: &[i64],
-    streams: usize,
-    places: usize,
-) {
-    let low_count = fewer(streams, lows.len());
-    let high_count = fewer(streams, highs.len());
-    show_entries(
-        entries,
-        finals,
-        &lows[..low_count],
-        &highs[..high_count],
-        places,
-    );
-}
-
-// The places that the rows of the states take.
-fn places(states: u32, letters: u32) -> usize
-    ensures { λ r. ⌜ r ≡ states * letters ⌝ }
+    from: usize,
+    out: &mut [u8],
+) -> Page
+    requires { ⌜ HasRanges sheet ⌝ }
+    ensures { λ r. ⌜ IsPage (lineOf (printoutOf sheet refusal states (now (entries .entry)) (now (finals .entry)))) (linesOf (printoutOf sheet refusal states (now (entries .entry)) (now (finals .entry)))) from (now (out .entry)) (now (out .exit)) r ⌝ }
 {
-    states as usize * letters as usize
-}
-
-// The heading, and the lines of the states' rows.
-fn show_table(sheet: reader::Sheet, states: u32, entries: &[u16], finals: &[u8]) {
-    let streams = sheet.streams;
     let names = sheet.names;
     let lengths = sheet.lengths;
     let lows = sheet.lows;
     let highs = sheet.highs;
-    show_heading(&names, &lengths, streams);
-    show_ranged(
+    let streams = fewer(sheet.streams, 8);
+    pages::fill_page(
+        refusal,
+        states,
+        &names,
+        &lengths,
+        &lows[..streams],
+        &highs[..streams],
         entries,
         finals,
-        &lows,
-        &highs,
-        streams,
-        places(states, sheet.letters),
-    );
+        from,
+        out,
+    )
 }
 
-// Compiles a sheet in lent tables, and prints its table or its refusal; gives the refusal's number, or 0.
+// Writes all lines, page by page, and stops at a write that fails.
+fn write_pages(
+    sheet: reader::Sheet,
+    refusal: u32,
+    states: u32,
+    entries: &[u16],
+    finals: &[u8],
+) -> Printed
+    requires { ⌜ HasRanges sheet × (length (now entries) ≤ 32768) ⌝ }
+    ensures { λ r. ⌜ PrintsAll (printoutOf sheet refusal states (now (entries .entry)) (now (finals .entry))) r ⌝ }
+{
+    let mut page = io::large_buffer();
+    let mut size: usize = 0;
+    let mut from: usize = 0;
+    loop {
+        let filled = next_page(sheet, refusal, states, entries, finals, from, &mut page);
+        let count = filled.size;
+        if count == 0 {
+            return Printed {
+                refusal: refusal,
+                size: size,
+                whole: true,
+            };
+        }
+        if !io::write_all(STDOUT_FILENO, &page[..count]) {
+            return Printed {
+                refusal: refusal,
+                size: size,
+                whole: false,
+            };
+        }
+        size += count;
+        from = filled.next;
+    }
+}
+
+// Compiles a sheet in lent tables, and prints its table or its refusal.
 fn show_compiled(
     text: &[u8],
     sheet: reader::Sheet,
@@ -97,8 +99,9 @@ fn show_compiled(
     heads: &mut [u32],
     links: &mut [u32],
     shared: &mut [u32],
-) -> u32
-    ensures { λ r. ⌜ CompiledWith (now (text .entry)) (roomOf (now (entries .entry)) (now (finals .entry)) (now (keys .entry)) (now (live .entry)) (now (class .entry)) (now (next .entry)) (now (heads .entry)) (now (links .entry)) (now (shared .entry))) r ⌝ }
+) -> Printed
+    requires { ⌜ HasRanges sheet × (length (now entries) ≤ 32768) ⌝ }
+    ensures { λ r. ⌜ CompiledWith (now (text .entry)) (roomOf (now (entries .entry)) (now (finals .entry)) (now (keys .entry)) (now (live .entry)) (now (class .entry)) (now (next .entry)) (now (heads .entry)) (now (links .entry)) (now (shared .entry))) sheet r ⌝ }
 {
     let compiled = compile::compile(
         text,
@@ -112,13 +115,7 @@ fn show_compiled(
         links,
         shared,
     );
-    let refusal = compiled.refusal;
-    if refusal != 0 {
-        show_refusal(refusal);
-        return refusal;
-    }
-    show_table(sheet, compiled.states, entries, finals);
-    refusal
+    write_pages(sheet, compiled.refusal, compiled.states, entries, finals)
 }
 
 // "256 rows, or 32,768 divided by the letters, cut to a whole number, if that is fewer", of tables that have as much room.
@@ -134,7 +131,7 @@ fn show_in_rows(
     heads: &mut [u32],
     links: &mut [u32],
     shared: &mut [u32],
-) -> u32
+) -> Printed
     requires { ⌜ 32768 ≤ length (now entries) ⌝ }
     requires { ⌜ 256 ≤ length (now finals) ⌝ }
     requires { ⌜ 4096 ≤ length (now keys) ⌝ }
@@ -144,7 +141,8 @@ fn show_in_rows(
     requires { ⌜ 256 ≤ length (now heads) ⌝ }
     requires { ⌜ 256 ≤ length (now links) ⌝ }
     requires { ⌜ 256 ≤ length (now shared) ⌝ }
-    ensures { λ r. ⌜ CompiledWith (now (text .entry)) (lentRoom (sheet .letters)) r ⌝ }
+    requires { ⌜ HasRanges sheet ⌝ }
+    ensures { λ r. ⌜ CompiledWith (now (text .entry)) (lentRoom (sheet .letters)) sheet r ⌝ }
 {
     let letters = sheet.letters as usize;
     let rows = print::rows_lent(letters);
@@ -190,8 +188,9 @@ fn work_room() -> [u32; 256]
     [0; 256]
 }
 
-fn show_sheet(text: &[u8], sheet: reader::Sheet) -> u32
-    ensures { λ r. ⌜ CompiledWith (now (text .entry)) (lentRoom (sheet .letters)) r ⌝ }
+fn show_sheet(text: &[u8], sheet: reader::Sheet) -> Printed
+    requires { ⌜ HasRanges sheet ⌝ }
+    ensures { λ r. ⌜ CompiledWith (now (text .entry)) (lentRoom (sheet .letters)) sheet r ⌝ }
 {
     let mut entries = entry_room();
     let mut finals = final_room();
@@ -217,17 +216,12 @@ fn show_sheet(text: &[u8], sheet: reader::Sheet) -> u32
     )
 }
 
-// "a program `sluice` that reads a sheet from standard input and prints its table", for the bytes that were read. Gives
-// the number of the refusal that it printed, or 0 where it printed a table.
-pub fn show(text: &[u8]) -> u32
+// "a program `sluice` that reads a sheet from standard input and prints its table", for the bytes that were read. Gives the number of the refusal
+// that it printed, or 0 where it printed a table. A text that is no sheet has no letters, and its compile meets the same refusal.
+pub fn show(text: &[u8]) -> Printed
     ensures { λ r. ⌜ Shown (now (text .entry)) r ⌝ }
 {
     let reading = reader::read(text);
-    let refusal = reading.refusal;
-    if refusal != 0 {
-        show_refusal(refusal);
-        return refusal;
-    }
     let sheet = reading.sheet;
     show_sheet(text, sheet)
 }

@@ -77,13 +77,13 @@ slice-aggregate-show-compiled-8 : tie.Need-slice-aggregate-show-compiled-8
 slice-aggregate-show-compiled-8 c = sym (length-take-le _ _ (slice-relend-prefix-show-compiled-8 (c .before)))
 
 slice-relend-prefix-show-compiled-9 : tie.Need-slice-relend-prefix-show-compiled-9
-slice-relend-prefix-show-compiled-9 c = omega (arith, c .before .before .before .before .before .before .before .before .rows-lent .ensures, c .before .before .before .before .before .before .before .before .before .before .before .before .before .before .before .before .before .before .before .before .pre .1 .1 .1 .1 .1 .1 .1 .1)
+slice-relend-prefix-show-compiled-9 c = omega (arith, c .before .before .before .before .before .before .before .before .rows-lent .ensures, c .before .before .before .before .before .before .before .before .before .before .before .before .before .before .before .before .before .before .before .before .pre .1 .1 .1 .1 .1 .1 .1 .1 .0)
 
 slice-aggregate-show-compiled-9 : tie.Need-slice-aggregate-show-compiled-9
 slice-aggregate-show-compiled-9 c = sym (length-take-le _ _ (slice-relend-prefix-show-compiled-9 (c .before)))
 
 show-compiled-requires : tie.Need-show-compiled-requires
-show-compiled-requires c κs = search needs
+show-compiled-requires c κs = (c .before .before .before .before .before .before .before .before .before .before .before .before .before .before .before .before .before .before .before .before .before .pre .1 .1 .1 .1 .1 .1 .1 .1 .1, omega (arith, slice-aggregate-show-compiled (c .before .before .before .before .before .before .before .before), entries-fit (c .before .before .before .before .before .before .before .before .before)))
 
 same-length : tie.Need-same-length
 same-length c = search needs

@@ -1,0 +1,33 @@
+-- Lines by their numbers, and a page of them: lent bytes that hold whole lines from a number on.
+use Prim.Native.Nat.{ℕ, _-_, _≤_, _<_, min}
+use mathlib.Core.Path.{_≡_}
+use mathlib.Core.Logic.{_⊎_}
+use mathlib.Core.List.{List}
+use lib.ListN.{length, take}
+use lib.Seq.{sets}
+use Rattle.print.specs.Table.{linesFrom}
+use Rattle.pages.specs.declared.Page.{Page}
+
+-- Room for one line; no line of a sheet's table is longer.
+abbrev pub lineRoom : ℕ
+lineRoom = 256
+
+-- The line stands at the front of the bytes and takes so many of them; or it is too long, and the number is more than there is room for.
+pub record HoldsLine (line out : List ℕ) (size : ℕ) : Type 0 where
+  pub held : length line ≤ lineRoom → (size ≡ length line) × (take size out ≡ line)
+  pub long : lineRoom < length line → lineRoom < size
+
+-- The lines from `from` to before `next` stand at the front of the lent bytes, and what stood behind them stays.
+pub record HoldsLines (line : ℕ → List ℕ) (count from : ℕ) (out out′ : List ℕ) (size next : ℕ) : Type 0 where
+  pub onward : from ≤ next
+  pub inside : from ≤ count → next ≤ count
+  pub beyond : count < from → next ≡ from
+  pub short : (k : ℕ) → from ≤ k → k < next → length (line k) ≤ lineRoom
+  pub long : size ≡ length (linesFrom line from (next - from))
+  pub room : size ≤ length out
+  pub bytes : out′ ≡ sets out 0 (linesFrom line from (next - from))
+
+-- A page ends with the last line, or before the first one for which there is no room.
+pub record IsPage (line : ℕ → List ℕ) (count from : ℕ) (out out′ : List ℕ) (r : Page) : Type 0 where
+  pub holds : HoldsLines line count from out out′ (r .size) (r .next)
+  pub ends : (count ≤ r .next) ⊎ (min (length out - r .size) lineRoom < length (line (r .next)))

@@ -1,0 +1,46 @@
+-- The lines that `sluice` prints, by their numbers (document 01, "Sheets with their answers", P1 and P2).
+use Prim.Native.Nat.{ℕ, zero, suc, _*_, min}
+use mathlib.Core.Bool.{cond}
+use mathlib.Core.List.{List, []}
+use lib.Dec.{eqb}
+use lib.IntN.{ℤ}
+use lib.ListN.{length}
+use Rattle.meaning.specs.Letter.{letterCount}
+use Rattle.letters.specs.Described.{described, cutCount}
+use Rattle.print.specs.Text.{headingLine, refusalLine}
+use Rattle.print.specs.Table.{placeText, linesFrom, storedNames}
+
+-- What is printed: a refusal's number, or 0 and the table of so many states. A name is stored as eight bytes and a length.
+pub record Printout : Type 0 where
+  pub refusal : ℕ
+  pub states : ℕ
+  pub names : List ℕ
+  pub lengths : List ℕ
+  pub lows : List ℤ
+  pub highs : List ℤ
+  pub entries : List ℕ
+  pub finals : List ℕ
+
+-- "a heading with the names, then a line for each entry that is not 65,535, by state and letter"; any other entry has no text.
+abbrev pub tableLine : Printout → ℕ → List ℕ
+tableLine p zero = headingLine (storedNames (p .names) (p .lengths) (min (length (p .lows)) 8))
+tableLine p (suc place) = placeText (p .lows) (p .highs) (p .entries) (p .finals) place
+
+-- "printed as the one line `refused 9`"
+abbrev pub refusedLine : ℕ → ℕ → List ℕ
+refusedLine number zero = refusalLine number
+refusedLine number (suc k) = []
+
+unfoldable pub lineOf : Printout → ℕ → List ℕ
+lineOf p k = cond (eqb (p .refusal) 0) (tableLine p k) (refusedLine (p .refusal) k)
+
+-- How many lines there are: one for a refusal; else the heading, and one for each entry of the states.
+unfoldable pub lineCount : (refusal states : ℕ) (lows highs : List ℤ) (entries : List ℕ) → ℕ
+lineCount refusal states lows highs entries = cond (eqb refusal 0) (suc (min (states * cutCount (letterCount (described lows highs))) (length entries))) 1
+
+abbrev pub linesOf : Printout → ℕ
+linesOf p = lineCount (p .refusal) (p .states) (p .lows) (p .highs) (p .entries)
+
+-- All that is printed.
+abbrev pub textOf : Printout → List ℕ
+textOf p = linesFrom (lineOf p) 0 (linesOf p)

@@ -1,0 +1,32 @@
+-- No line that `show` writes is longer than there is room for, and there are so few lines that the bytes handed over are counted exactly.
+use Prim.Native.Nat.{ℕ, zero, suc, _*_, _≤_, _<_, min}
+use native.Mathlib.Omega.{arith}
+use mathlib.Core.Bool.{cond}
+use mathlib.Core.List.{List, [], _∷_}
+use lib.Dec.{eqb}
+use lib.IntN.{ℤ}
+use lib.ListN.{length, getD, take}
+use Rattle.reader.specs.declared.Sheet.{Sheet as StoredSheet}
+use Rattle.meaning.specs.Letter.{letterCount}
+use Rattle.meaning.proofs.Lists.{cond-cases}
+use Rattle.letters.specs.Described.{described, cutCount}
+use Rattle.print.specs.Table.{AllFit}
+use Rattle.pages.specs.Lines.{lineRoom}
+use Rattle.pages.specs.Output.{Printout, lineOf, lineCount, linesOf}
+use Rattle.pages.proofs.Output.{line-short}
+use Rattle.show.specs.Answer.{printoutOf, HasRanges}
+
+-- The first of some numbers of the machine are such numbers.
+fit-take : (n : ℕ) (l : List ℤ) → AllFit l → AllFit (take n l)
+fit-take zero l h = tt
+fit-take (suc n) [] h = tt
+fit-take (suc n) (v ∷ l) h = (h .0, fit-take n l (h .1))
+
+pub lines-short : {stored : StoredSheet} {refusal : ℕ} (states : ℕ) (entries finals : List ℕ) → HasRanges stored → refusal < 4294967296 → ((i : ℕ) → getD entries i 0 < 65536) → ((i : ℕ) → getD finals i 0 < 256)
+    → length entries ≤ 32768 → (k : ℕ) → length (lineOf (printoutOf stored refusal states entries finals) k) ≤ lineRoom
+lines-short {stored} {refusal} states entries finals h r e f n =
+    line-short (printoutOf stored refusal states entries finals) r (fit-take (min (stored .streams) 8) (stored .lows) (h .lows)) (fit-take (min (stored .streams) 8) (stored .highs) (h .highs)) e f (omega arith)
+
+pub few-lines : (p : Printout) → length (p .entries) ≤ 32768 → linesOf p ≤ 32769
+unfolding lineCount
+few-lines p h = cond-cases (λ n. n ≤ 32769) (eqb (p .refusal) 0) {x = suc (min (p .states * cutCount (letterCount (described (p .lows) (p .highs)))) (length (p .entries)))} {y = 1} (λ t. omega arith) (λ t. omega arith)
