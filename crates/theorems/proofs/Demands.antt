@@ -1,5 +1,5 @@
 -- What a call of the compile gives: the file to open first. A call has the sheet's bytes `text`, the room lent, the answer and the contents of the
--- tables afterwards; `CompileOutcome` is the promise of the public function `compile` (crate compile). Demand 1: an answer has no refusal or one
+-- tables afterwards; `CompileCall` (crate outcome) is what the public function `compile` (crate compile) ensures. Demand 1: an answer has no refusal or one
 -- with a number; after a refusal every table is zero, and work tables are zero after every call; after a refused step the running place is
 -- unchanged. Demand 2: the streams along which the table can be followed are the solutions, and each solution extends to the normal form in one
 -- way only. Demand 3: each refusal exactly where it applies, 9 exactly if there is no solution, else the table, which is settled; paths are the
@@ -28,7 +28,7 @@ use Rattle.sheet.specs.Form.{threeHeaderLines}
 use Rattle.sheet.specs.Refusal.{refused, sheet, AnswerTo}
 use Rattle.sheet.proofs.Accepted.{accepted-facts}
 use Rattle.outcome.specs.Room.{zeroTables}
-use Rattle.outcome.specs.Compile.{CompileAnswer, refusedBy, situationBound, Room, roomRows, Tables, allZero, HoldsTable, SituationsFit, tooManySituations, tooFewRows, noSolution, compiled, CompileOutcome, unread, read}
+use Rattle.outcome.specs.Compile.{CompileAnswer, refusedBy, situationBound, Room, roomRows, Tables, allZero, HoldsTable, SituationsFit, tooManySituations, tooFewRows, noSolution, compiled, CompileCall, unread, read}
 use Rattle.outcome.specs.NormalForm.{NormalAnswer, notGiven, NormalOutcome, unread, tooShort, given}
 use Rattle.outcome.proofs.Answers.{one-sheet, refused≢sheet}
 use Rattle.outcome.proofs.AcceptedCompile.{accepted-compile, refusal-in-range}
@@ -44,10 +44,6 @@ use Rattle.theorems.specs.Following.{FollowedAlong, BeginsSolution, Have
 use Rattle.theorems.proofs.Following.{all-below, solution↔followed, path↔begins-solution, used-rows↔same-solutions}
 use Rattle.theorems.proofs.Steps.{path↔steps}
 
--- A call of the compile with this text and room gave this answer and left these tables.
-abbrev pub Call : List ℕ → Room → CompileAnswer → Tables → Type 0
-Call text room a t = CompileOutcome cutTowardZero threeHeaderLines text room a t
-
 -- The text is this sheet, and none of refusals 1 to 7 applies.
 abbrev pub ReadAs : List ℕ → Sheet → Type 0
 ReadAs text s = AnswerTo cutTowardZero threeHeaderLines text (sheet s)
@@ -62,14 +58,14 @@ Solves s w = Solution cutTowardZero s w
 read-known : {text : List ℕ} {s : Sheet} → ReadAs text s → NamesKnown s
 read-known r = record { sides = accepted-facts r .namesKnown }
 
-module _ {text : List ℕ} {room : Room} {a : CompileAnswer} {t : Tables} (call : Call text room a t) where
+module _ {text : List ℕ} {room : Room} {a : CompileAnswer} {t : Tables} (call : CompileCall text room a t) where
   -- ---- demand 1
 
   -- "an answer or a numbered refusal": 0 for an answer, or a refusal of 1 to 10.
   pub numbered : a .refusal ≤ 10
   numbered = go call
     where
-      go : {b : CompileAnswer} {u : Tables} → Call text room b u → b .refusal ≤ 10
+      go : {b : CompileAnswer} {u : Tables} → CompileCall text room b u → b .refusal ≤ 10
       go (unread r) = omega (arith, refusal-in-range r .1)
       go (read r (tooManySituations x y)) = omega arith
       go (read r (tooFewRows x y)) = omega arith
@@ -80,7 +76,7 @@ module _ {text : List ℕ} {room : Room} {a : CompileAnswer} {t : Tables} (call 
   pub refused-zero : 0 < a .refusal → (a ≡ refusedBy (a .refusal)) × (t ≡ allZero room)
   refused-zero h = go call h
     where
-      go : {b : CompileAnswer} {u : Tables} → Call text room b u → 0 < b .refusal → (b ≡ refusedBy (b .refusal)) × (u ≡ allZero room)
+      go : {b : CompileAnswer} {u : Tables} → CompileCall text room b u → 0 < b .refusal → (b ≡ refusedBy (b .refusal)) × (u ≡ allZero room)
       go (unread r) h = (refl, refl)
       go (read r (tooManySituations x y)) h = (refl, refl)
       go (read r (tooFewRows x y)) h = (refl, refl)
@@ -91,7 +87,7 @@ module _ {text : List ℕ} {room : Room} {a : CompileAnswer} {t : Tables} (call 
   pub work-zero : t .work ≡ zeroTables (room .work)
   work-zero = go call
     where
-      go : {b : CompileAnswer} {u : Tables} → Call text room b u → u .work ≡ zeroTables (room .work)
+      go : {b : CompileAnswer} {u : Tables} → CompileCall text room b u → u .work ≡ zeroTables (room .work)
       go (unread r) = refl
       go (read r (tooManySituations x y)) = refl
       go (read r (tooFewRows x y)) = refl
@@ -145,7 +141,7 @@ module _ {text : List ℕ} {room : Room} {a : CompileAnswer} {t : Tables} (call 
   -- ---- demand 3, which answer is given
 
   -- Answer and tables are settled: a call with the same bytes and the same room gives the same.
-  pub one-outcome : {b : CompileAnswer} {u : Tables} → Call text room b u → (a ≡ b) × (t ≡ u)
+  pub one-outcome : {b : CompileAnswer} {u : Tables} → CompileCall text room b u → (a ≡ b) × (t ≡ u)
   one-outcome c = compile-unique cutTowardZero threeHeaderLines text room call c
 
   -- "8: all lent tables hold 4,096 rows or more, and there are more situations."
@@ -153,7 +149,7 @@ module _ {text : List ℕ} {room : Room} {a : CompileAnswer} {t : Tables} (call 
       ↔ ((s : Sheet) × ReadAs text s × (situationBound ≤ roomRows room (letterCount (s .streams))) × MoreSituations cutTowardZero s situationBound)
   eight↔ = (go call, λ x. ap (λ b. b .refusal) (one-outcome (read (x .1) (tooManySituations (x .2) (x .3))) .0))
     where
-      go : {b : CompileAnswer} {u : Tables} → Call text room b u → b .refusal ≡ 8
+      go : {b : CompileAnswer} {u : Tables} → CompileCall text room b u → b .refusal ≡ 8
           → (s : Sheet) × ReadAs text s × (situationBound ≤ roomRows room (letterCount (s .streams))) × MoreSituations cutTowardZero s situationBound
       go (unread r) e = absurd (omega (arith, refusal-in-range r .1))
       go (read {s = q} r (tooManySituations x y)) e = (q, r, x, y)
@@ -166,7 +162,7 @@ module _ {text : List ℕ} {room : Room} {a : CompileAnswer} {t : Tables} (call 
       ↔ ((s : Sheet) × ReadAs text s × (roomRows room (letterCount (s .streams)) < situationBound) × MoreSituations cutTowardZero s (roomRows room (letterCount (s .streams))))
   ten↔ = (go call, λ x. ap (λ b. b .refusal) (one-outcome (read (x .1) (tooFewRows (x .2) (x .3))) .0))
     where
-      go : {b : CompileAnswer} {u : Tables} → Call text room b u → b .refusal ≡ 10
+      go : {b : CompileAnswer} {u : Tables} → CompileCall text room b u → b .refusal ≡ 10
           → (s : Sheet) × ReadAs text s × (roomRows room (letterCount (s .streams)) < situationBound) × MoreSituations cutTowardZero s (roomRows room (letterCount (s .streams)))
       go (unread r) e = absurd (omega (arith, refusal-in-range r .1))
       go (read r (tooManySituations x y)) e = absurd (omega arith)
@@ -186,7 +182,7 @@ module _ {text : List ℕ} {room : Room} {a : CompileAnswer} {t : Tables} (call 
         ⊎ ((a .refusal ≡ 0) × (a .situations ≡ m) × HoldsTable cutTowardZero s room (a .states) t)
     nine-or-table = go call
       where
-        go : {b : CompileAnswer} {u : Tables} → Call text room b u
+        go : {b : CompileAnswer} {u : Tables} → CompileCall text room b u
             → ((b .refusal ≡ 9) × ((w : Streams) → Solves s w → ⊥)) ⊎ ((b .refusal ≡ 0) × (b .situations ≡ m) × HoldsTable cutTowardZero s room (b .states) u)
         go (unread r) = absurd (refused≢sheet r (none .0))
         go (read r (tooManySituations x y)) =
@@ -210,7 +206,7 @@ module _ {text : List ℕ} {room : Room} {a : CompileAnswer} {t : Tables} (call 
   pub none↔ : ((a .refusal ≡ 0) ⊎ (a .refusal ≡ 9)) ↔ ((s : Sheet) × (m : ℕ) × NoneOfTheOthers text room s m)
   none↔ = (go call, λ x. elim (nine-or-table (x .2)) [ inl n ↦ inr (n .0) | inr c ↦ inl (c .0) ])
     where
-      go : {b : CompileAnswer} {u : Tables} → Call text room b u → (b .refusal ≡ 0) ⊎ (b .refusal ≡ 9) → (s : Sheet) × (m : ℕ) × NoneOfTheOthers text room s m
+      go : {b : CompileAnswer} {u : Tables} → CompileCall text room b u → (b .refusal ≡ 0) ⊎ (b .refusal ≡ 9) → (s : Sheet) × (m : ℕ) × NoneOfTheOthers text room s m
       go (unread r) (inl e) = absurd (omega (arith, refusal-in-range r .0))
       go (unread r) (inr e) = absurd (omega (arith, refusal-in-range r .1))
       go (read r (tooManySituations x y)) (inl e) = absurd (omega arith)
@@ -263,7 +259,7 @@ module _ {text : List ℕ} {s : Sheet} (read : ReadAs text s) where
 over : (s q : Sheet) → q .streams ≡ s .streams → q ≡ record { streams = s .streams; constraints = q .constraints }
 over s q e = λ i. record { streams = e i; constraints = q .constraints }
 
-pub equal-rows↔same-solutions : {text text′ : List ℕ} {room room′ : Room} {a a′ : CompileAnswer} {t t′ : Tables} → Call text room a t → Call text′ room′ a′ t′
+pub equal-rows↔same-solutions : {text text′ : List ℕ} {room room′ : Room} {a a′ : CompileAnswer} {t t′ : Tables} → CompileCall text room a t → CompileCall text′ room′ a′ t′
     → {s s′ : Sheet} → ReadAs text s → ReadAs text′ s′ → a .refusal ≡ 0 → a′ .refusal ≡ 0 → s′ .streams ≡ s .streams
     → SameUsedRows (letterCount (s .streams)) (a .states) (t .entries) (t .finals) (a′ .states) (t′ .entries) (t′ .finals) ↔ HaveSameSolutions cutTowardZero s s′
 equal-rows↔same-solutions {a = a} {a′ = a′} {t = t} {t′ = t′} call call′ {s} {s′} r r′ e e′ same =
