@@ -1,6 +1,6 @@
 -- Of a list of refusals one number is given, and where the first of them do not apply it is given by the rest. An answer to a text and an outcome
 -- of its sheet show which condition holds and which do not.
-use Prim.Native.Nat.{ℕ, _≤_, _<_}
+use Prim.Native.Nat.{ℕ, _<_}
 use native.Mathlib.Omega.{arith}
 use mathlib.Core.Path.{_≡_, refl, sym, _∙_, subst}
 use mathlib.Core.Bool.{Bool, true, false, cond}
@@ -80,7 +80,9 @@ module _ (text : List ℕ) (room : Room) where
         (of-form form (λ q. MoreSituations cutTowardZero q (roomRows room (letterCount (q .streams)))) (r .form) (r .more))
 
     not-eight-few : roomRows room (letterCount (s .streams)) < situationBound → Refusal8 text room → ⊥
-    not-eight-few few r = let h = of-form form (λ q. situationBound ≤ roomRows room (letterCount (q .streams))) (r .form) (r .enoughRows) in omega (arith, h, few)
+    not-eight-few few r =
+        let h = of-form (r .form) (λ q. roomRows room (letterCount (q .streams)) < situationBound) form few in
+        omega (arith, h, r .enoughRows)
 
     not-nine : {n : ℕ} {t : Tables} → HoldsTable cutTowardZero s room n t → Refusal9 text → ⊥
     not-nine held r = has-solution (held .table .table) (λ w b h. of-form form (λ q. (w : Streams) → Solution cutTowardZero q w → ⊥) (r .form) (r .unsolved) _ (h .solves))
