@@ -44,7 +44,7 @@ pub record Tables : Type 0 where
   pub finals : List ℕ
   pub work : List (List ℕ)
 
--- "After a refused compile every lent table is zero".
+-- "After a refused compile every lent table is zero" (demand 1).
 abbrev pub allZero : Room → Tables
 allZero room = record { entries = zeros (room .entries); finals = zeros (room .finals); work = zeroTables (room .work) }
 

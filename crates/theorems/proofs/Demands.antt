@@ -71,7 +71,7 @@ read-known r = record { sides = accepted-facts r .namesKnown }
 module _ {text : List ℕ} {room : Room} {a : CompileAnswer} {t : Tables} (call : CompileCall text room a t) where
   -- ---- demand 1
 
-  -- "an answer or a numbered refusal": 0 for an answer, or a refusal of 1 to 10.
+  -- "an answer or a numbered refusal" (demand 1): 0 for an answer, or a refusal of 1 to 10.
   pub numbered : a .refusal ≤ 10
   numbered = go call
     where
@@ -82,7 +82,7 @@ module _ {text : List ℕ} {room : Room} {a : CompileAnswer} {t : Tables} (call 
       go (read r (noSolution e f)) = omega arith
       go (read r (compiled e x)) = omega arith
 
-  -- "A refusal returns its number with states and situations 0." "After a refused compile every lent table is zero".
+  -- "A refusal returns its number with states and situations 0." "After a refused compile every lent table is zero" (demand 1).
   pub refused-zero : 0 < a .refusal → (a ≡ refusedBy (a .refusal)) × (t ≡ allZero room)
   refused-zero h = go call h
     where
@@ -199,7 +199,7 @@ refused-list-zero (unread r) h = (refl, refl)
 refused-list-zero (tooShort r x) h = (refl, refl)
 refused-list-zero (given r x) h = absurd (omega arith)
 
--- "after a refused step the running place is unchanged", and the refusal is 11 or 12.
+-- "after a refused step the running place is unchanged" (demand 1), and the refusal is 11 or 12.
 module _ {table : List ℕ} {letters letter : ℕ} {before after : Place} {r : ℕ} (step : PlaceStep table letters letter before r after) (refused : 65536 ≤ r) where
   pub refused-step-unchanged : after ≡ before
   refused-step-unchanged = go (step .place)
