@@ -1,6 +1,6 @@
 -- Situations of records, and graphs whose nodes are situations. "Lawful" and "situation" are document 01's terms: "Its situation
 -- is the whole record if n ≤ D+B; else its last D+B letters, the value of each `first`, and for each `until` done or pending."
--- Here `lawful` and `done` are any two properties of records, and `alike` is any relation that stands for "in the same situation".
+-- Here `lawful` and `done` are any two properties of records, and `alike` is any relation that stands for being in the same situation.
 use mathlib.Core.Logic.{_↔_}
 use mathlib.Core.List.{List, [], _∷_, _++_}
 use Prim.Native.Nat.{ℕ, _<_}

@@ -6,9 +6,8 @@ ghost use lib.ListN.{length, replicate};
 ghost use Rattle.meaning.specs.Arithmetic.{cutTowardZero};
 ghost use Rattle.meaning.specs.Expression.{Sheet};
 ghost use Rattle.sheet.specs.Accepted.{Accepted};
-ghost use Rattle.sheet.specs.Form.{threeHeaderLines};
 ghost use Rattle.reader.specs.Stored.{storedSheet};
-ghost use Rattle.outcome.specs.Compile.{allZero, SheetOutcome, CompileOutcome};
+ghost use Rattle.outcome.specs.Compile.{allZero, SheetOutcome, CompileCall};
 ghost use Rattle.compile.specs.Lent.{roomOf, tablesOf, answerOf, refusedWith, madeOf};
 ghost use Rattle.compile.specs.Sheet.{Found, SlicesOf, HasRoom, RoomFor};
 ghost use Rattle.compile.specs.Stored.{IsStoredSheet};
@@ -373,7 +372,7 @@ pub fn compile(
     links: &mut [u32],
     shared: &mut [u32],
 ) -> Compiled
-    ensures { λ r. ⌜ CompileOutcome cutTowardZero threeHeaderLines (now (text .entry)) (roomOf (now (entries .entry)) (now (finals .entry)) (now (keys .entry)) (now (live .entry)) (now (class .entry)) (now (next .entry)) (now (heads .entry)) (now (links .entry)) (now (shared .entry))) (answerOf r) (tablesOf (now (entries .exit)) (now (finals .exit)) (now (keys .exit)) (now (live .exit)) (now (class .exit)) (now (next .exit)) (now (heads .exit)) (now (links .exit)) (now (shared .exit))) ⌝ }
+    ensures { λ r. ⌜ CompileCall (now (text .entry)) (roomOf (now (entries .entry)) (now (finals .entry)) (now (keys .entry)) (now (live .entry)) (now (class .entry)) (now (next .entry)) (now (heads .entry)) (now (links .entry)) (now (shared .entry))) (answerOf r) (tablesOf (now (entries .exit)) (now (finals .exit)) (now (keys .exit)) (now (live .exit)) (now (class .exit)) (now (next .exit)) (now (heads .exit)) (now (links .exit)) (now (shared .exit))) ⌝ }
 {
     let reading = reader::read(text);
     let refusal = reading.refusal;

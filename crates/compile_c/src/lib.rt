@@ -1,8 +1,6 @@
 // The entry by which C programs call `compile`. A slice is a pointer and a length there.
-ghost use Rattle.meaning.specs.Arithmetic.{cutTowardZero};
-ghost use Rattle.sheet.specs.Form.{threeHeaderLines};
 ghost use Rattle.compile.specs.Lent.{roomOf, tablesOf, answerOf};
-ghost use Rattle.outcome.specs.Compile.{CompileOutcome};
+ghost use Rattle.outcome.specs.Compile.{CompileCall};
 use compile::Compiled;
 
 #[no_mangle]
@@ -18,7 +16,7 @@ pub extern "C" fn compile_c(
     links: &mut [u32],
     shared: &mut [u32],
 ) -> Compiled
-    ensures { λ r. ⌜ CompileOutcome cutTowardZero threeHeaderLines (now (text .entry)) (roomOf (now (entries .entry)) (now (finals .entry)) (now (keys .entry)) (now (live .entry)) (now (class .entry)) (now (next .entry)) (now (heads .entry)) (now (links .entry)) (now (shared .entry))) (answerOf r) (tablesOf (now (entries .exit)) (now (finals .exit)) (now (keys .exit)) (now (live .exit)) (now (class .exit)) (now (next .exit)) (now (heads .exit)) (now (links .exit)) (now (shared .exit))) ⌝ }
+    ensures { λ r. ⌜ CompileCall (now (text .entry)) (roomOf (now (entries .entry)) (now (finals .entry)) (now (keys .entry)) (now (live .entry)) (now (class .entry)) (now (next .entry)) (now (heads .entry)) (now (links .entry)) (now (shared .entry))) (answerOf r) (tablesOf (now (entries .exit)) (now (finals .exit)) (now (keys .exit)) (now (live .exit)) (now (class .exit)) (now (next .exit)) (now (heads .exit)) (now (links .exit)) (now (shared .exit))) ⌝ }
 {
     compile::compile(
         text,

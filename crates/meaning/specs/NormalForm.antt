@@ -34,7 +34,7 @@ rewritten n (binary o a b) = binary o (rewritten n a) (rewritten (n + addedCount
 rewritten n (conditional c a b) = conditional (rewritten n c) (rewritten (n + addedCount c) a) (rewritten (n + addedCount c + addedCount a) b)
 rewritten n (fby a b) = name (n + addedCount a)
 
--- "x₂ == expr"
+-- 000's entry x₂ == expr.
 abbrev pub equation : ℕ → Expression → Constraint
 equation k e = always (comparison equal) (name k) e
 
@@ -94,7 +94,7 @@ normalForm A s =
       constraints = allRewritten n (s .constraints) ++ allEntries n (s .constraints);
     }
 
--- How often the words `next` and `fby` stand in an expression and in a constraint.
+-- How often the words `next` and `fby` stand in an expression.
 unfoldable pub nextsIn : Expression → ℕ
 nextsIn (integer z) = 0
 nextsIn (name k) = 0
@@ -115,7 +115,8 @@ fbysIn (binary o a b) = fbysIn a + fbysIn b
 fbysIn (conditional c a b) = fbysIn c + fbysIn a + fbysIn b
 fbysIn (fby a b) = suc (fbysIn a + fbysIn b)
 
--- "Each solution extends to the normal form in one way only": exactly one solution of the normal form agrees with w on the sheet's streams.
+-- "Each solution extends to the normal form in one way only" (demand 2): exactly one solution of the normal form agrees with w on the
+-- sheet's streams.
 pub record ExtendsUniquely (A : Arithmetic) (s : Sheet) (w : Streams) : Type 0 where
   pub extension : Streams
   pub agrees : AgreeBelow (length (s .streams)) extension w

@@ -50,7 +50,7 @@ pub record NoWord (before : Tables) (letters rows refusal states : ℕ) (after :
   pub empty : (w : Word) → InRange letters w → ¬ Language (stored-graph (accepted .graph)) 0 w
   pub answer : IsRefusal 9 before refusal states after
 
--- 0: the used rows hold the table of the start's language. "Room beyond the used rows .. is zero, and work tables are zero
+-- 0: the used rows hold the table of the start's language. "Room beyond the used rows [..] is zero, and work tables are zero
 -- after every call."
 pub record HasTable (before : Tables) (letters rows refusal states : ℕ) (after : Tables) : Type 0 where
   pub accepted : IsAccepted before letters rows

@@ -1,4 +1,4 @@
--- Values within the magnitude bound, and operators on them that answer "no value" where an operand or the result is beyond it.
+-- Values within the magnitude bound, and operators on them that give no value where an operand or the result is beyond it.
 use Prim.Native.Nat.{ℕ, _-_, _≤_}
 use mathlib.Core.Bool.{Bool, true, false, cond, _&&_}
 use mathlib.Core.List.{List, [], _∷_}

@@ -5,11 +5,11 @@ use mathlib.Core.List.{List, _∷_}
 use lib.ListN.{length, drop}
 use Rattle.automaton.specs.Stored.{StoredTable}
 use Rattle.meaning.specs.Value.{Streams}
-use Rattle.meaning.specs.Arithmetic.{Arithmetic}
+use Rattle.meaning.specs.Arithmetic.{Arithmetic, cutTowardZero}
 use Rattle.meaning.specs.Expression.{Sheet, Solution}
 use Rattle.meaning.specs.Letter.{letterCount, SolutionWord}
 use Rattle.meaning.specs.Situation.{SituationCount, MoreSituations}
-use Rattle.sheet.specs.Form.{Layout}
+use Rattle.sheet.specs.Form.{Layout, threeHeaderLines}
 use Rattle.sheet.specs.Refusal.{refused, sheet, AnswerTo}
 use Rattle.outcome.specs.Room.{Lent, fewestRows, zeros, zeroTables}
 
@@ -44,7 +44,7 @@ pub record Tables : Type 0 where
   pub finals : List ℕ
   pub work : List (List ℕ)
 
--- "After a refused compile every lent table is zero".
+-- "After a refused compile every lent table is zero" (demand 1).
 abbrev pub allZero : Room → Tables
 allZero room = record { entries = zeros (room .entries); finals = zeros (room .finals); work = zeroTables (room .work) }
 
@@ -80,3 +80,8 @@ pub data CompileOutcome (A : Arithmetic) (L : Layout) (text : List ℕ) (room : 
   unread : {n : ℕ} → AnswerTo A L text (refused n) → CompileOutcome A L text room (refusedBy n) (allZero room)
   -- none of refusals 1 to 7 applies
   read : {s : Sheet} {a : CompileAnswer} {t : Tables} → AnswerTo A L text (sheet s) → SheetOutcome A s room a t → CompileOutcome A L text room a t
+
+-- A call of the compile with this text and this room gave this answer and left these tables: what the public function `compile` (crate compile)
+-- and its entry for C ensure, and what the theorems about calls (crate theorems) take.
+abbrev pub CompileCall : List ℕ → Room → CompileAnswer → Tables → Type 0
+CompileCall text room a t = CompileOutcome cutTowardZero threeHeaderLines text room a t

@@ -65,7 +65,7 @@ pub record LeafReading (names : List Token) (word : Token) (next : ℕ) (old new
   pub missing : r .ok ≡ false → (isInteger word ≡ false) × (isName word && not (isReserved word) ≡ false)
   pub kept : SameBelow n new old
 
--- How many `first`s are numbered inside the node of this kind, and the node's value: "A `first`'s number" is given when its word is read.
+-- How many `first`s are numbered inside the node of this kind, and the node's value: a `first`'s number is given when its word is read.
 abbrev pub firstsInside : ℕ → ℕ → ℕ
 firstsInside kind f = cond (eqb kind 2) (f + 1) f
 

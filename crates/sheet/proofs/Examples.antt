@@ -22,7 +22,7 @@ answer : List ℕ → Answer
 unfolding lines tokens isName isNatural isInteger naturalFrom integerValue reservedWords isReserved interval subexpressions letterCount reach back firsts B D operators operatorOf relations relationOf prefixes prefixOf placeOf expressionBy openingOf partTo parseConstraint refuses1 tooDeepFrom refuses2 streamsFrom constraintsOf formOf refuses4 refuses5 refuses6 refuses7 answerToSheet answerTo
 answer text = answerTo cutTowardZero threeHeaderLines text
 
--- P1, and that `ge` is read as "at least".
+-- P1, and that `ge` is read as `atLeast`.
 p1 : answer (bytesOf "level gate\n0 0\n2 1\n( level ge 2 ) -> gate") ≡ sheet (record {
   streams = record { name = bytesOf "level"; range = record { low = pos 0; high = pos 2 } } ∷ record { name = bytesOf "gate"; range = record { low = pos 0; high = pos 1 } } ∷ [];
   constraints = always implies (binary (compare atLeast) (name 0) (integer (pos 2))) (name 1) ∷ [];

@@ -1,15 +1,17 @@
 -- What a call of the compile gives: the file to open first. A call has the sheet's bytes `text`, the room lent, the answer and the contents of the
--- tables afterwards; `CompileOutcome` is the promise of the public function `compile` (crate compile). Demand 1: an answer has no refusal or one
--- with a number; after a refusal every table is zero, and work tables are zero after every call; after a refused step the running place is
--- unchanged. Demand 2: the streams along which the table can be followed are the solutions, and each solution extends to the normal form in one
--- way only. Demand 3: each refusal exactly where it applies, 9 exactly if there is no solution, else the table, which is settled; paths are the
--- records that begin a solution, and so are the records that can be followed by steps; equal used rows are equal solutions, whatever room was
--- lent. From the laws of the layers below.
+-- tables afterwards; `CompileCall` (crate outcome) is what the public function `compile` (crate compile) ensures. Demand 1: an answer has no
+-- refusal or one with a number; after a refusal every table is zero, and work tables are zero after every call; after a refused step the running
+-- place is unchanged. Demand 2: the streams along which the table can be followed are the solutions, and each solution extends to the normal form
+-- in one way only. Demand 3: each refusal is given exactly if its condition holds and that of none before it; where none of 1 to 8 and 10 applies,
+-- 9 exactly if there is no solution, else the table, which is settled; paths are the records that begin a solution, and so are the records that
+-- can be followed by steps; equal used rows are equal solutions, whatever room was lent. From the laws of the layers below.
 use Prim.Native.Nat.{ℕ, _*_, _≤_, _<_}
 use native.Mathlib.Omega.{arith}
-use mathlib.Core.Path.{_≡_, refl, sym, ap, subst}
+use mathlib.Core.Path.{_≡_, refl, sym, subst}
 use mathlib.Core.Logic.{_↔_, _⊎_, inl, inr}
-use mathlib.Core.List.{List, map}
+use mathlib.Core.Bool.{Bool, true, false, cond}
+use mathlib.Core.List.{List, [], _∷_, map}
+use lib.Dec.{T, eqb, eqb→eq}
 use lib.ListN.{length, take, replicate}
 use Rattle.automaton.specs.Table.{IsPath}
 use Rattle.automaton.specs.Stored.{StoredTable, SameUsedRows, entry-at}
@@ -18,19 +20,19 @@ use Rattle.meaning.specs.Value.{Streams}
 use Rattle.meaning.specs.Arithmetic.{cutTowardZero}
 use Rattle.meaning.specs.Expression.{Sheet, Solution}
 use Rattle.meaning.specs.Letter.{Record, OfLetters, letterCount, letterNumber, SolutionWord}
-use Rattle.meaning.specs.Situation.{SituationCount, MoreSituations}
+use Rattle.meaning.specs.Situation.{SituationCount}
 use Rattle.meaning.specs.NormalForm.{normalForm, ExtendsUniquely}
 use Rattle.meaning.specs.Scope.{AgreeBelow, NamesKnown}
 use Rattle.meaning.proofs.Arithmetic.{cutTowardZero-lawful}
 use Rattle.meaning.proofs.NormalForm.{extends-uniquely, cut-back}
-use Rattle.meaning.proofs.Count.{count-unique, count-excludes-more}
-use Rattle.sheet.specs.Form.{threeHeaderLines}
-use Rattle.sheet.specs.Refusal.{refused, sheet, AnswerTo}
+use Rattle.sheet.specs.Form.{threeHeaderLines, HasForm}
+use Rattle.sheet.specs.Refusal.{sheet, AnswerTo, accepted}
+use Rattle.sheet.proofs.Form.{form-unique, form-decided}
 use Rattle.sheet.proofs.Accepted.{accepted-facts}
 use Rattle.outcome.specs.Room.{zeroTables}
-use Rattle.outcome.specs.Compile.{CompileAnswer, refusedBy, situationBound, Room, roomRows, Tables, allZero, HoldsTable, SituationsFit, tooManySituations, tooFewRows, noSolution, compiled, CompileOutcome, unread, read}
+use Rattle.outcome.specs.Compile.{CompileAnswer, refusedBy, situationBound, Room, Tables, allZero, HoldsTable, tooManySituations, tooFewRows, noSolution, compiled, CompileCall, unread, read}
 use Rattle.outcome.specs.NormalForm.{NormalAnswer, notGiven, NormalOutcome, unread, tooShort, given}
-use Rattle.outcome.proofs.Answers.{one-sheet, refused≢sheet}
+use Rattle.outcome.proofs.Answers.{one-sheet}
 use Rattle.outcome.proofs.AcceptedCompile.{accepted-compile, refusal-in-range}
 use Rattle.outcome.proofs.CompileUnique.{compile-unique}
 use Rattle.outcome.proofs.StateCount.{states-at-most-situations}
@@ -41,46 +43,50 @@ use Rattle.step.specs.RunningPlace.{PlaceAfter, unchanged, changed, PlaceStep}
 use Rattle.step.specs.Followed.{Followed}
 use Rattle.step.proofs.Answers.{answer-refused}
 use Rattle.theorems.specs.Following.{FollowedAlong, BeginsSolution, HaveSameSolutions}
+use Rattle.theorems.specs.Refusals.{Refusal9, othersThanNine, nine, inOrder, IsGiven, NoneApplies}
 use Rattle.theorems.proofs.Following.{all-below, solution↔followed, path↔begins-solution, used-rows↔same-solutions}
 use Rattle.theorems.proofs.Steps.{path↔steps}
-
--- A call of the compile with this text and room gave this answer and left these tables.
-abbrev pub Call : List ℕ → Room → CompileAnswer → Tables → Type 0
-Call text room a t = CompileOutcome cutTowardZero threeHeaderLines text room a t
+use Rattle.theorems.proofs.Refusals.{given-unique, given-rest, of-form, call-given}
 
 -- The text is this sheet, and none of refusals 1 to 7 applies.
 abbrev pub ReadAs : List ℕ → Sheet → Type 0
 ReadAs text s = AnswerTo cutTowardZero threeHeaderLines text (sheet s)
 
--- The sheet is read and has m situations, and none of refusals 1 to 8 and 10 applies.
-abbrev pub NoneOfTheOthers : List ℕ → Room → Sheet → ℕ → Type 0
-NoneOfTheOthers text room s m = ReadAs text s × SituationsFit cutTowardZero s room m
-
 abbrev pub Solves : Sheet → Streams → Type 0
 Solves s w = Solution cutTowardZero s w
+
+abbrev pub Unsolved : Sheet → Type 0
+Unsolved s = (w : Streams) → Solves s w → ⊥
+
+-- No refusal, the number of the sheet's situations, and its table.
+abbrev pub GivesTable : Sheet → Room → CompileAnswer → Tables → Type 0
+GivesTable s room a t = (a .refusal ≡ 0) × SituationCount cutTowardZero s (a .situations) × HoldsTable cutTowardZero s room (a .states) t
+
+read-form : {text : List ℕ} {s : Sheet} → ReadAs text s → HasForm threeHeaderLines text s
+read-form (accepted a b c d e f g h) = h
 
 read-known : {text : List ℕ} {s : Sheet} → ReadAs text s → NamesKnown s
 read-known r = record { sides = accepted-facts r .namesKnown }
 
-module _ {text : List ℕ} {room : Room} {a : CompileAnswer} {t : Tables} (call : Call text room a t) where
+module _ {text : List ℕ} {room : Room} {a : CompileAnswer} {t : Tables} (call : CompileCall text room a t) where
   -- ---- demand 1
 
-  -- "an answer or a numbered refusal": 0 for an answer, or a refusal of 1 to 10.
+  -- "an answer or a numbered refusal" (demand 1): 0 for an answer, or a refusal of 1 to 10.
   pub numbered : a .refusal ≤ 10
   numbered = go call
     where
-      go : {b : CompileAnswer} {u : Tables} → Call text room b u → b .refusal ≤ 10
+      go : {b : CompileAnswer} {u : Tables} → CompileCall text room b u → b .refusal ≤ 10
       go (unread r) = omega (arith, refusal-in-range r .1)
       go (read r (tooManySituations x y)) = omega arith
       go (read r (tooFewRows x y)) = omega arith
       go (read r (noSolution e f)) = omega arith
       go (read r (compiled e x)) = omega arith
 
-  -- "A refusal returns its number with states and situations 0." "After a refused compile every lent table is zero".
+  -- "A refusal returns its number with states and situations 0." "After a refused compile every lent table is zero" (demand 1).
   pub refused-zero : 0 < a .refusal → (a ≡ refusedBy (a .refusal)) × (t ≡ allZero room)
   refused-zero h = go call h
     where
-      go : {b : CompileAnswer} {u : Tables} → Call text room b u → 0 < b .refusal → (b ≡ refusedBy (b .refusal)) × (u ≡ allZero room)
+      go : {b : CompileAnswer} {u : Tables} → CompileCall text room b u → 0 < b .refusal → (b ≡ refusedBy (b .refusal)) × (u ≡ allZero room)
       go (unread r) h = (refl, refl)
       go (read r (tooManySituations x y)) h = (refl, refl)
       go (read r (tooFewRows x y)) h = (refl, refl)
@@ -91,7 +97,7 @@ module _ {text : List ℕ} {room : Room} {a : CompileAnswer} {t : Tables} (call 
   pub work-zero : t .work ≡ zeroTables (room .work)
   work-zero = go call
     where
-      go : {b : CompileAnswer} {u : Tables} → Call text room b u → u .work ≡ zeroTables (room .work)
+      go : {b : CompileAnswer} {u : Tables} → CompileCall text room b u → u .work ≡ zeroTables (room .work)
       go (unread r) = refl
       go (read r (tooManySituations x y)) = refl
       go (read r (tooFewRows x y)) = refl
@@ -145,80 +151,44 @@ module _ {text : List ℕ} {room : Room} {a : CompileAnswer} {t : Tables} (call 
   -- ---- demand 3, which answer is given
 
   -- Answer and tables are settled: a call with the same bytes and the same room gives the same.
-  pub one-outcome : {b : CompileAnswer} {u : Tables} → Call text room b u → (a ≡ b) × (t ≡ u)
+  pub one-outcome : {b : CompileAnswer} {u : Tables} → CompileCall text room b u → (a ≡ b) × (t ≡ u)
   one-outcome c = compile-unique cutTowardZero threeHeaderLines text room call c
 
-  -- "8: all lent tables hold 4,096 rows or more, and there are more situations."
-  pub eight↔ : (a .refusal ≡ 8)
-      ↔ ((s : Sheet) × ReadAs text s × (situationBound ≤ roomRows room (letterCount (s .streams))) × MoreSituations cutTowardZero s situationBound)
-  eight↔ = (go call, λ x. ap (λ b. b .refusal) (one-outcome (read (x .1) (tooManySituations (x .2) (x .3))) .0))
-    where
-      go : {b : CompileAnswer} {u : Tables} → Call text room b u → b .refusal ≡ 8
-          → (s : Sheet) × ReadAs text s × (situationBound ≤ roomRows room (letterCount (s .streams))) × MoreSituations cutTowardZero s situationBound
-      go (unread r) e = absurd (omega (arith, refusal-in-range r .1))
-      go (read {s = q} r (tooManySituations x y)) e = (q, r, x, y)
-      go (read r (tooFewRows x y)) e = absurd (omega arith)
-      go (read r (noSolution x f)) e = absurd (omega arith)
-      go (read r (compiled x h)) e = absurd (omega arith)
+  -- Each of 1 to 10 is given exactly if its condition holds and that of none before it, and none is given exactly if no condition holds. At a
+  -- numeral the right side is those conditions (`Refusals.three-is`).
+  pub refusal↔ : (n : ℕ) → (a .refusal ≡ n) ↔ IsGiven (inOrder text room) n
+  refusal↔ n =
+      let g = call-given text room call in
+      (λ e. subst (IsGiven (inOrder text room)) e g, λ h. given-unique (inOrder text room) (a .refusal) n g h)
 
-  -- "10: the fewest rows any lent table holds, R, is below 4,096, and the situations exceed R"
-  pub ten↔ : (a .refusal ≡ 10)
-      ↔ ((s : Sheet) × ReadAs text s × (roomRows room (letterCount (s .streams)) < situationBound) × MoreSituations cutTowardZero s (roomRows room (letterCount (s .streams))))
-  ten↔ = (go call, λ x. ap (λ b. b .refusal) (one-outcome (read (x .1) (tooFewRows (x .2) (x .3))) .0))
-    where
-      go : {b : CompileAnswer} {u : Tables} → Call text room b u → b .refusal ≡ 10
-          → (s : Sheet) × ReadAs text s × (roomRows room (letterCount (s .streams)) < situationBound) × MoreSituations cutTowardZero s (roomRows room (letterCount (s .streams)))
-      go (unread r) e = absurd (omega (arith, refusal-in-range r .1))
-      go (read r (tooManySituations x y)) e = absurd (omega arith)
-      go (read {s = q} r (tooFewRows x y)) e = (q, r, x, y)
-      go (read r (noSolution x f)) e = absurd (omega arith)
-      go (read r (compiled x h)) e = absurd (omega arith)
+  -- ---- demand 3, where none of refusals 1 to 8 and 10 applies, "by their conditions as written"
 
-  -- ---- demand 3, where none of refusals 1 to 8 and 10 applies
-
-  module _ {s : Sheet} {m : ℕ} (none : NoneOfTheOthers text room s m) where
-    -- What is said of another sheet read from the text is said of this one.
-    of-sheet : {q : Sheet} (P : Sheet → Type 0) → ReadAs text q → P q → P s
-    of-sheet P r x = subst P (one-sheet r (none .0)) x
-
+  module _ (none : NoneApplies text room) {s : Sheet} (form : HasForm threeHeaderLines text s) where
     -- The compile gives 9 and there is no solution; or it gives no refusal, the number of situations and the table.
-    pub nine-or-table : ((a .refusal ≡ 9) × ((w : Streams) → Solves s w → ⊥))
-        ⊎ ((a .refusal ≡ 0) × (a .situations ≡ m) × HoldsTable cutTowardZero s room (a .states) t)
-    nine-or-table = go call
+    pub nine-or-table : ((a .refusal ≡ 9) × Unsolved s) ⊎ GivesTable s room a t
+    nine-or-table = go (eqb (a .refusal) 9) refl (given-rest (othersThanNine text room) (nine text ∷ []) (a .refusal) none (call-given text room call))
       where
-        go : {b : CompileAnswer} {u : Tables} → Call text room b u
-            → ((b .refusal ≡ 9) × ((w : Streams) → Solves s w → ⊥)) ⊎ ((b .refusal ≡ 0) × (b .situations ≡ m) × HoldsTable cutTowardZero s room (b .states) u)
-        go (unread r) = absurd (refused≢sheet r (none .0))
-        go (read r (tooManySituations x y)) =
-            absurd (count-excludes-more cutTowardZero s (none .1 .counted) situationBound (none .1 .withinBound) (of-sheet (λ q. MoreSituations cutTowardZero q situationBound) r y))
-        go (read r (tooFewRows x y)) =
-            absurd (count-excludes-more cutTowardZero s (none .1 .counted) (roomRows room (letterCount (s .streams))) (none .1 .withinRoom) (of-sheet (λ q. MoreSituations cutTowardZero q (roomRows room (letterCount (q .streams)))) r y))
-        go (read r (noSolution e f)) = inl (refl, of-sheet (λ q. (w : Streams) → Solves q w → ⊥) r f)
-        go (read r (compiled {m = c} {n = n} {t = u} e h)) =
-            inr (refl, count-unique cutTowardZero s (of-sheet (λ q. SituationCount cutTowardZero q c) r (e .counted)) (none .1 .counted), of-sheet (λ q. HoldsTable cutTowardZero q room n u) r h)
+        go : (b : Bool) → eqb (a .refusal) 9 ≡ b → cond b (Refusal9 text) ((Refusal9 text → ⊥) × (a .refusal ≡ 0)) → ((a .refusal ≡ 9) × Unsolved s) ⊎ GivesTable s room a t
+        go true e r = inl (eqb→eq (a .refusal) 9 (subst T (sym e) tt), of-form form Unsolved (r .form) (r .unsolved))
+        go false e r =
+            let c = accepted-compile call (r .1) in
+            inr (of-form form (λ q. GivesTable q room a t) (read-form (c .read)) (r .1, c .fit .counted, c .held))
 
     -- "9: no solution."
-    pub nine↔no-solution : (a .refusal ≡ 9) ↔ ((w : Streams) → Solves s w → ⊥)
+    pub nine↔no-solution : (a .refusal ≡ 9) ↔ Unsolved s
     nine↔no-solution = go nine-or-table
       where
-        go : ((a .refusal ≡ 9) × ((w : Streams) → Solves s w → ⊥)) ⊎ ((a .refusal ≡ 0) × (a .situations ≡ m) × HoldsTable cutTowardZero s room (a .states) t)
-            → (a .refusal ≡ 9) ↔ ((w : Streams) → Solves s w → ⊥)
+        go : ((a .refusal ≡ 9) × Unsolved s) ⊎ GivesTable s room a t → (a .refusal ≡ 9) ↔ Unsolved s
         go (inl x) = (λ e. x .1, λ f. x .0)
         go (inr x) = (λ e. absurd (omega (arith, x .0)), λ f. absurd (has-solution (x .2 .table .table) (λ w b h. f _ (h .solves))))
 
-  -- None of refusals 1 to 8 and 10 is given exactly if none of them applies.
-  pub none↔ : ((a .refusal ≡ 0) ⊎ (a .refusal ≡ 9)) ↔ ((s : Sheet) × (m : ℕ) × NoneOfTheOthers text room s m)
-  none↔ = (go call, λ x. elim (nine-or-table (x .2)) [ inl n ↦ inr (n .0) | inr c ↦ inl (c .0) ])
-    where
-      go : {b : CompileAnswer} {u : Tables} → Call text room b u → (b .refusal ≡ 0) ⊎ (b .refusal ≡ 9) → (s : Sheet) × (m : ℕ) × NoneOfTheOthers text room s m
-      go (unread r) (inl e) = absurd (omega (arith, refusal-in-range r .0))
-      go (unread r) (inr e) = absurd (omega (arith, refusal-in-range r .1))
-      go (read r (tooManySituations x y)) (inl e) = absurd (omega arith)
-      go (read r (tooManySituations x y)) (inr e) = absurd (omega arith)
-      go (read r (tooFewRows x y)) (inl e) = absurd (omega arith)
-      go (read r (tooFewRows x y)) (inr e) = absurd (omega arith)
-      go (read {s = q} r (noSolution {m = c} x f)) e = (q, c, (r, x))
-      go (read {s = q} r (compiled {m = c} x h)) e = (q, c, (r, x))
+-- The sheet of which this speaks: there is one, and only one.
+pub one-form : {text : List ℕ} {room : Room} → NoneApplies text room → (s : Sheet) × HasForm threeHeaderLines text s × ((q : Sheet) → HasForm threeHeaderLines text q → q ≡ s)
+one-form {text} none = go (form-decided threeHeaderLines text)
+  where
+    go : Dec ((s : Sheet) × HasForm threeHeaderLines text s) → (s : Sheet) × HasForm threeHeaderLines text s × ((q : Sheet) → HasForm threeHeaderLines text q → q ≡ s)
+    go (yes x) = (x .0, x .1, λ q f. form-unique f (x .1))
+    go (no f) = absurd (none .1 .1 .0 (record { formless = λ s h. f (s, h) }))
 
 -- ---- demand 1, the normal form and the step
 
@@ -229,7 +199,7 @@ refused-list-zero (unread r) h = (refl, refl)
 refused-list-zero (tooShort r x) h = (refl, refl)
 refused-list-zero (given r x) h = absurd (omega arith)
 
--- "after a refused step the running place is unchanged", and the refusal is 11 or 12.
+-- "after a refused step the running place is unchanged" (demand 1), and the refusal is 11 or 12.
 module _ {table : List ℕ} {letters letter : ℕ} {before after : Place} {r : ℕ} (step : PlaceStep table letters letter before r after) (refused : 65536 ≤ r) where
   pub refused-step-unchanged : after ≡ before
   refused-step-unchanged = go (step .place)
@@ -263,7 +233,7 @@ module _ {text : List ℕ} {s : Sheet} (read : ReadAs text s) where
 over : (s q : Sheet) → q .streams ≡ s .streams → q ≡ record { streams = s .streams; constraints = q .constraints }
 over s q e = λ i. record { streams = e i; constraints = q .constraints }
 
-pub equal-rows↔same-solutions : {text text′ : List ℕ} {room room′ : Room} {a a′ : CompileAnswer} {t t′ : Tables} → Call text room a t → Call text′ room′ a′ t′
+pub equal-rows↔same-solutions : {text text′ : List ℕ} {room room′ : Room} {a a′ : CompileAnswer} {t t′ : Tables} → CompileCall text room a t → CompileCall text′ room′ a′ t′
     → {s s′ : Sheet} → ReadAs text s → ReadAs text′ s′ → a .refusal ≡ 0 → a′ .refusal ≡ 0 → s′ .streams ≡ s .streams
     → SameUsedRows (letterCount (s .streams)) (a .states) (t .entries) (t .finals) (a′ .states) (t′ .entries) (t′ .finals) ↔ HaveSameSolutions cutTowardZero s s′
 equal-rows↔same-solutions {a = a} {a′ = a′} {t = t} {t′ = t′} call call′ {s} {s′} r r′ e e′ same =

@@ -1,3 +1,4 @@
 pub mod Following
 pub mod Steps
+pub mod Refusals
 pub mod Demands

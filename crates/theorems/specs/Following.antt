@@ -11,8 +11,8 @@ use Rattle.meaning.specs.Arithmetic.{Arithmetic, Within}
 use Rattle.meaning.specs.Expression.{Stream, Sheet, rangeOf, Solution}
 use Rattle.meaning.specs.Letter.{Record, letterCount, streamsOf, wordOf}
 
--- "the table can be followed along them from its start without a missing entry and meets final states again and again": of streams in their
--- ranges, since other values have no letter.
+-- "the table can be followed along them from its start without a missing entry and meets final states again and again" (demand 2): of streams in
+-- their ranges, since other values have no letter.
 pub record FollowedAlong (ss : List Stream) (entries finals : List ℕ) (w : Streams) : Type 0 where
   pub ranged : (k i : ℕ) → k < length ss → Within (rangeOf ss k) (w k i)
   pub path : (n : ℕ) → IsPath (entry-at (letterCount ss) entries) (prefix (wordOf ss w) n)

@@ -1,6 +1,6 @@
 -- Each row of the worked sheets holds: a test that computes the answer to the text, the situations and the table of their graph, and one law
 -- that turns the test into what the row says.
-use Prim.Native.Nat.{ℕ, zero, suc, _≤_}
+use Prim.Native.Nat.{ℕ, zero, suc, _*_, _≤_}
 use mathlib.Core.Path.{_≡_, refl, sym, _∙_, ap, subst}
 use mathlib.Core.Bool.{Bool, true, false, _&&_}
 use mathlib.Core.List.{List, [], _∷_, map, List·Memᴰ}
@@ -47,15 +47,19 @@ module _ (s : Sheet) (t : T (countsSituations cutTowardZero s (found s))) where
   abbrev start : ℕ
   start = startNode decideSituation cutTowardZero s (counted cutTowardZero s (found s) t)
 
-abbrev answerTest : Row → construction.Answer → Bool
-answerTest r construction.Answer.no-word = eqb (r .refusal) 9
-answerTest r (construction.Answer.table x) =
-    eqb (r .refusal) 0 && (eqb (x .states) (r .states) && (sameList eqb (x .entries) (r .entries) && sameList eqb (x .finals) (r .finals)))
+-- As long as the table.
+abbrev sizeTest : Row → Sheet → Bool
+sizeTest r s = eqb (length (r .entries)) (r .states * letterCount (s .streams)) && eqb (length (r .finals)) (r .states)
+
+abbrev answerTest : Row → Sheet → construction.Answer → Bool
+answerTest r s construction.Answer.no-word = eqb (r .refusal) 9 && (eqb (r .states) 0 && (sameList eqb (r .entries) [] && sameList eqb (r .finals) []))
+answerTest r s (construction.Answer.table x) =
+    eqb (r .refusal) 0 && (eqb (x .states) (r .states) && ((sameList eqb (x .entries) (r .entries) && sameList eqb (x .finals) (r .finals)) && sizeTest r s))
 
 abbrev countedTest : (r : Row) (s : Sheet) (b : Bool) → countsSituations cutTowardZero s (found s) ≡ b → Bool
 countedTest r s true e =
     let t = subst T (sym e) tt in
-    leb (graph s t .nodes) no-state && (eqb (length (map (situationOf cutTowardZero s) (found s))) (r .situations) && answerTest r (answer (graph s t) (start s t)))
+    leb (graph s t .nodes) no-state && (eqb (length (map (situationOf cutTowardZero s) (found s))) (r .situations) && answerTest r s (answer (graph s t) (start s t)))
 countedTest r s false e = false
 
 abbrev sheetTest : Row → Answer → Bool
@@ -75,25 +79,32 @@ module _ (r : Row) {s : Sheet} (read : AnswerTo cutTowardZero threeHeaderLines (
     count : SituationCount cutTowardZero s (r .situations)
     count = subst (SituationCount cutTowardZero s) e (counted cutTowardZero s (found s) t)
 
-    answer-holds : (a : construction.Answer) → IsAnswer (graph s t) (start s t) a → T (answerTest r a) → Holds r
+    answer-holds : (a : construction.Answer) → IsAnswer (graph s t) (start s t) a → T (answerTest r s a) → Holds r
     unfolding situationGraph
     answer-holds construction.Answer.no-word n h =
-        refuses read count (eqb→eq (r .refusal) 9 h)
-        (no-streams (record { sides = accepted-facts read .namesKnown })
-        λ w b z. n w b (situations-language decideSituation cutTowardZero s (counted cutTowardZero s (found s) t) .from w b z))
+        let p = both (eqb (r .refusal) 9) (eqb (r .states) 0 && (sameList eqb (r .entries) [] && sameList eqb (r .finals) [])) h in
+        let q = both (eqb (r .states) 0) (sameList eqb (r .entries) [] && sameList eqb (r .finals) []) (p .1) in
+        let u = both (sameList eqb (r .entries) []) (sameList eqb (r .finals) []) (q .1) in
+        let none =
+        no-streams (record { sides = accepted-facts read .namesKnown }) λ w b z. n w b (situations-language decideSituation cutTowardZero s (counted cutTowardZero s (found s) t) .from w b z) in
+        refuses read count (eqb→eq (r .refusal) 9 (p .0)) none (eqb→eq (r .states) 0 (q .0)) (lists numbers .sound (r .entries) [] (u .0)) (lists numbers .sound (r .finals) [] (u .1))
     answer-holds (construction.Answer.table x) n h =
-        let p = both (eqb (r .refusal) 0) (eqb (x .states) (r .states) && (sameList eqb (x .entries) (r .entries) && sameList eqb (x .finals) (r .finals))) h in
-        let q = both (eqb (x .states) (r .states)) (sameList eqb (x .entries) (r .entries) && sameList eqb (x .finals) (r .finals)) (p .1) in
-        let u = both (sameList eqb (x .entries) (r .entries)) (sameList eqb (x .finals) (r .finals)) (q .1) in
+        let same = sameList eqb (x .entries) (r .entries) && sameList eqb (x .finals) (r .finals) in
+        let p = both (eqb (r .refusal) 0) (eqb (x .states) (r .states) && (same && sizeTest r s)) h in
+        let q = both (eqb (x .states) (r .states)) (same && sizeTest r s) (p .1) in
+        let v = both same (sizeTest r s) (q .1) in
+        let u = both (sameList eqb (x .entries) (r .entries)) (sameList eqb (x .finals) (r .finals)) (v .0) in
+        let z = both (eqb (length (r .entries)) (r .states * letterCount (s .streams))) (eqb (length (r .finals)) (r .states)) (v .1) in
         let stored = stored-transfer (situations-language decideSituation cutTowardZero s (counted cutTowardZero s (found s) t)) n in
         compiles read count (eqb→eq (r .refusal) 0 (p .0))
         (rw (← eqb→eq (x .states) (r .states) (q .0), ← lists numbers .sound (x .entries) (r .entries) (u .0), ← lists numbers .sound (x .finals) (r .finals) (u .1)) stored)
+        (eqb→eq (length (r .entries)) (r .states * letterCount (s .streams)) (z .0)) (eqb→eq (length (r .finals)) (r .states) (z .1))
 
   counted-holds : (b : Bool) (e : countsSituations cutTowardZero s (found s) ≡ b) → T (countedTest r s b e) → Holds r
   counted-holds true e h =
       let t = subst T (sym e) tt in
-      let p = both (leb (graph s t .nodes) no-state) (eqb (length (map (situationOf cutTowardZero s) (found s))) (r .situations) && answerTest r (answer (graph s t) (start s t))) h in
-      let q = both (eqb (length (map (situationOf cutTowardZero s) (found s))) (r .situations)) (answerTest r (answer (graph s t) (start s t))) (p .1) in
+      let p = both (leb (graph s t .nodes) no-state) (eqb (length (map (situationOf cutTowardZero s) (found s))) (r .situations) && answerTest r s (answer (graph s t) (start s t))) h in
+      let q = both (eqb (length (map (situationOf cutTowardZero s) (found s))) (r .situations)) (answerTest r s (answer (graph s t) (start s t))) (p .1) in
       answer-holds t (eqb→eq (length (map (situationOf cutTowardZero s) (found s))) (r .situations) (q .0)) (answer (graph s t) (start s t)) (answer-is (graph s t) (start s t) (leb→le (graph s t .nodes) no-state (p .0))) (q .1)
   counted-holds false e h = absurd h
 

@@ -1,8 +1,9 @@
 -- The worked sheets of document 01 that are marked P, as rows of one table, and what a row says.
-use Prim.Native.Nat.{ℕ}
+use Prim.Native.Nat.{ℕ, _*_}
 use Prim.Native.String.{String}
 use mathlib.Core.Path.{_≡_}
 use mathlib.Core.List.{List, [], _∷_}
+use lib.ListN.{length}
 use Rattle.automaton.specs.Stored.{StoredTable}
 use Rattle.text.specs.Bytes.{bytesOf}
 use Rattle.meaning.specs.Value.{Streams}
@@ -47,9 +48,10 @@ rows =
     ∷ []
 
 -- What a row says, about the definitions: none of refusals 1 to 7 applies to the text, its sheet has this number of situations, and the used
--- rows are its table; or no solution exists.
+-- rows, no more than these, are its table; or no solution exists, and there are no states and no rows.
 pub data Holds (r : Row) : Type 0 where
   compiles : {s : Sheet} → AnswerTo cutTowardZero threeHeaderLines (bytesOf (r .text)) (sheet s) → SituationCount cutTowardZero s (r .situations) → r .refusal ≡ 0
-      → StoredTable (SolutionWord cutTowardZero s) (letterCount (s .streams)) (r .states) (r .entries) (r .finals) → Holds r
+      → StoredTable (SolutionWord cutTowardZero s) (letterCount (s .streams)) (r .states) (r .entries) (r .finals) → length (r .entries) ≡ r .states * letterCount (s .streams)
+      → length (r .finals) ≡ r .states → Holds r
   refuses : {s : Sheet} → AnswerTo cutTowardZero threeHeaderLines (bytesOf (r .text)) (sheet s) → SituationCount cutTowardZero s (r .situations) → r .refusal ≡ 9
-      → ((w : Streams) → Solution cutTowardZero s w → ⊥) → Holds r
+      → ((w : Streams) → Solution cutTowardZero s w → ⊥) → r .states ≡ 0 → r .entries ≡ [] → r .finals ≡ [] → Holds r

@@ -11,7 +11,7 @@ use Rattle.meaning.specs.Expression.{Expression, integer, name, first, n
 use Rattle.meaning.specs.NormalForm.{addedCount, rewritten, equation, addedEntries, addedBy, rewrittenConstraint, entriesBy, allRewritten, allEntries, normalForm, nextsIn, fbysIn}
 use Rattle.meaning.proofs.Lists.{All, All-append, All-member}
 
--- An expression "with no next, fby or until (but can contain first operators)"; `until` never stands in an expression.
+-- An expression "with no next, fby or until (but can contain first operators)" (000, section 3.1); `until` never stands in an expression.
 abbrev pub Pointwise : Expression → Type 0
 Pointwise (integer z) = Unit
 Pointwise (name k) = Unit

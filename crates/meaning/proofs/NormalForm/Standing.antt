@@ -48,7 +48,7 @@ module _ (A : Arithmetic) (w : Streams) where
   unfolding Meets
   always-equal a b = (λ h i. compares-equal (value A w a i) (value A w b i) .0 (h i), λ h i. compares-equal (value A w a i) (value A w b i) .1 (h i))
 
-  -- The entry "x == expr", expr rewritten, where the streams added for expr are what they stand for.
+  -- 000's entry x == expr, expr rewritten, where the streams added for expr are what they stand for.
   equation-stands : (k n : ℕ) (e : Expression) → StandFor n (added e) → Meets A w (equation k (rewritten n e)) ↔ ((i : ℕ) → w k i ≡ value A w e i)
   unfolding value
   equation-stands k n e s =
