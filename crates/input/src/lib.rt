@@ -1,5 +1,4 @@
 // Reads a whole input into lent bytes. "a file it cannot read counts as empty" (document 02, S-1): a read that fails leaves none of it.
-ghost use mathlib.Core.Path.{_≡_};
 ghost use lib.ListN.{length};
 ghost use Rattle.input.specs.Input.{IsInput};
 

@@ -18,11 +18,10 @@ use Rattle.sheet.specs.Reading.{anyOf, isIntegerBeyond, allExpressions, sidesBe
 use Rattle.parse.specs.Stored.{arrays, store}
 use Rattle.parse.specs.Bounded.{boundedConstraint}
 use Rattle.reader.specs.Constraints.{State, state, counts, LinesFit, ConstraintsOutcome}
-use Rattle.reader.specs.Names.{namesRefused}
+use Rattle.refusals.specs.Names.{namesRefused, formRefusal}
 use Rattle.reader.specs.Stored.{padded, relationsOf, leftsOf, rightsOf, refusedReading, readingOf}
 use Rattle.reader.specs.Streams.{StreamTables, StreamsOutcome}
 use Rattle.reader.specs.Form.{formOfLines}
-use Rattle.reader.specs.Tested.{formRefusal}
 use Rattle.reader.specs.Held.{constraintTables, Held, HeldSheet, HeldReading}
 use Rattle.reader.specs.declared.StreamsRead.{StreamsRead}
 use Rattle.reader.specs.declared.Reading.{Reading}

@@ -22,7 +22,7 @@ use Rattle.parse.specs.Reading.{unread, constraintRead, Fits, ConstraintOutcome
 use Rattle.parse.specs.declared.ConstraintRead.{ConstraintRead}
 use Rattle.parse.proofs.Outcome.{Few, constraint-few}
 use Rattle.reader.specs.Constraints.{State, state, counts, withConstraint, readAll, LinesFit, ConstraintsOutcome, noForm, areRead}
-use Rattle.reader.proofs.Lines.{line-lines, lines-past}
+use Rattle.refusals.proofs.Lines.{line-lines, lines-past}
 
 -- ---- one line
 

@@ -1,5 +1,3 @@
-pub mod Lines
-pub mod Names
 pub mod Constraints
 pub mod Stored
 pub mod Streams

@@ -24,7 +24,7 @@ use Rattle.letters.specs.Described.{described, cutCount}
 use Rattle.parse.specs.Bounded.{within, boundedConstraint, constraintBeyond}
 use Rattle.parse.proofs.Outcome.{constraint-same}
 use Rattle.parse.proofs.Trees.{anyOf-append}
-use Rattle.reader.specs.Names.{namesRefused}
+use Rattle.refusals.specs.Names.{namesRefused}
 use Rattle.reader.specs.Stored.{leftsOf, rightsOf}
 use Rattle.reader.specs.Unknown.{someUnknown}
 use Rattle.reader.specs.Extent.{noExtent, extentFrom}

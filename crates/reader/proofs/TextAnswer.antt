@@ -15,12 +15,12 @@ use Rattle.sheet.specs.Refusal.{refused, tokenCount}
 use Rattle.sheet.specs.Reading.{anyOf, tooDeepFrom, refuses1, refuses2, formOf, answerToForm, answerTo}
 use Rattle.scan.specs.Place as place
 use Rattle.reader.specs.Constraints.{LinesFit}
-use Rattle.reader.specs.Places.{HeaderOf}
+use Rattle.refusals.specs.Places.{HeaderOf}
 use Rattle.reader.specs.Stored.{refusedReading, readingOf}
 use Rattle.reader.specs.Form.{formOfLines}
-use Rattle.reader.specs.declared.Header.{Header}
+use Rattle.refusals.specs.declared.Header.{Header}
 use Rattle.reader.specs.declared.Reading.{Reading}
-use Rattle.reader.proofs.Lines.{between-all}
+use Rattle.refusals.proofs.Lines.{between-all}
 use Rattle.reader.proofs.Tests.{or-left, or-right}
 
 abbrev textReading : List ℕ → Reading

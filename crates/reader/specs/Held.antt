@@ -14,7 +14,7 @@ use Rattle.sheet.specs.Reading.{anyOf, isIntegerBeyond, allExpressions, answerT
 use Rattle.parse.specs.Stored.{arrays}
 use Rattle.parse.specs.Bounded.{boundedConstraint}
 use Rattle.reader.specs.Constraints.{State, state, counts}
-use Rattle.reader.specs.Names.{namesRefused}
+use Rattle.refusals.specs.Names.{namesRefused}
 use Rattle.reader.specs.Stored.{padded, relationsOf, leftsOf, rightsOf, readingOf}
 use Rattle.reader.specs.Streams.{StreamTables, tablesOf, streamsRead}
 use Rattle.reader.specs.declared.StreamsRead.{StreamsRead}

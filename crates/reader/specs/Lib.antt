@@ -4,8 +4,6 @@ pub mod Constraints
 pub mod Unknown
 pub mod Extent
 pub mod FirstNodes
-pub mod Places
-pub mod Names
 pub mod Tested
 pub mod Form
 pub mod Held

@@ -15,10 +15,6 @@ use Rattle.reader.specs.Extent.{noExtent, extentFrom}
 use Rattle.reader.specs.declared.Extent.{Extent}
 use Rattle.reader.specs.declared.Tested.{Tested}
 
--- 3 where the constraint lines are not of the form, else 4 where a name of line 1 is refused, else 0.
-abbrev pub formRefusal : Bool → Bool → ℕ
-formRefusal formless named = cond formless 3 (cond named 4 0)
-
 abbrev pub failedAs : ℕ → Tested
 failedAs n = record { refusal = n; letters = 0; ahead = 0; back = 0 }
 

@@ -15,18 +15,12 @@ ghost use Rattle.reader.specs.FirstNodes.{withFirsts, FewFirsts};
 ghost use Rattle.nodes.specs.Evaluate.{stored};
 ghost use Rattle.meaning.specs.Arithmetic.{cutTowardZero};
 ghost use Rattle.sheet.specs.Reading.{answerTo, answerToForm};
-ghost use Rattle.reader.specs.Tested.{formRefusal, failedAs, testedAs};
+ghost use Rattle.reader.specs.Tested.{failedAs, testedAs};
 ghost use Rattle.reader.specs.Form.{formOfLines};
 ghost use Rattle.reader.specs.Held.{HeldSheet, HeldReading};
-ghost use lib.Dec.{eqb, ltb};
-ghost use lib.Signed.{ltZ};
-ghost use Rattle.text.specs.Token.{isOneOf};
-ghost use Rattle.reader.specs.Names.{namesRefused};
+ghost use lib.Dec.{eqb};
 ghost use Rattle.sheet.specs.Form.{threeHeaderLines};
-ghost use Rattle.sheet.specs.Refusal.{isAllowed};
-ghost use Rattle.sheet.specs.Reading.{refuses1, refuses2};
 ghost use Rattle.text.specs.Bytes.{lines, tokens};
-ghost use Rattle.reader.specs.Places.{HeaderOf, constraintLinesRefused};
 
 // The stored sheet. Room beyond what is given is zero.
 pub struct Sheet {
@@ -62,17 +56,6 @@ pub struct Reading {
     pub sheet: Sheet,
 }
 
-// Where the three header lines stand and the constraint lines begin, and whether there are three header lines.
-struct Header {
-    names_end: usize,
-    lows_start: usize,
-    lows_end: usize,
-    highs_start: usize,
-    highs_end: usize,
-    constraints: usize,
-    whole: bool,
-}
-
 // Whether the header lines have the form, how many streams they give, and whether a range is refused.
 struct StreamsRead {
     ok: bool,
@@ -105,92 +88,6 @@ struct ConstraintsRead {
     beyond: bool,
 }
 
-// "10 and 32 to 126"
-fn is_allowed(byte: u8) -> bool
-    ensures { λ r. ⌜ r ≡ isAllowed byte ⌝ }
-{
-    if byte == 10 {
-        return true;
-    }
-    if byte < 32 {
-        return false;
-    }
-    byte <= 126
-}
-
-// "1: too many bytes, or a byte other than 10 and 32 to 126."
-fn bytes_refused(text: &[u8]) -> bool
-    ensures { λ r. ⌜ r ≡ refuses1 (now (text .entry)) ⌝ }
-{
-    if 16384 < text.len() {
-        return true;
-    }
-    let mut i = 0;
-    while i < text.len() {
-        if !is_allowed(text[i]) {
-            return true;
-        }
-        i += 1;
-    }
-    false
-}
-
-// The places of the header lines. A line that is missing has no bytes.
-fn header_of(text: &[u8]) -> Header
-    ensures { λ r. ⌜ HeaderOf (now (text .entry)) r ⌝ }
-{
-    let names = scan::next_line(text, 0);
-    let lows_start = names.next;
-    let lows = scan::next_line(text, lows_start);
-    let highs_start = lows.next;
-    let highs = scan::next_line(text, highs_start);
-    Header {
-        names_end: names.end,
-        lows_start: lows_start,
-        lows_end: lows.end,
-        highs_start: highs_start,
-        highs_end: highs.end,
-        constraints: highs.next,
-        whole: highs_start < text.len(),
-    }
-}
-
-// "32 lines after line 3, 1,024 tokens in them, or, up to some place in one of them, more than 32 more `(` than `)`", for the bytes of these lines.
-fn constraint_lines_refused(text: &[u8]) -> bool
-    ensures { λ r. ⌜ r ≡ constraintLinesRefused (lines (now (text .entry))) ⌝ }
-{
-    let mut count: usize = 0;
-    let mut tokens: usize = 0;
-    let mut at = 0;
-    while at < text.len() {
-        let line = scan::next_line(text, at);
-        let end = line.end;
-        if scan::too_deep(&text[at..end]) {
-            return true;
-        }
-        count += 1;
-        tokens += scan::token_count(&text[at..end]);
-        at = line.next;
-    }
-    if 32 < count {
-        return true;
-    }
-    1024 < tokens
-}
-
-// "2: over 8 tokens in line 1, 32 lines after line 3, 1,024 tokens in them, or, up to some place in one of them, more than 32 more `(` than `)`."
-fn lines_refused(text: &[u8]) -> bool
-    ensures { λ r. ⌜ r ≡ refuses2 threeHeaderLines (now (text .entry)) ⌝ }
-{
-    let header = header_of(text);
-    let names_end = header.names_end;
-    if 8 < scan::token_count(&text[0..names_end]) {
-        return true;
-    }
-    let from = header.constraints;
-    constraint_lines_refused(&text[from..])
-}
-
 // Whether one of both holds; both are known, so that no branch is needed.
 fn either(left: bool, right: bool) -> bool
     ensures { λ r. ⌜ r ≡ left || right ⌝ }
@@ -203,85 +100,6 @@ fn until_count(relation: u8) -> usize
     ensures { λ r. ⌜ r ≡ cond (eqb relation 7) 1 0 ⌝ }
 {
     if relation == 7 { 1 } else { 0 }
-}
-
-// "an integer beyond the magnitude bound, or a low above its high", of one stream
-fn range_faulty(low_beyond: bool, high_beyond: bool, low: i64, high: i64) -> bool
-    ensures { λ r. ⌜ r ≡ «low_beyond» || «high_beyond» || ltZ high low ⌝ }
-{
-    if low_beyond {
-        return true;
-    }
-    if high_beyond {
-        return true;
-    }
-    high < low
-}
-
-// Whether the token is one of the line's.
-fn stands_in(line: &[u8], token: &[u8]) -> bool
-    ensures { λ r. ⌜ r ≡ isOneOf (tokens (now (line .entry))) (now (token .entry)) ⌝ }
-{
-    scan::place_of(line, token) < scan::token_count(line)
-}
-
-// "a name given twice, reserved", of line 1
-fn names_refused(line: &[u8]) -> bool
-    ensures { λ r. ⌜ r ≡ namesRefused (tokens (now (line .entry))) ⌝ }
-{
-    let mut at = 0;
-    loop {
-        let token = scan::next_token(line, at);
-        let start = token.start;
-        let end = token.end;
-        if start == end {
-            return false;
-        }
-        let name = &line[start..end];
-        if scan::is_reserved(name) {
-            return true;
-        }
-        if stands_in(&line[end..], name) {
-            return true;
-        }
-        at = end;
-    }
-}
-
-// 3 where the constraint lines are not of the form, else 4 where a name of line 1 is refused, else 0: "The lowest that applies to the whole sheet
-// is given".
-fn form_refusal(formless: bool, named: bool) -> u32
-    ensures { λ r. ⌜ r ≡ formRefusal formless named ⌝ }
-{
-    if formless {
-        return 3;
-    }
-    if named {
-        return 4;
-    }
-    0
-}
-
-// "7: letters, untils, firsts or D+B over the bound."
-fn counts_refused(letters: u32, untils: usize, firsts: usize, ahead: u32, back: u32) -> bool
-    ensures { λ r. ⌜ r ≡ ltb 1024 letters || ltb 8 untils || ltb 8 firsts || ltb 6 (ahead + back) ⌝ }
-{
-    if 1024 < letters {
-        return true;
-    }
-    if 8 < untils {
-        return true;
-    }
-    if 8 < firsts {
-        return true;
-    }
-    if 6 < ahead {
-        return true;
-    }
-    if 6 < back {
-        return true;
-    }
-    6 < ahead + back
 }
 
 // A refusal, with a sheet of zeros.
@@ -519,7 +337,7 @@ fn read_streams(
         put_range(lows, highs, count, lowest.value, highest.value);
         faulty = either(
             faulty,
-            range_faulty(lowest.beyond, highest.beyond, lowest.value, highest.value),
+            refusals::range_faulty(lowest.beyond, highest.beyond, lowest.value, highest.value),
         );
         count += 1;
         name_at = name_end;
@@ -651,7 +469,7 @@ fn test_stored(
     let letters = letters::letter_count(lows, highs);
     let ahead = extent.ahead;
     let back = extent.back;
-    if counts_refused(letters, untils, firsts, ahead, back) {
+    if refusals::counts_refused(letters, untils, firsts, ahead, back) {
         return failed(7);
     }
     Tested {
@@ -771,7 +589,7 @@ fn read_lines(names_line: &[u8], lows_line: &[u8], highs_line: &[u8], text: &[u8
         &mut lefts,
         &mut rights,
     );
-    let refusal = form_refusal(!constraints.ok, names_refused(names_line));
+    let refusal = refusals::form_refusal(!constraints.ok, refusals::names_refused(names_line));
     if refusal != 0 {
         return refused(refusal);
     }
@@ -795,13 +613,13 @@ fn read_lines(names_line: &[u8], lows_line: &[u8], highs_line: &[u8], text: &[u8
 pub fn read(text: &[u8]) -> Reading
     ensures { λ r. ⌜ r ≡ readingOf (answerTo cutTowardZero threeHeaderLines (now (text .entry))) ⌝ }
 {
-    if bytes_refused(text) {
+    if refusals::bytes_refused(text) {
         return refused(1);
     }
-    if lines_refused(text) {
+    if refusals::lines_refused(text) {
         return refused(2);
     }
-    let header = header_of(text);
+    let header = refusals::header_of(text);
     if !header.whole {
         return refused(3);
     }

@@ -2,7 +2,7 @@
 -- (outcome) and the text of a printout (pages).
 use Prim.Native.Nat.{ℕ, zero, suc, _-_, _*_, _≤_, _<_, min}
 use native.Mathlib.Omega.{arith}
-use mathlib.Core.Path.{_≡_, refl, sym, _∙_, ap, ap₂, subst}
+use mathlib.Core.Path.{_≡_, refl, sym, _∙_, ap, subst}
 use mathlib.Core.List.{List, [], _∷_, _++_, map, List·Memᴰ, List·Memᴰ·head, List·Memᴰ·tail, Memᴰ·map}
 use mathlib.Core.Bool.{Bool, true, false}
 use lib.Dec.{ltb}
@@ -25,7 +25,6 @@ use Rattle.sheet.specs.Reading.{answerTo}
 use Rattle.sheet.specs.Accepted.{Accepted}
 use Rattle.sheet.proofs.Reading.{answer-correct, answer-unique}
 use Rattle.sheet.proofs.Accepted.{accepted-facts}
-use Rattle.reader.specs.declared.Sheet.{Sheet as StoredSheet}
 use Rattle.reader.specs.declared.Reading.{Reading}
 use Rattle.reader.specs.Stored.{storedSheet, readingOf, nameBytes, nameLengths}
 use Rattle.reader.proofs.Streams.{name-fits}

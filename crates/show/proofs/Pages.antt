@@ -1,7 +1,6 @@
 -- No line that `show` writes is longer than there is room for, and there are so few lines that the bytes handed over are counted exactly.
 use Prim.Native.Nat.{ℕ, zero, suc, _*_, _≤_, _<_, min}
 use native.Mathlib.Omega.{arith}
-use mathlib.Core.Bool.{cond}
 use mathlib.Core.List.{List, [], _∷_}
 use lib.Dec.{eqb}
 use lib.IntN.{ℤ}

@@ -9,7 +9,7 @@ use Rattle.meaning.specs.Arithmetic.{cutTowardZero}
 use Rattle.meaning.specs.Expression.{Sheet}
 use Rattle.meaning.specs.Letter.{letterCount}
 use Rattle.sheet.specs.Form.{threeHeaderLines}
-use Rattle.sheet.specs.Refusal.{Answer, refused, sheet, AnswerTo}
+use Rattle.sheet.specs.Refusal.{refused, sheet, AnswerTo}
 use Rattle.reader.specs.declared.Sheet.{Sheet as StoredSheet}
 use Rattle.outcome.specs.Room.{Lent}
 use Rattle.outcome.specs.Compile.{CompileAnswer, Room, Tables, CompileOutcome}

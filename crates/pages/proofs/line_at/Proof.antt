@@ -1,9 +1,6 @@
 -- `pages::line_at` meets its contract, by the cases of a refusal's number and of the line's number (Output).
-use native.Mathlib.Omega.{arith}
-use mathlib.Core.Path.{refl, subst}
 use borrow.Author.Needs.{needs}
 use Rattle.print.proofs.Append.{appends-same}
-use Rattle.pages.specs.Lines.{HoldsLine}
 use Rattle.pages.proofs.Lines.{appended-line, empty-line}
 use Rattle.pages.proofs.Output.{refusal-first, nothing-after, heading-first, entry-after}
 use Rattle.pages.proofs.line_at.Statement.{statement}

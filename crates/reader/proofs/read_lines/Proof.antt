@@ -6,7 +6,7 @@ use borrow.Author.Tests.{not-true, not-false}
 use Rattle.parse.specs.Stored.{arrays}
 use Rattle.reader.specs.Constraints.{State, state}
 use Rattle.reader.specs.Streams.{StreamTables, streamTables}
-use Rattle.reader.specs.Tested.{formRefusal}
+use Rattle.refusals.specs.Names.{formRefusal}
 use Rattle.reader.proofs.Answers.{no-streams-reading, no-stream-reading, LinesRead, form-refused, held-sheet, held-reading}
 use Rattle.reader.proofs.read_lines.Statement.{statement}
 use Rattle.reader.proofs.read_lines.Tie as tie

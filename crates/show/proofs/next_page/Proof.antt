@@ -1,12 +1,11 @@
 -- `show::next_page` meets its contract: the arrays are lent as they are, the ranges cut to the streams.
-use Prim.Native.Nat.{min, _≤_}
 use native.Mathlib.Omega.{arith}
-use mathlib.Core.Path.{_≡_, sym, subst}
-use lib.ListN.{length, take}
+use mathlib.Core.Path.{sym, subst}
+use lib.ListN.{take}
 use lib.Seq.{length-take-le}
 use borrow.Author.Needs.{needs}
 use Rattle.pages.specs.Lines.{IsPage}
-use Rattle.pages.specs.Output.{Printout, lineOf, linesOf}
+use Rattle.pages.specs.Output.{lineOf, linesOf}
 use Rattle.show.proofs.next_page.Statement.{statement}
 use Rattle.show.proofs.next_page.Tie as tie
 

@@ -1,10 +1,10 @@
--- `reader::range_faulty` meets its contract, test by test.
+-- `refusals::range_faulty` meets its contract, test by test.
 use mathlib.Core.Path.{sym, ap₂, _∙_}
 use mathlib.Core.Bool.{_||_}
 use lib.Signed.{ltZ}
 use Rattle.arithmetic.proofs.Machine.{held-both}
-use Rattle.reader.proofs.range_faulty.Statement.{statement}
-use Rattle.reader.proofs.range_faulty.Tie as tie
+use Rattle.refusals.proofs.range_faulty.Statement.{statement}
+use Rattle.refusals.proofs.range_faulty.Tie as tie
 
 returns : tie.Need-returns
 returns c = sym (simp (c .if1 .taken))

@@ -1,6 +1,6 @@
--- `reader::bytes_refused` meets its contract: the bytes before the loop's place are allowed, so that the rest decides.
-use Prim.Native.Nat.{_+_, _≤_, _<_, _-_}
-use mathlib.Core.Path.{_≡_, refl, sym, ap, _∙_}
+-- `refusals::bytes_refused` meets its contract: the bytes before the loop's place are allowed, so that the rest decides.
+use Prim.Native.Nat.{_≤_, _-_}
+use mathlib.Core.Path.{_≡_, refl, sym, _∙_}
 use native.Mathlib.Omega.{arith}
 use borrow.Author.Needs.{needs}
 use borrow.Author.Tests.{not-true, not-false}
@@ -8,9 +8,9 @@ use mathlib.Core.Bool.{not}
 use lib.ListN.{length, drop}
 use Rattle.sheet.specs.Refusal.{isAllowed}
 use Rattle.sheet.specs.Reading.{anyOf}
-use Rattle.reader.proofs.Lines.{allowed-step, barred-here, allowed-end, refuses1-long, refuses1-short}
-use Rattle.reader.proofs.bytes_refused.Statement.{statement}
-use Rattle.reader.proofs.bytes_refused.Tie as tie
+use Rattle.refusals.proofs.Lines.{allowed-step, barred-here, allowed-end, refuses1-long, refuses1-short}
+use Rattle.refusals.proofs.bytes_refused.Statement.{statement}
+use Rattle.refusals.proofs.bytes_refused.Tie as tie
 
 abbrev Inv-loop : tie.InvT-loop
 Inv-loop text i₀ i = (i ≤ length text) × (anyOf (λ b. not (isAllowed b)) text ≡ anyOf (λ b. not (isAllowed b)) (drop i text))

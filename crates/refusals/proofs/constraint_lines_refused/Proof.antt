@@ -1,6 +1,6 @@
--- `reader::constraint_lines_refused` meets its contract: what the lines before the loop's place gave is counted, and none of them is too deep.
-use Prim.Native.Nat.{_+_, _≤_, _<_, _-_}
-use mathlib.Core.Path.{_≡_, refl, sym, ap, _∙_}
+-- `refusals::constraint_lines_refused` meets its contract: what the lines before the loop's place gave is counted, and none of them is too deep.
+use Prim.Native.Nat.{_-_}
+use mathlib.Core.Path.{sym, ap, _∙_}
 use native.Mathlib.Omega.{arith}
 use borrow.Author.Needs.{needs}
 use borrow.Author.Tests.{lt-ltb, le-ltb}
@@ -8,9 +8,9 @@ use lib.ListN.{length}
 use mathlib.Core.Bool.{_||_}
 use lib.Dec.{ltb}
 use Rattle.scan.proofs.Lines.{line-within}
-use Rattle.reader.proofs.Lines.{Counted, counted-start, counted-step, counted-deep, counted-end}
-use Rattle.reader.proofs.constraint_lines_refused.Statement.{statement}
-use Rattle.reader.proofs.constraint_lines_refused.Tie as tie
+use Rattle.refusals.proofs.Lines.{Counted, counted-start, counted-step, counted-deep, counted-end}
+use Rattle.refusals.proofs.constraint_lines_refused.Statement.{statement}
+use Rattle.refusals.proofs.constraint_lines_refused.Tie as tie
 
 abbrev Inv-loop : tie.InvT-loop
 Inv-loop text count₀ tokens₀ at₀ count tokens at = Counted text count tokens at

@@ -1,9 +1,9 @@
--- `reader::header_of` meets its contract: each line is found where the one before it ends.
+-- `refusals::header_of` meets its contract: each line is found where the one before it ends.
 use mathlib.Core.Path.{refl}
 use borrow.Author.Needs.{needs}
-use Rattle.reader.proofs.Lines.{header-lines}
-use Rattle.reader.proofs.header_of.Statement.{statement}
-use Rattle.reader.proofs.header_of.Tie as tie
+use Rattle.refusals.proofs.Lines.{header-lines}
+use Rattle.refusals.proofs.header_of.Statement.{statement}
+use Rattle.refusals.proofs.header_of.Tie as tie
 
 next-line-requires : tie.Need-next-line-requires
 next-line-requires c κs = search needs

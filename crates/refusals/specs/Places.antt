@@ -9,7 +9,7 @@ use Rattle.text.specs.Bytes.{lines}
 use Rattle.sheet.specs.Refusal.{constraintBound, tokenBound, tokenCount}
 use Rattle.sheet.specs.Reading.{anyOf, tooDeepFrom}
 use Rattle.scan.specs.Place.{between}
-use Rattle.reader.specs.declared.Header.{Header}
+use Rattle.refusals.specs.declared.Header.{Header}
 
 -- The places are those of the first three lines, a missing line without bytes, and of the lines after them.
 pub record HeaderOf (text : List ℕ) (h : Header) : Type 0 where

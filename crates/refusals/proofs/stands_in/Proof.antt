@@ -1,11 +1,11 @@
--- `reader::stands_in` meets its contract: the place of a token that is none of the line's is their number.
+-- `refusals::stands_in` meets its contract: the place of a token that is none of the line's is their number.
 use mathlib.Core.Path.{ap₂, _∙_}
 use lib.Dec.{ltb}
 use borrow.Author.Needs.{needs}
 use Rattle.text.specs.Bytes.{tokens}
-use Rattle.reader.proofs.Names.{placeOf-below}
-use Rattle.reader.proofs.stands_in.Statement.{statement}
-use Rattle.reader.proofs.stands_in.Tie as tie
+use Rattle.refusals.proofs.Names.{placeOf-below}
+use Rattle.refusals.proofs.stands_in.Statement.{statement}
+use Rattle.refusals.proofs.stands_in.Tie as tie
 
 place-of-requires : tie.Need-place-of-requires
 place-of-requires c κs = search needs

@@ -1,4 +1,4 @@
--- `reader::names_refused` meets its contract: no name before the loop's place is reserved or stands again, so that the rest decides.
+-- `refusals::names_refused` meets its contract: no name before the loop's place is reserved or stands again, so that the rest decides.
 use Prim.Native.Nat.{ℕ, _≤_, _-_}
 use mathlib.Core.Path.{_≡_, refl, sym, ap, _∙_}
 use mathlib.Core.List.{List}
@@ -9,11 +9,11 @@ use Rattle.text.specs.Bytes.{tokens}
 use Rattle.text.specs.Token.{isOneOf}
 use Rattle.scan.specs.Place.{between}
 use Rattle.scan.proofs.Tokens.{token-within, token-empty, token-after, token-tokens}
-use Rattle.reader.specs.Names.{namesRefused}
-use Rattle.reader.proofs.Lines.{between-all}
-use Rattle.reader.proofs.Names.{names-none, names-reserved, names-twice, names-later}
-use Rattle.reader.proofs.names_refused.Statement.{statement}
-use Rattle.reader.proofs.names_refused.Tie as tie
+use Rattle.refusals.specs.Names.{namesRefused}
+use Rattle.refusals.proofs.Lines.{between-all}
+use Rattle.refusals.proofs.Names.{names-none, names-reserved, names-twice, names-later}
+use Rattle.refusals.proofs.names_refused.Statement.{statement}
+use Rattle.refusals.proofs.names_refused.Tie as tie
 
 abbrev Inv-loop : tie.InvT-loop
 Inv-loop line at₀ at = (at ≤ length line) × (namesRefused (tokens line) ≡ namesRefused (tokens (drop at line)))

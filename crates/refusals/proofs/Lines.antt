@@ -1,6 +1,6 @@
 -- What the lines found in a text say of refusals 1 and 2 and of the header. From the places of lines.
-use Prim.Native.Nat.{ℕ, zero, suc, _+_, _-_, _≤_, _<_}
-use mathlib.Core.Path.{_≡_, refl, sym, ap, ap₂, subst, _∙_}
+use Prim.Native.Nat.{ℕ, suc, _+_, _-_, _≤_, _<_}
+use mathlib.Core.Path.{_≡_, refl, sym, ap, ap₂, _∙_}
 use mathlib.Core.Bool.{Bool, true, false, not, _||_}
 use mathlib.Core.List.{List, [], _∷_, _++_, append-nil}
 use native.Mathlib.Omega.{arith}
@@ -16,10 +16,10 @@ use Rattle.sheet.specs.Reading.{anyOf, tooDeepFrom, refuses1, refuses2}
 use Rattle.scan.specs.Place as place
 use Rattle.scan.specs.Place.{LineAt, noLine, endedLine, lastLine}
 use Rattle.scan.specs.declared.LineSpan.{LineSpan}
-use Rattle.scan.proofs.Lines.{Within, line-within}
+use Rattle.scan.proofs.Lines.{line-within}
 use Rattle.scan.proofs.Tokens.{between-none, between-length, between-split, drop-at, drop-end}
-use Rattle.reader.specs.Places.{HeaderOf, constraintLinesRefused}
-use Rattle.reader.specs.declared.Header.{Header}
+use Rattle.refusals.specs.Places.{HeaderOf, constraintLinesRefused}
+use Rattle.refusals.specs.declared.Header.{Header}
 
 -- ---- refusal 1
 

@@ -1,11 +1,11 @@
--- `reader::counts_refused` meets its contract, test by test: D and B are each at most the sum.
+-- `refusals::counts_refused` meets its contract, test by test: D and B are each at most the sum.
 use Prim.Native.Nat.{_+_, _<_}
 use mathlib.Core.Path.{sym}
 use native.Mathlib.Omega.{arith}
 use borrow.Author.Needs.{needs}
 use borrow.Author.Tests.{lt-ltb, le-ltb}
-use Rattle.reader.proofs.counts_refused.Statement.{statement}
-use Rattle.reader.proofs.counts_refused.Tie as tie
+use Rattle.refusals.proofs.counts_refused.Statement.{statement}
+use Rattle.refusals.proofs.counts_refused.Tie as tie
 
 returns : tie.Need-returns
 returns c = sym (simp (lt-ltb _ _ (c .if1 .taken)))

@@ -1,8 +1,8 @@
--- `reader::is_allowed` meets its contract: the three tests are those of the definition.
+-- `refusals::is_allowed` meets its contract: the three tests are those of the definition.
 use mathlib.Core.Path.{sym}
 use borrow.Author.Tests.{lt-leb, le-leb, eq-eqb, ne-eqb}
-use Rattle.reader.proofs.is_allowed.Statement.{statement}
-use Rattle.reader.proofs.is_allowed.Tie as tie
+use Rattle.refusals.proofs.is_allowed.Statement.{statement}
+use Rattle.refusals.proofs.is_allowed.Tie as tie
 
 returns : tie.Need-returns
 returns c = sym (simp (eq-eqb _ _ (c .if1 .taken)))

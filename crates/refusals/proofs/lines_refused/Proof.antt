@@ -1,16 +1,16 @@
--- `reader::lines_refused` meets its contract: line 1 and the constraint lines decide.
-use Prim.Native.Nat.{_+_, _≤_, _<_, _-_}
-use mathlib.Core.Path.{_≡_, refl, sym, ap, _∙_}
+-- `refusals::lines_refused` meets its contract: line 1 and the constraint lines decide.
+use Prim.Native.Nat.{_-_}
+use mathlib.Core.Path.{refl, sym, ap, _∙_}
 use native.Mathlib.Omega.{arith}
 use borrow.Author.Needs.{needs}
 use mathlib.Core.Bool.{_||_}
-use lib.ListN.{length, drop}
+use lib.ListN.{drop}
 use borrow.Author.Tests.{lt-ltb, le-ltb}
 use Rattle.text.specs.Bytes.{lines}
-use Rattle.reader.specs.Places.{constraintLinesRefused}
-use Rattle.reader.proofs.Lines.{between-all, lines-refused}
-use Rattle.reader.proofs.lines_refused.Statement.{statement}
-use Rattle.reader.proofs.lines_refused.Tie as tie
+use Rattle.refusals.specs.Places.{constraintLinesRefused}
+use Rattle.refusals.proofs.Lines.{between-all, lines-refused}
+use Rattle.refusals.proofs.lines_refused.Statement.{statement}
+use Rattle.refusals.proofs.lines_refused.Tie as tie
 
 header-of-requires : tie.Need-header-of-requires
 header-of-requires c κs = search needs

@@ -1,5 +1,5 @@
 -- Laws of the tests on the names of line 1.
-use Prim.Native.Nat.{ℕ, suc, _<_, _≤_}
+use Prim.Native.Nat.{ℕ, suc}
 use mathlib.Core.Path.{_≡_, refl, sym, ap, ap₂, _∙_}
 use mathlib.Core.Bool.{Bool, true, false, not, cond, _&&_, _||_}
 use mathlib.Core.List.{List, [], _∷_}
@@ -9,7 +9,7 @@ use Rattle.text.specs.Bytes.{Token}
 use Rattle.text.specs.Token.{sameBytes, isOneOf, isReserved}
 use Rattle.sheet.specs.Vocabulary.{placeOf}
 use Rattle.sheet.specs.Reading.{anyOf, areDistinct}
-use Rattle.reader.specs.Names.{namesRefused}
+use Rattle.refusals.specs.Names.{namesRefused}
 
 ltb-suc : (m n : ℕ) → ltb (suc m) (suc n) ≡ ltb m n
 ltb-suc m n = leb·suc-suc (suc m) n

@@ -1,7 +1,7 @@
--- `reader::form_refusal` meets its contract, test by test.
+-- `refusals::form_refusal` meets its contract, test by test.
 use mathlib.Core.Path.{sym}
-use Rattle.reader.proofs.form_refusal.Statement.{statement}
-use Rattle.reader.proofs.form_refusal.Tie as tie
+use Rattle.refusals.proofs.form_refusal.Statement.{statement}
+use Rattle.refusals.proofs.form_refusal.Tie as tie
 
 returns : tie.Need-returns
 returns c = sym (simp (c .if1 .taken))
