@@ -1,13 +1,11 @@
 -- `refine::refine` meets its contract: the rounds run where all lists hold as many rows, and the work tables are cleared after them;
 -- else nothing changes.
-use Prim.Native.Nat.{ℕ, _≤_, _<_}
-use mathlib.Core.Path.{_≡_, refl, ap, _∙_}
+use mathlib.Core.Path.{_≡_, refl, _∙_}
 use mathlib.Core.Bool.{true}
-use mathlib.Core.List.{List}
 use borrow.Author.Tests.{not-true, not-false}
 use native.Mathlib.Omega.{arith}
-use lib.ListN.{length, replicate}
 use Rattle.marks.proofs.Laws.{says-yes, says-no}
+use Rattle.marks.proofs.Clearing.{zeroed}
 use Rattle.refine.specs.Classes.{Sizes}
 use borrow.Author.Needs.{needs}
 use Rattle.refine.proofs.refine.Statement.{statement}
@@ -28,10 +26,6 @@ sizes c e =
       links-fit = h .4;
       shared-fits = h .5;
     }
-
--- a list that was filled with zeros, and had the length of another before
-zeroed : {list : List ℕ} {m n : ℕ} → list ≡ replicate m 0 → m ≡ n → list ≡ replicate n 0
-zeroed e h = e ∙ ap (λ n. replicate n 0) h
 
 returns : tie.Need-returns
 returns c = record { fits = λ z. absurd (omega (arith, z .few, c .if1 .taken)); unchanged = λ z. (refl, refl, refl, refl, refl) }
