@@ -69,7 +69,8 @@ pub record GraphZero (before after : Lent) : Type 0 where
   pub flags-zero : after .flags ≡ replicate (length (before .flags)) 0
 
 -- `ready` says whether the sheet can be explored in the tables, `full` whether there are more rows than the limit. The keys and the chains are
--- zero afterwards. If the rows are found, their entries and flags stand in the tables; if not, every table is zero.
+-- zero afterwards. If the rows are found, their entries and flags stand in the tables; if not, every table is zero. So nothing is left open
+-- (`Rattle.explore.proofs.Unique`).
 pub record ExploresStored (A : Arithmetic) (K : Store) (letters limit : ℕ) (before after : Lent) (ready full : Bool) (count : ℕ) : Type 0 where
   pub answer : Says ready (IsExplorable K letters limit before)
   pub work-zero : WorkZero before after
