@@ -14,12 +14,12 @@ use Rattle.automaton.proofs.Flags.{flag-unique}
 use Rattle.automaton.proofs.Paths.{follows-agree, begins-entry, entry-state}
 
 -- two places in the order "state by state and letter by letter"
-data Compared (i a j b : ℕ) : Type 0 where
+pub data Compared (i a j b : ℕ) : Type 0 where
   before : Before i a j b → Compared i a j b
   equal : i ≡ j → a ≡ b → Compared i a j b
   after : Before j b i a → Compared i a j b
 
-compared : (i a j b : ℕ) → Compared i a j b
+pub compared : (i a j b : ℕ) → Compared i a j b
 compared i a j b = go (decLt i j) (decLt j i) (decLt a b) (decLt b a)
   where
     go : Dec (i < j) → Dec (j < i) → Dec (a < b) → Dec (b < a) → Compared i a j b

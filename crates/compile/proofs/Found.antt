@@ -36,8 +36,12 @@ module _ {A : Arithmetic} {K : Store} {letters limit count : ℕ} {before after 
   count-within = by ready refl
     where
       by : (b : Bool) → ready ≡ b → count ≤ limit
-      by true e = found .searched e .within
-      by false e = omega (arith, found .refused e .no-rows)
+      by true e = both full refl
+        where
+          both : (b : Bool) → full ≡ b → count ≤ limit
+          both true f = found .more e f .0 .searched .within
+          both false f = found .rows e f .searched .within
+      by false e = omega (arith, found .refused e .1)
 
   -- Without rows nothing is explored.
   no-rows : limit ≡ 0 → cond full 0 count ≡ 0
@@ -45,7 +49,7 @@ module _ {A : Arithmetic} {K : Store} {letters limit count : ℕ} {before after 
     where
       by : (b : Bool) → ready ≡ b → cond full 0 count ≡ 0
       by true e = absurd (omega (arith, says-yes e (found .answer) .1 .some-row))
-      by false e = ap (λ b. cond b 0 count) (found .refused e .not-full) ∙ found .refused e .no-rows
+      by false e = ap (λ b. cond b 0 count) (found .refused e .0) ∙ found .refused e .1
 
 module _ {A : Arithmetic} (lawful : LawfulArithmetic A) {s : Sheet} (accepted : Accepted A s) {kinds : List ℕ} {values : List ℤ} {starts relations lefts rights firstNodes : List ℕ} {lows highs : List ℤ} {ahead width letters : ℕ}
     (slices : SlicesOf s kinds values starts relations lefts rights firstNodes lows highs ahead width letters) (letterValues out : List ℤ) (long : HasRoom s out)

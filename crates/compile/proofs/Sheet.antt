@@ -25,7 +25,7 @@ use Rattle.explore.proofs.GraphLaws.{row-bits, row-targets, row-flags-stay, row
 use Rattle.minimise.specs.StoredGraph.{IsStoredGraph, stored-graph}
 use Rattle.minimise.specs.Outcome.{Tables as Held, cleared, IsAccepted, IsRefusal, NoWord, HasTable, MinimiseOutcome}
 use Rattle.minimise.specs.declared.Minimised.{Minimised}
-use Rattle.minimise.proofs.Outcome.{all-zero}
+use Rattle.marks.proofs.Clearing.{all-zero}
 use Rattle.outcome.specs.Room.{zeros, zeroTables}
 use Rattle.outcome.specs.Compile.{refusedBy, Room, roomRows, Tables, allZero, SituationsFit, SheetOutcome, tooManySituations, tooFewRows, noSolution, compiled, situationBound}
 use Rattle.outcome.proofs.CompileTotal.{no-streams}

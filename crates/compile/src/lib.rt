@@ -122,7 +122,6 @@ fn explored(
         entries,
         finals,
     );
-    marks::fill(keys, 0);
     if found.full { 0 } else { found.count }
 }
 

@@ -2,12 +2,13 @@
 use mathlib.Core.Path.{_≡_, refl, sym, ap, _∙_, subst}
 use mathlib.Core.Logic.{_≢_, ⊎-elim}
 use mathlib.Core.List.{List, [], _∷_, _++_}
-use Prim.Native.Nat.{ℕ, zero, suc, _+_, _-_, _*_, _%_, _≤_, _<_}
+use Prim.Native.Nat.{ℕ, _+_, _-_, _*_, _%_, _≤_, _<_}
 use native.Mathlib.Nat.{mod-lt, not-suc-le-zero}
 use native.Mathlib.Omega.{arith}
 use native.Mathlib.Decide.{ℕ-discrete}
 use lib.ListN.{length, getD, set, take, drop, length-take, length-drop, length-set, List·getD-append, replicate, length-replicate}
 use lib.Seq.{getD-set-same, getD-set-other, getD-take, getD-drop, length-take-le, ext-getD, paste, length-paste, length-paste-head, getD-append-add, take-paste}
+use Rattle.marks.proofs.Clearing.{zeros}
 use Rattle.explore.specs.Chains.{keySize, rowAt, bucketOf, Chained, Tables, Finds, Inserts}
 
 pub bucket-lt : (m : ℕ) (key : List ℕ) → 0 < m → bucketOf m key < m
@@ -143,11 +144,6 @@ none-chained heads links keys some empty =
       };
     }
 
-zero-anywhere : (n k : ℕ) → _≡_ {A = ℕ} (getD (replicate n 0) k 0) 0
-zero-anywhere zero k = refl
-zero-anywhere (suc n) zero = refl
-zero-anywhere (suc n) (suc k) = zero-anywhere n k
-
 pub cleared-chained : (heads heads′ links keys : List ℕ) → 0 < length heads → heads′ ≡ replicate (length heads) 0 → Tables heads′ links keys 0
 cleared-chained heads heads′ links keys some e =
-    none-chained heads′ links keys (omega (arith, ap length e, length-replicate {A = ℕ} (length heads) 0)) (λ k. ap (λ l. getD l k 0) e ∙ zero-anywhere (length heads) k)
+    none-chained heads′ links keys (omega (arith, ap length e, length-replicate {A = ℕ} (length heads) 0)) (λ k. ap (λ l. getD l k 0) e ∙ zeros (length heads) k)

@@ -18,3 +18,4 @@ pub mod StoredFirstNodes
 pub mod StoredKeys
 pub mod SizeLaws
 pub mod SheetSizes
+pub mod Unique

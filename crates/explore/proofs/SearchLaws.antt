@@ -19,9 +19,13 @@ use Rattle.meaning.specs.Arithmetic.{Arithmetic}
 use Rattle.explore.specs.Chains.{rowAt, Tables, Finds, Inserts}
 use Rattle.explore.specs.Key.{letterRoom}
 use Rattle.explore.specs.Step.{Store, judgedAfter, keyAfter, streamRoom, HasValues, IsKey}
-use Rattle.explore.specs.Search.{startKey, everyMark, flagOf, Settled, Followed, Searched, Turn, Reach, Reach.start, Reach.step, Known, IsRow, IsLent}
+use Rattle.explore.specs.Search.{startKey, everyMark, flagOf, Settled, Followed, Searched, Turn, Reach, Reach.start, Reach.step, Known, IsRow, Kept, KeptBehind, IsLent}
 use Rattle.explore.proofs.PreparedLaws.{one-more}
 use Rattle.explore.proofs.StepLaws.{keyAfter-key}
+
+-- an answer is not both
+pub true-not-false : {P : Type 0} → true ≡ false → P
+true-not-false e = let z : _≡_ {A = ℕ} 0 1 = cc in absurd (omega arith)
 
 -- ---- the marks of all untils
 
@@ -138,6 +142,47 @@ before-next s a s′ a′ p = ⊎-elim (λ h. inl h) (λ h. inr (h .0, omega (ar
 
 before-row : (s a s′ a′ : ℕ) → Before s a s′ a′ → s ≤ s′
 before-row s a s′ a′ p = ⊎-elim (λ h. omega (arith, h)) (λ h. omega (arith, h .0)) p
+
+-- ---- what stands behind the present place
+
+pub kept-refl : (entries flags : List ℕ) (at n : ℕ) → Kept entries flags at n entries flags at n
+kept-refl entries flags at n = record { at-le = omega arith; n-le = omega arith; entries-same = λ i h. refl; flags-same = λ i h. refl }
+
+pub kept-trans : {entries₀ flags₀ entries flags entries′ flags′ : List ℕ} {at₀ n₀ at n at′ n′ : ℕ} → Kept entries₀ flags₀ at₀ n₀ entries flags at n → Kept entries flags at n entries′ flags′ at′ n′
+    → Kept entries₀ flags₀ at₀ n₀ entries′ flags′ at′ n′
+kept-trans x y =
+    record {
+      at-le = omega (arith, x .at-le, y .at-le);
+      n-le = omega (arith, x .n-le, y .n-le);
+      entries-same = λ i h. y .entries-same i h ∙ x .entries-same i (omega (arith, y .at-le));
+      flags-same = λ i h. y .flags-same i h ∙ x .flags-same i (omega (arith, y .n-le));
+    }
+
+module _ {entries₀ flags₀ entries flags : List ℕ} {at₀ n₀ at n : ℕ} (v : ℕ) (k : Kept entries₀ flags₀ at₀ n₀ entries flags at n) where
+  stored-behind : (i : ℕ) → at + 1 ≤ i → getD (set entries at v) i 0 ≡ getD entries₀ i 0
+  stored-behind i h = getD-set-other entries at i v 0 (omega arith) ∙ k .entries-same i (omega arith)
+
+  -- An entry is stored, and no row is added.
+  kept-stored : {flags′ : List ℕ} → flags′ ≡ flags → Kept entries₀ flags₀ at₀ n₀ (set entries at v) flags′ (at + 1) n
+  kept-stored e = record { at-le = omega (arith, k .at-le); n-le = k .n-le; entries-same = stored-behind; flags-same = λ i h. ap (λ l. getD l i 0) e ∙ k .flags-same i h }
+
+  -- An entry is stored, and a row is added with its flag.
+  kept-added : {flags′ : List ℕ} (flag : ℕ) → flags′ ≡ set flags n flag → Kept entries₀ flags₀ at₀ n₀ (set entries at v) flags′ (at + 1) (n + 1)
+  kept-added flag e =
+      record {
+        at-le = omega (arith, k .at-le);
+        n-le = omega (arith, k .n-le);
+        entries-same = stored-behind;
+        flags-same = λ i h. ap (λ l. getD l i 0) e ∙ getD-set-other flags n i flag 0 (omega arith) ∙ k .flags-same i (omega arith);
+      }
+
+-- The search is over at the end of the last row.
+pub kept-end : {entries₀ flags₀ entries flags : List ℕ} {at₀ n₀ at n s letters : ℕ} → s ≤ n → n ≤ s → at ≡ s * letters + 0 → length entries ≡ length entries₀ → length flags ≡ length flags₀
+    → Kept entries₀ flags₀ at₀ n₀ entries flags at n → KeptBehind letters n entries₀ flags₀ entries flags
+kept-end {n = n} {s} {letters} a b here el fl k =
+    let same : s ≡ n = omega arith in
+    let rows : s * letters ≡ n * letters = ap (λ x. x * letters) same in
+    record { entries-long = el; flags-long = fl; entries-same = λ i h. k .entries-same i (omega arith); flags-same = k .flags-same }
 
 -- ---- the search
 
@@ -323,6 +368,10 @@ module _ (A : Arithmetic) (K : Store) (letters limit every : ℕ) where
               order = u .order;
             }
 
+    -- What stands behind the present place stays, and no row is added.
+    pub kept-old : {entries₀ flags₀ : List ℕ} {at₀ n₀ : ℕ} → (r ≡ n → ⊥) → Kept entries₀ flags₀ at₀ n₀ entries flags at n → Kept entries₀ flags₀ at₀ n₀ (set entries at r) flags′ (at + 1) n
+    kept-old other k = kept-stored r k (⊎-elim (λ x. x .4) (λ x. x .1 .kept (inl (omega (arith, x .1 .within))) .2) f)
+
     none-bound : r ≡ no-state → r ≡ n → ⊥
     none-bound e h = not-suc-le-zero (let z : n < 0 = omega (arith, t .n-le) in z)
 
@@ -336,6 +385,12 @@ module _ (A : Arithmetic) (K : Store) (letters limit every : ℕ) where
         subst (λ v. Turn A K letters limit every keys′ (set entries at v) flags′ heads′ links′ (n + 1) s (a + 1) (at + 1)) (sym e)
         (subst (λ y. Turn A K letters limit every keys′ (set entries at n) y heads′ links′ (n + 1) s (a + 1) (at + 1)) (sym (d .2))
         (turn-new t row letter room (keyAfter A K (rowAt keys s) a) keys′ heads′ links′ space (omega arith) (x .1 .absent e) (d .0) (d .1) (x .0) refl))) f
+
+    -- What stands behind the present place and the new row stays.
+    pub kept-new : {entries₀ flags₀ : List ℕ} {at₀ n₀ : ℕ} → r ≡ n → (n ≡ limit → ⊥) → Kept entries₀ flags₀ at₀ n₀ entries flags at n → Kept entries₀ flags₀ at₀ n₀ (set entries at r) flags′ (at + 1) (n + 1)
+    kept-new e h k =
+        kept-added r k (flagOf every (keyAfter A K (rowAt keys s) a))
+        (⊎-elim (λ x. absurd (none-bound (x .0) e)) (λ x. x .1 .added e (let space : n < limit = omega (arith, t .n-le) in space) .2) f)
 
     -- There is no room for a new row.
     pub follow-full : r ≡ n → n ≡ limit → Searched A K letters limit every keys′ entries flags′ true n
@@ -416,3 +471,15 @@ pub settled-start : {A : Arithmetic} {K : Store} {letters limit every : ℕ} {ke
 settled-start {A} {K} {letters} {limit} {every} {keys} {flags} {heads′} {links′} {keys′} {flags′} {r} space room s =
     let d = s .added (omega (arith, s .within)) space in
     (d .0, subst (λ f. Known A K letters every keys′ f 1) (sym (d .2)) (known-start A K letters limit every flags (omega arith) (d .1)))
+
+-- What stands behind the rows is as it was before the empty record's row was added.
+pub settled-behind : {limit every letters n : ℕ} {keys flags heads′ links′ keys′ flags′ entries entries″ flags″ : List ℕ} {r : ℕ} → 0 < limit → 0 < n → length flags′ ≡ length flags
+    → Settled limit every 0 startKey keys flags heads′ links′ keys′ flags′ r → KeptBehind letters n entries flags′ entries″ flags″ → KeptBehind letters n entries flags entries″ flags″
+settled-behind {every = every} {flags = flags} space some same s k =
+    let d = s .added (omega (arith, s .within)) space in
+    record {
+      entries-long = k .entries-long;
+      flags-long = k .flags-long ∙ same;
+      entries-same = k .entries-same;
+      flags-same = λ i h. k .flags-same i h ∙ ap (λ l. getD l i 0) (d .2) ∙ getD-set-other flags 0 i (flagOf every startKey) 0 (omega arith);
+    }

@@ -3,8 +3,8 @@
 use Prim.Native.Nat.{ℕ, _+_, _*_, _≤_, _<_}
 use native.Mathlib.Omega.{arith}
 use native.Mathlib.Nat.{mul-le-mul}
-use mathlib.Core.Path.{_≡_, sym, _∙_, ap₂, subst}
-use mathlib.Core.Bool.{Bool, true}
+use mathlib.Core.Path.{_≡_, refl, sym, _∙_, ap₂, subst}
+use mathlib.Core.Bool.{Bool, true, false}
 use mathlib.Core.List.{List, map}
 use lib.IntN.{ℤ}
 use lib.ListN.{length, length-map}
@@ -93,8 +93,16 @@ pub stored-explored : {A : Arithmetic} → LawfulArithmetic A → {s : Sheet} �
     → letters ≡ letterCount (s .streams) → IsExplorable K letters limit before → ExploresStored A K letters limit before after ready full count
     → (ready ≡ true) × ExploreOutcome A s full limit count (after .entries) (after .flags)
 stored-explored {A} lawful {s} accepted {K} stored {letters} {limit} {count} {before} {after} {ready} {full} same explorable found =
-    let yes = says-holds ready (found .answer) explorable in (
-      yes,
-      stored-outcome lawful accepted stored full
-          (subst (λ n. Searched A K n limit (everyMark 0 (K .relations)) (after .keys) (after .entries) (after .flags) full count) same (found .searched yes)),
-    )
+    let yes = says-holds ready (found .answer) explorable in (yes, by full refl)
+  where
+    by : (b : Bool) → full ≡ b → ExploreOutcome A s full limit count (after .entries) (after .flags)
+    by true e =
+        subst (λ b. ExploreOutcome A s b limit count (after .entries) (after .flags)) (sym e)
+        (stored-outcome lawful accepted stored true
+        (let more = found .more (says-holds ready (found .answer) explorable) e .0 in
+        subst (λ n. Searched A K n limit (everyMark 0 (K .relations)) (more .keys) (more .entries) (more .flags) true count) same (more .searched)))
+    by false e =
+        subst (λ b. ExploreOutcome A s b limit count (after .entries) (after .flags)) (sym e)
+        (stored-outcome lawful accepted stored false
+        (let rows = found .rows (says-holds ready (found .answer) explorable) e in
+        subst (λ n. Searched A K n limit (everyMark 0 (K .relations)) (rows .keys) (after .entries) (after .flags) false count) same (rows .searched)))

@@ -1,17 +1,21 @@
 -- The sizes of a stored sheet and of lent tables: the tests of their lengths say whether the sheet can be explored in the tables, and what
--- `explore_stored` answers follows from what the search leaves.
+-- `explore_stored` answers and leaves follows from what the search leaves.
 use Prim.Native.Nat.{ℕ, _+_, _*_, _≤_, _<_}
 use native.Mathlib.Omega.{arith}
 use native.Mathlib.Nat.{le-trans, mul-le-mul-left, mul-le-mul-right}
-use mathlib.Core.Path.{_≡_, refl}
+use mathlib.Core.Path.{_≡_, refl, sym, _∙_, subst}
 use mathlib.Core.Bool.{Bool, true, false}
-use lib.ListN.{length}
+use mathlib.Core.List.{List}
+use lib.ListN.{length, replicate}
 use Rattle.meaning.specs.Arithmetic.{Arithmetic}
 use Rattle.explore.specs.Chains.{keySize}
 use Rattle.explore.specs.Key.{letterRoom, firstRoom}
 use Rattle.explore.specs.Step.{Store, streamRoom, IsReady}
-use Rattle.explore.specs.Search.{everyMark, Searched, IsLent}
-use Rattle.explore.specs.Exploration.{Lent, IsExplorable, ExploresStored}
+use Rattle.explore.specs.Search.{everyMark, Searched, KeptBehind, IsLent}
+use Rattle.explore.specs.Exploration.{Lent, IsExplorable, Explores, Discards, WorkZero, GraphZero, ExploresStored}
+use Rattle.marks.specs.Clearing.{ClearedFrom}
+use Rattle.marks.proofs.Clearing.{zeroed, cleared-all}
+use Rattle.explore.proofs.SearchLaws.{true-not-false}
 
 -- ---- sizes
 
@@ -51,28 +55,73 @@ module _ (K : Store) (letters limit : ℕ) (t : Lent) where
         flags-room = h .8;
       }
 
--- ---- what `explore_stored` answers
+-- ---- what the exploration answers
 
 module _ (A : Arithmetic) (K : Store) (letters limit : ℕ) (t : Lent) where
-  refusal : (IsExplorable K letters limit t → ⊥) → ExploresStored A K letters limit t t false false 0
+  refusal : (IsExplorable K letters limit t → ⊥) → Explores A K letters limit t t false false 0
   refusal n =
       record {
         answer = n;
         searched = λ e. let y : _≡_ {A = ℕ} 0 1 = cc in absurd (omega arith);
+        behind = λ e. let y : _≡_ {A = ℕ} 0 1 = cc in absurd (omega arith);
         refused = λ e. record { not-full = refl; no-rows = refl; same = refl };
       }
 
-  pub not-ready : (ReadySizes K → ⊥) → ExploresStored A K letters limit t t false false 0
+  pub not-ready : (ReadySizes K → ⊥) → Explores A K letters limit t t false false 0
   not-ready n = refusal (λ h. n (ready-sizes (h .0)))
 
-  pub not-lent : (LentSizes K letters limit t → ⊥) → ExploresStored A K letters limit t t false false 0
+  pub not-lent : (LentSizes K letters limit t → ⊥) → Explores A K letters limit t t false false 0
   not-lent n = refusal (λ h. n (lent-sizes (h .1)))
 
   pub ready : {after : Lent} {full : Bool} {count : ℕ} → ReadySizes K → LentSizes K letters limit t
-      → Searched A K letters limit (everyMark 0 (K .relations)) (after .keys) (after .entries) (after .flags) full count → ExploresStored A K letters limit t after true full count
-  ready r l z =
+      → Searched A K letters limit (everyMark 0 (K .relations)) (after .keys) (after .entries) (after .flags) full count
+      → (full ≡ false → KeptBehind letters count (t .entries) (t .flags) (after .entries) (after .flags)) → Explores A K letters limit t after true full count
+  ready r l z k =
       record {
         answer = (sizes-ready r, sizes-lent-tables K letters limit t l);
         searched = λ e. z;
+        behind = λ e. k;
         refused = λ e. let y : _≡_ {A = ℕ} 0 1 = cc in absurd (omega arith);
       }
+
+-- ---- what stays of the entries and flags
+
+pub discards-kept : {ready full : Bool} {entries flags : List ℕ} → ready ≡ true → full ≡ false → Discards ready full entries flags entries flags
+discards-kept r f = record { rows = λ _ _. (refl, refl); more = λ _ g. true-not-false (sym g ∙ f); refused = λ g. true-not-false (sym r ∙ g) }
+
+pub discards-cleared : {ready full : Bool} {entries flags entries′ flags′ : List ℕ} → (ready ≡ true → full ≡ false → ⊥) → ClearedFrom entries entries′ 0 → ClearedFrom flags flags′ 0
+    → Discards ready full entries flags entries′ flags′
+discards-cleared n e f = record { rows = λ r g. absurd (n r g); more = λ _ _. (cleared-all e, cleared-all f); refused = λ _. (cleared-all e, cleared-all f) }
+
+-- What is left when the keys and the chains are cleared, and the entries and flags too unless rows were found.
+pub explored-stored : {A : Arithmetic} {K : Store} {letters limit : ℕ} {before handed after : Lent} {ready full : Bool} {count : ℕ} → Explores A K letters limit before handed ready full count
+    → length (handed .entries) ≡ length (before .entries) → length (handed .flags) ≡ length (before .flags)
+    → Discards ready full (handed .entries) (handed .flags) (after .entries) (after .flags) → WorkZero before after → ExploresStored A K letters limit before after ready full count
+explored-stored {A} {K} {letters} {limit} {before} {handed} {after} {ready} {full} {count} x el fl d w =
+    record {
+      answer = x .answer;
+      work-zero = w;
+      rows = λ r f.
+          let same = d .rows r f in
+          record {
+            keys = handed .keys;
+            searched = subst (λ l. Searched A K letters limit (everyMark 0 (K .relations)) (handed .keys) l (after .flags) false count) (sym (same .0))
+                (subst (λ l. Searched A K letters limit (everyMark 0 (K .relations)) (handed .keys) (handed .entries) l false count) (sym (same .1))
+                (subst (λ b. Searched A K letters limit (everyMark 0 (K .relations)) (handed .keys) (handed .entries) (handed .flags) b count) f (x .searched r)));
+            behind = subst (λ l. KeptBehind letters count (before .entries) (before .flags) l (after .flags)) (sym (same .0))
+                (subst (λ l. KeptBehind letters count (before .entries) (before .flags) (handed .entries) l) (sym (same .1)) (x .behind r f));
+          };
+      more = λ r f. (
+        record {
+          keys = handed .keys;
+          entries = handed .entries;
+          flags = handed .flags;
+          searched = subst (λ b. Searched A K letters limit (everyMark 0 (K .relations)) (handed .keys) (handed .entries) (handed .flags) b count) f (x .searched r);
+        },
+        graph-zero (d .more r f),
+      );
+      refused = λ r. (x .refused r .not-full, x .refused r .no-rows, graph-zero (d .refused r));
+    }
+  where
+    graph-zero : (after .entries ≡ replicate (length (handed .entries)) 0) × (after .flags ≡ replicate (length (handed .flags)) 0) → GraphZero before after
+    graph-zero z = record { entries-zero = zeroed (z .0) el; flags-zero = zeroed (z .1) fl }

@@ -3,10 +3,11 @@ use Prim.Native.Nat.{ℕ}
 use mathlib.Core.Path.{_≡_}
 use mathlib.Core.Bool.{Bool, true, false}
 use mathlib.Core.List.{List}
+use lib.ListN.{length, replicate}
 use Rattle.meaning.specs.Arithmetic.{Arithmetic}
 use Rattle.marks.specs.Answers.{Says}
 use Rattle.explore.specs.Step.{Store, IsReady}
-use Rattle.explore.specs.Search.{everyMark, Searched, IsLent}
+use Rattle.explore.specs.Search.{everyMark, Searched, KeptBehind, IsLent}
 
 -- the lent tables: the rows' keys, the chains by which keys are found, the entries and the flags
 pub record Lent : Type 0 where
@@ -29,11 +30,50 @@ pub record IsUntouched (before after : Lent) (full : Bool) (count : ℕ) : Type 
   pub no-rows : count ≡ 0
   pub same : after ≡ before
 
--- `ready` says whether the sheet can be explored in the tables. If so, the tables hold what the search leaves; if not, they are as they were.
--- Left free after a search: the chains (`heads` and `links`); what stands in keys, entries and flags behind the found rows; and, where there are
--- more situations than the limit, which of the keys that can be reached the rows hold, and the rows' entries but for the order in which they
--- first meet rows.
+module _ (A : Arithmetic) (K : Store) (letters limit : ℕ) (before after : Lent) where
+  -- What the exploration hands on before anything is cleared. `ready` says whether the sheet can be explored in the tables.
+  pub record Explores (ready full : Bool) (count : ℕ) : Type 0 where
+    pub answer : Says ready (IsExplorable K letters limit before)
+    pub searched : ready ≡ true → Searched A K letters limit (everyMark 0 (K .relations)) (after .keys) (after .entries) (after .flags) full count
+    pub behind : ready ≡ true → full ≡ false → KeptBehind letters count (before .entries) (before .flags) (after .entries) (after .flags)
+    pub refused : ready ≡ false → IsUntouched before after full count
+
+  -- The rows have the entries and flags of all keys that can be reached; what stands behind the rows is as it was.
+  pub record FindsRows (count : ℕ) : Type 0 where
+    pub keys : List ℕ
+    pub searched : Searched A K letters limit (everyMark 0 (K .relations)) keys (after .entries) (after .flags) false count
+    pub behind : KeptBehind letters count (before .entries) (before .flags) (after .entries) (after .flags)
+
+-- More keys than the limit can be reached: a search that found as many as the limit met another.
+pub record FindsMore (A : Arithmetic) (K : Store) (letters limit count : ℕ) : Type 0 where
+  pub keys : List ℕ
+  pub entries : List ℕ
+  pub flags : List ℕ
+  pub searched : Searched A K letters limit (everyMark 0 (K .relations)) keys entries flags true count
+
+-- "work tables are zero after every call"
+pub record WorkZero (before after : Lent) : Type 0 where
+  pub keys-zero : after .keys ≡ replicate (length (before .keys)) 0
+  pub heads-zero : after .heads ≡ replicate (length (before .heads)) 0
+  pub links-zero : after .links ≡ replicate (length (before .links)) 0
+
+-- the entries and flags are as they were if rows were found, and else zero
+pub record Discards (ready full : Bool) (entries flags entries′ flags′ : List ℕ) : Type 0 where
+  pub rows : ready ≡ true → full ≡ false → (entries′ ≡ entries) × (flags′ ≡ flags)
+  pub more : ready ≡ true → full ≡ true → (entries′ ≡ replicate (length entries) 0) × (flags′ ≡ replicate (length flags) 0)
+  pub refused : ready ≡ false → (entries′ ≡ replicate (length entries) 0) × (flags′ ≡ replicate (length flags) 0)
+
+-- no graph is left
+pub record GraphZero (before after : Lent) : Type 0 where
+  pub entries-zero : after .entries ≡ replicate (length (before .entries)) 0
+  pub flags-zero : after .flags ≡ replicate (length (before .flags)) 0
+
+-- `ready` says whether the sheet can be explored in the tables, `full` whether there are more rows than the limit. The keys and the chains are
+-- zero afterwards. If the rows are found, their entries and flags stand in the tables; if not, every table is zero. So nothing is left open
+-- (`Rattle.explore.proofs.Unique`).
 pub record ExploresStored (A : Arithmetic) (K : Store) (letters limit : ℕ) (before after : Lent) (ready full : Bool) (count : ℕ) : Type 0 where
   pub answer : Says ready (IsExplorable K letters limit before)
-  pub searched : ready ≡ true → Searched A K letters limit (everyMark 0 (K .relations)) (after .keys) (after .entries) (after .flags) full count
-  pub refused : ready ≡ false → IsUntouched before after full count
+  pub work-zero : WorkZero before after
+  pub rows : ready ≡ true → full ≡ false → FindsRows A K letters limit before after count
+  pub more : ready ≡ true → full ≡ true → FindsMore A K letters limit count × GraphZero before after
+  pub refused : ready ≡ false → (full ≡ false) × (count ≡ 0) × GraphZero before after

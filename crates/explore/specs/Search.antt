@@ -91,6 +91,20 @@ module _ (A : Arithmetic) (K : Store) (letters limit every : ℕ) where
     pub done : (s′ a′ : ℕ) → a′ < letters → Before s′ a′ s a → IsRow A K letters keys n (rowAt keys s′) a′ (entry-at letters entries s′ a′)
     pub order : Order letters entries n s a
 
+-- From the place `at` of the entries and the row n of the flags on, what stands there is as it was at an earlier place and row.
+pub record Kept (entries₀ flags₀ : List ℕ) (at₀ n₀ : ℕ) (entries flags : List ℕ) (at n : ℕ) : Type 0 where
+  pub at-le : at₀ ≤ at
+  pub n-le : n₀ ≤ n
+  pub entries-same : (i : ℕ) → at ≤ i → getD entries i 0 ≡ getD entries₀ i 0
+  pub flags-same : (i : ℕ) → n ≤ i → getD flags i 0 ≡ getD flags₀ i 0
+
+-- The entries and flags behind the first n rows are as they were.
+pub record KeptBehind (letters n : ℕ) (entries₀ flags₀ entries flags : List ℕ) : Type 0 where
+  pub entries-long : length entries ≡ length entries₀
+  pub flags-long : length flags ≡ length flags₀
+  pub entries-same : (i : ℕ) → n * letters ≤ i → getD entries i 0 ≡ getD entries₀ i 0
+  pub flags-same : (i : ℕ) → n ≤ i → getD flags i 0 ≡ getD flags₀ i 0
+
 -- The lent tables have room for as many rows as the limit, and every letter's values are there, with room behind them.
 pub record IsLent (K : Store) (letters limit : ℕ) (keys heads links entries flags : List ℕ) : Type 0 where
   pub few-letters : letters ≤ 1024

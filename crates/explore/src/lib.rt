@@ -13,6 +13,7 @@ use extend::prepare;
 use sizes::is_lent;
 use sizes::is_ready;
 ghost use mathlib.Core.Path.{_≡_};
+ghost use mathlib.Core.Bool.{false};
 ghost use Prim.Native.Nat.{_*_, _≤_, _<_};
 ghost use lib.Dec.{eqb};
 ghost use lib.ListN.{length};
@@ -20,8 +21,8 @@ ghost use Rattle.meaning.specs.Arithmetic.{cutTowardZero};
 ghost use Rattle.explore.specs.Chains.{keySize, rowAt, Tables};
 ghost use Rattle.explore.specs.Key.{digit};
 ghost use Rattle.explore.specs.Step.{storeOf, IsReady, HasValues, IsKey, Prepared};
-ghost use Rattle.explore.specs.Search.{everyMark, Settled, Known, Followed, Searched, IsLent};
-ghost use Rattle.explore.specs.Exploration.{lent, ExploresStored};
+ghost use Rattle.explore.specs.Search.{everyMark, Settled, Known, Followed, Searched, KeptBehind, IsLent};
+ghost use Rattle.explore.specs.Exploration.{lent, Explores, Discards, ExploresStored};
 
 // The number of situations, or that there are more than the limit.
 struct Explored {
@@ -174,6 +175,7 @@ fn search(
     requires { ⌜ IsLent (storeOf (now kinds) (now values) (now starts) (now relations) (now lefts) (now rights) (now «first_nodes») (now «letter_values») streams ahead width) letters limit (now keys) (now heads) (now links) (now entries) (now flags) ⌝ }
     requires { ⌜ Tables (now heads) (now links) (now keys) 1 × Known cutTowardZero (storeOf (now kinds) (now values) (now starts) (now relations) (now lefts) (now rights) (now «first_nodes») (now «letter_values») streams ahead width) letters every (now keys) (now flags) 1 ⌝ }
     ensures { λ r. ⌜ Searched cutTowardZero (storeOf (now (kinds .entry)) (now (values .entry)) (now (starts .entry)) (now (relations .entry)) (now (lefts .entry)) (now (rights .entry)) (now («first_nodes» .entry)) (now («letter_values» .entry)) streams ahead width) letters limit every (now (keys .exit)) (now (entries .exit)) (now (flags .exit)) (r .full) (r .count) ⌝ }
+    ensures { λ r. ⌜ (r .full ≡ false → KeptBehind letters (r .count) (now (entries .entry)) (now (flags .entry)) (now (entries .exit)) (now (flags .exit))) ⌝ }
 {
     let mut full = false;
     let mut n = 1;
@@ -238,7 +240,8 @@ fn search(
     Explored { full, count: n }
 }
 
-// Finds all keys that are reached from that of the empty record, or that there are more than the limit.
+// Finds all keys that are reached from that of the empty record, or that there are more than the limit, if the sheet keeps the bounds and the
+// tables have room; otherwise the tables stay as they are.
 fn explore(
     kinds: &[u8; 1024],
     values: &[i64; 1024],
@@ -258,60 +261,8 @@ fn explore(
     links: &mut [u32],
     entries: &mut [u16],
     flags: &mut [u8],
-) -> Explored
-    requires { ⌜ IsReady (storeOf (now kinds) (now values) (now starts) (now relations) (now lefts) (now rights) (now «first_nodes») (now «letter_values») streams ahead width) ⌝ }
-    requires { ⌜ IsLent (storeOf (now kinds) (now values) (now starts) (now relations) (now lefts) (now rights) (now «first_nodes») (now «letter_values») streams ahead width) letters limit (now keys) (now heads) (now links) (now entries) (now flags) ⌝ }
-    ensures { λ r. ⌜ Searched cutTowardZero (storeOf (now (kinds .entry)) (now (values .entry)) (now (starts .entry)) (now (relations .entry)) (now (lefts .entry)) (now (rights .entry)) (now («first_nodes» .entry)) (now («letter_values» .entry)) streams ahead width) letters limit (everyMark 0 (now (relations .entry))) (now (keys .exit)) (now (entries .exit)) (now (flags .exit)) (r .full) (r .count) ⌝ }
-{
-    let every = every_mark(relations);
-    let empty = [0u32; 16];
-    marks::fill(heads, 0);
-    settle(heads, links, keys, flags, 0, limit, every, &empty);
-    search(
-        kinds,
-        values,
-        starts,
-        relations,
-        lefts,
-        rights,
-        first_nodes,
-        letter_values,
-        streams,
-        ahead,
-        width,
-        letters,
-        limit,
-        keys,
-        heads,
-        links,
-        entries,
-        flags,
-        every,
-    )
-}
-
-// Explores a stored sheet in the lent tables, if the sheet keeps the bounds and the tables have room; otherwise the tables stay as they are.
-pub fn explore_stored(
-    kinds: &[u8; 1024],
-    values: &[i64; 1024],
-    starts: &[u16; 1024],
-    relations: &[u8],
-    lefts: &[u16],
-    rights: &[u16],
-    first_nodes: &[u16],
-    letter_values: &[i64],
-    streams: usize,
-    ahead: usize,
-    width: usize,
-    letters: usize,
-    limit: usize,
-    keys: &mut [u32],
-    heads: &mut [u32],
-    links: &mut [u32],
-    entries: &mut [u16],
-    flags: &mut [u8],
 ) -> Exploration
-    ensures { λ r. ⌜ ExploresStored cutTowardZero (storeOf (now (kinds .entry)) (now (values .entry)) (now (starts .entry)) (now (relations .entry)) (now (lefts .entry)) (now (rights .entry)) (now («first_nodes» .entry)) (now («letter_values» .entry)) streams ahead width) letters limit (lent (now (keys .entry)) (now (heads .entry)) (now (links .entry)) (now (entries .entry)) (now (flags .entry))) (lent (now (keys .exit)) (now (heads .exit)) (now (links .exit)) (now (entries .exit)) (now (flags .exit))) (r .ready) (r .full) (r .count) ⌝ }
+    ensures { λ r. ⌜ Explores cutTowardZero (storeOf (now (kinds .entry)) (now (values .entry)) (now (starts .entry)) (now (relations .entry)) (now (lefts .entry)) (now (rights .entry)) (now («first_nodes» .entry)) (now («letter_values» .entry)) streams ahead width) letters limit (lent (now (keys .entry)) (now (heads .entry)) (now (links .entry)) (now (entries .entry)) (now (flags .entry))) (lent (now (keys .exit)) (now (heads .exit)) (now (links .exit)) (now (entries .exit)) (now (flags .exit))) (r .ready) (r .full) (r .count) ⌝ }
 {
     if !is_ready(
         relations.len(),
@@ -344,6 +295,75 @@ pub fn explore_stored(
             count: 0,
         };
     }
+    let every = every_mark(relations);
+    let empty = [0u32; 16];
+    marks::fill(heads, 0);
+    settle(heads, links, keys, flags, 0, limit, every, &empty);
+    let found = search(
+        kinds,
+        values,
+        starts,
+        relations,
+        lefts,
+        rights,
+        first_nodes,
+        letter_values,
+        streams,
+        ahead,
+        width,
+        letters,
+        limit,
+        keys,
+        heads,
+        links,
+        entries,
+        flags,
+        every,
+    );
+    Exploration {
+        ready: true,
+        full: found.full,
+        count: found.count,
+    }
+}
+
+// Clears the entries and flags, unless they are those of rows that were found.
+fn discard(found: Exploration, entries: &mut [u16], flags: &mut [u8])
+    ensures { λ r. ⌜ Discards (found .ready) (found .full) (now (entries .entry)) (now (flags .entry)) (now (entries .exit)) (now (flags .exit)) ⌝ }
+{
+    if found.ready {
+        if !found.full {
+            return;
+        }
+    }
+    marks::clear_entries(entries, 0);
+    marks::clear_bytes(flags, 0);
+}
+
+// Explores a stored sheet in the lent tables, if the sheet keeps the bounds and the tables have room. The keys and the chains are 0 afterwards.
+// If not all rows are found, every table is 0.
+pub fn explore_stored(
+    kinds: &[u8; 1024],
+    values: &[i64; 1024],
+    starts: &[u16; 1024],
+    relations: &[u8],
+    lefts: &[u16],
+    rights: &[u16],
+    first_nodes: &[u16],
+    letter_values: &[i64],
+    streams: usize,
+    ahead: usize,
+    width: usize,
+    letters: usize,
+    limit: usize,
+    keys: &mut [u32],
+    heads: &mut [u32],
+    links: &mut [u32],
+    entries: &mut [u16],
+    flags: &mut [u8],
+) -> Exploration
+    ensures { λ r. ⌜ ExploresStored cutTowardZero (storeOf (now (kinds .entry)) (now (values .entry)) (now (starts .entry)) (now (relations .entry)) (now (lefts .entry)) (now (rights .entry)) (now («first_nodes» .entry)) (now («letter_values» .entry)) streams ahead width) letters limit (lent (now (keys .entry)) (now (heads .entry)) (now (links .entry)) (now (entries .entry)) (now (flags .entry))) (lent (now (keys .exit)) (now (heads .exit)) (now (links .exit)) (now (entries .exit)) (now (flags .exit))) (r .ready) (r .full) (r .count) ⌝ }
+{
     let found = explore(
         kinds,
         values,
@@ -364,9 +384,9 @@ pub fn explore_stored(
         entries,
         flags,
     );
-    Exploration {
-        ready: true,
-        full: found.full,
-        count: found.count,
-    }
+    marks::fill(keys, 0);
+    marks::fill(heads, 0);
+    marks::fill(links, 0);
+    discard(found, entries, flags);
+    found
 }

@@ -1,9 +1,10 @@
 // Sets of rows of a stored graph: a number for each row, 1 where the row is marked. Each row of the graph has one entry for each
-// letter; an entry that is no row's number names no row.
+// letter; an entry that is no row's number names no row. And lists that are filled or cleared.
 ghost use mathlib.Core.Path.{_≡_};
 ghost use Prim.Native.Nat.{_+_, _*_, _≤_};
 ghost use lib.ListN.{length, replicate};
 ghost use Rattle.marks.specs.Answers.{Says};
+ghost use Rattle.marks.specs.Clearing.{ClearedFrom};
 ghost use Rattle.marks.specs.Marks.{HasMarked, Pruned, Grown, IfFits};
 ghost use Rattle.marks.specs.Rounds.{PruneRound, GrowRound};
 
@@ -24,6 +25,28 @@ pub fn fill(list: &mut [u32], value: u32)
     let mut i = 0;
     while i < list.len() {
         list[i] = value;
+        i += 1;
+    }
+}
+
+// Sets every entry from `from` on to 0.
+pub fn clear_entries(list: &mut [u16], from: usize)
+    ensures { λ r. ⌜ ClearedFrom (now (list .entry)) (now (list .exit)) from ⌝ }
+{
+    let mut i = from;
+    while i < list.len() {
+        list[i] = 0;
+        i += 1;
+    }
+}
+
+// Sets every byte from `from` on to 0.
+pub fn clear_bytes(list: &mut [u8], from: usize)
+    ensures { λ r. ⌜ ClearedFrom (now (list .entry)) (now (list .exit)) from ⌝ }
+{
+    let mut i = from;
+    while i < list.len() {
+        list[i] = 0;
         i += 1;
     }
 }

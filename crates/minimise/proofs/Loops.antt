@@ -1,50 +1,23 @@
--- What a turn of the small loops does: clearing a list from a place on, setting a number for each row, and keeping flagged marks;
+-- What a turn of the small loops does: setting a number for each row, and keeping flagged marks;
 -- and how the passes that find a set follow each other.
 use mathlib.Core.Path.{_≡_, refl, sym, ap, subst, _∙_}
-use mathlib.Core.Logic.{_↔_, _⊎_, inl, inr, _≢_}
+use mathlib.Core.Logic.{_↔_}
 use mathlib.Core.Bool.{Bool, true, false}
 use mathlib.Core.List.{List}
-use Prim.Native.Nat.{ℕ, zero, suc, _+_, _*_, _<_, _≤_}
+use Prim.Native.Nat.{ℕ, _+_, _*_, _<_, _≤_}
 use native.Mathlib.Omega.{arith}
-use native.Mathlib.Decide.{ℕ-discrete, decLt}
-use lib.ListN.{getD, length, set, replicate, length-set, List·getD-eq-default}
-use lib.Seq.{getD-set-same, getD-set-other}
+use native.Mathlib.Decide.{ℕ-discrete}
+use lib.ListN.{getD, length, set, replicate, length-set}
 use Rattle.automaton.specs.Table.{IsFlag}
 use Rattle.marks.specs.Answers.{Says}
 use Rattle.marks.specs.Marks.{Marked, Pruned, Grown, IfFits}
 use Rattle.marks.proofs.Laws.{marked-inside}
 use Rattle.refine.proofs.Lists.{below-set, set-other}
 use Rattle.minimise.specs.Sets.{IsFlagged, FindsLive, IsSet, LiveWithout, FindsFinals}
-use Rattle.minimise.specs.Reducing.{ClearedFrom}
 
 pub says-both : (b : Bool) {P Q : Type 0} → (P → Q) → (Q → P) → Says b P → Says b Q
 says-both true f g h = f h
 says-both false f g h = λ q. h (g q)
-
--- the numbers from `from` to `i` are cleared
-pub record Clearing (old new : List ℕ) (from i : ℕ) : Type 0 where
-  pub same : length new ≡ length old
-  pub begun : from ≤ i
-  pub below : (j : ℕ) → j < from → getD new j 0 ≡ getD old j 0
-  pub done : (j : ℕ) → from ≤ j → j < i → getD new j 0 ≡ 0
-
-pub clearing-start : (list : List ℕ) (from : ℕ) → Clearing list list from from
-clearing-start list from = record { same = refl; begun = omega arith; below = λ j h. refl; done = λ j h g. absurd (omega arith) }
-
-pub clearing-next : {old new : List ℕ} {from i : ℕ} → i < length new → Clearing old new from i → Clearing old (set new i 0) from (i + 1)
-clearing-next {old} {new} {from} {i} h C = record {
-  same = simp length-set (C .same);
-  begun = omega (arith, C .begun);
-  below = λ j l. set-other new i 0 j (omega (arith, C .begun)) ∙ C .below j l;
-  done = λ j l g. below-set (λ j x. from ≤ j → x ≡ 0) new i 0 h (λ j g l. C .done j l g) (λ l. refl) j g l;
-}
-
-pub clearing-end : {old new : List ℕ} {from i : ℕ} → length new ≤ i → Clearing old new from i → ClearedFrom old new from
-clearing-end {old} {new} {from} {i} h C = record {
-  same = C .same;
-  below = C .below;
-  beyond = λ j l. elim (decLt j i) [ yes g ↦ C .done j l g | no g ↦ List·getD-eq-default new 0 (omega arith) ];
-}
 
 -- a set gets its next row
 pub set-next : {P : ℕ → Type 0} {list : List ℕ} {n v : ℕ} → n < length list → IsFlag (P n) v → IsSet list n P → IsSet (set list n v) (n + 1) P

@@ -1,23 +1,17 @@
 -- From what the passes leave to the outcome: what lies beyond the used rows is cleared, and so is every work table.
-use mathlib.Core.Path.{_≡_, refl, sym, ap, subst, _∙_}
+use mathlib.Core.Path.{_≡_, refl, sym, _∙_}
 use mathlib.Core.Logic.{_⊎_, inl, inr}
 use mathlib.Core.List.{List}
-use Prim.Native.Nat.{ℕ, _+_, _*_, _<_, _≤_}
+use Prim.Native.Nat.{ℕ, _+_, _*_, _≤_}
 use native.Mathlib.Nat.{mul-le-mul-right, zero-mul}
 use native.Mathlib.Omega.{arith}
-use lib.ListN.{getD, length, replicate, length-replicate, getD-replicate}
-use lib.Seq.{ext-getD}
-use Rattle.automaton.specs.Table.{SameRows}
-use Rattle.automaton.specs.Stored.{entry-at, final-at}
+use lib.ListN.{length}
 use Rattle.automaton.proofs.Transfer.{rows-table}
 use Rattle.marks.proofs.Laws.{row-fits}
-use Rattle.refine.proofs.Lists.{zeros}
+use Rattle.marks.specs.Clearing.{ClearedFrom}
+use Rattle.marks.proofs.Clearing.{all-zero}
 use Rattle.minimise.specs.Outcome.{Tables, cleared, IsRefusal, NoWord, HasTable, MinimiseOutcome}
-use Rattle.minimise.specs.Reducing.{Rejected, Wordless, Tabled, ClearedFrom, Ran}
-
--- a list with 0 in every place
-pub all-zero : (list : List ℕ) (n : ℕ) → length list ≡ n → ((i : ℕ) → getD list i 0 ≡ 0) → list ≡ replicate n 0
-all-zero list n e z = ext-getD 0 list (replicate n 0) (e ∙ sym (length-replicate n 0)) λ i h. z i ∙ sym (zeros n i)
+use Rattle.minimise.specs.Reducing.{Wordless, Tabled, Ran}
 
 module _ {entries flags entries₁ flags₁ : List ℕ} {letters rows refusal states : ℕ} {work : List (List ℕ)} (R : Ran entries flags letters rows work refusal states entries₁ flags₁) where
   -- the used rows lie within the tables

@@ -1,9 +1,8 @@
--- What is left in the entries and the final bytes before all beyond the used rows is cleared; and clearing.
+-- What is left in the entries and the final bytes before all beyond the used rows is cleared.
 use mathlib.Core.Path.{_≡_}
 use mathlib.Core.Logic.{_⊎_}
 use mathlib.Core.List.{List}
-use Prim.Native.Nat.{ℕ, _<_, _≤_}
-use lib.ListN.{getD, length}
+use Prim.Native.Nat.{ℕ, _≤_}
 use Rattle.automaton.specs.Words.{Word, InRange}
 use Rattle.automaton.specs.Table.{IsTable}
 use Rattle.automaton.specs.Stored.{entry-at, final-at}
@@ -31,12 +30,6 @@ pub record Tabled (entries flags : List ℕ) (letters rows refusal states : ℕ)
 abbrev pub Reduced : (entries flags : List ℕ) (letters rows refusal states : ℕ) (entries′ flags′ : List ℕ) → Type 0
 Reduced entries flags letters rows refusal states entries′ flags′ =
     Unfit entries flags letters rows refusal states ⊎ (Wordless entries flags letters rows refusal states ⊎ Tabled entries flags letters rows refusal states entries′ flags′)
-
--- every number from `from` on is 0, and those before it are as they were
-pub record ClearedFrom (old new : List ℕ) (from : ℕ) : Type 0 where
-  pub same : length new ≡ length old
-  pub below : (i : ℕ) → i < from → getD new i 0 ≡ getD old i 0
-  pub beyond : (i : ℕ) → from ≤ i → getD new i 0 ≡ 0
 
 -- the same, where the tables may have any size
 pub record Rejected (entries flags : List ℕ) (letters rows : ℕ) (work : List (List ℕ)) (refusal states : ℕ) : Type 0 where

@@ -12,7 +12,7 @@ ghost use Rattle.minimise.specs.Outcome.{Tables, HasRoom, MinimiseOutcom
 ghost use Rattle.minimise.specs.Checking.{HasSizes, AreBits, Checked, CheckedTo};
 ghost use Rattle.minimise.specs.Sets.{IsFlagged, FindsLive, IsSet, LiveWithout, FindsFinals};
 ghost use Rattle.minimise.specs.Compacting.{IsNumbered, IsState, IsNameable, IsMoved, IsCompacted};
-ghost use Rattle.minimise.specs.Reducing.{Reduced, ClearedFrom, Ran};
+ghost use Rattle.minimise.specs.Reducing.{Reduced, Ran};
 
 // The answer: 0 and the number of states, or a refusal and 0. Laid out as in C, so that an exported function can give it back.
 #[repr(C)]
@@ -329,28 +329,6 @@ fn reduce(
     }
 }
 
-// Sets every entry from `from` on to 0.
-fn clear_entries(list: &mut [u16], from: usize)
-    ensures { λ r. ⌜ ClearedFrom (now (list .entry)) (now (list .exit)) from ⌝ }
-{
-    let mut i = from;
-    while i < list.len() {
-        list[i] = 0;
-        i += 1;
-    }
-}
-
-// Sets every byte from `from` on to 0.
-fn clear_bytes(list: &mut [u8], from: usize)
-    ensures { λ r. ⌜ ClearedFrom (now (list .entry)) (now (list .exit)) from ⌝ }
-{
-    let mut i = from;
-    while i < list.len() {
-        list[i] = 0;
-        i += 1;
-    }
-}
-
 // Whether there are letters and rows, at most 4,096 rows, and room for them in tables of `entries` and `flags` numbers.
 fn has_sizes(letters: usize, rows: usize, entries: usize, flags: usize) -> bool
     ensures { λ r. ⌜ Says r ((0 < letters) × (0 < rows) × (rows ≤ 4096) × (rows * letters ≤ entries) × (rows ≤ flags)) ⌝ }
@@ -473,8 +451,8 @@ pub fn minimise(
         shared,
     );
     let states = answer.states as usize;
-    clear_entries(entries, states * letters);
-    clear_bytes(flags, states);
+    marks::clear_entries(entries, states * letters);
+    marks::clear_bytes(flags, states);
     marks::fill(live, 0);
     marks::fill(class, 0);
     marks::fill(next, 0);

@@ -4,3 +4,4 @@ pub mod Signatures
 pub mod Chains
 pub mod Splitting
 pub mod Refinement
+pub mod Unique

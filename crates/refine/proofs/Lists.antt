@@ -1,11 +1,11 @@
 -- Laws of lists that hold one number a row, where a store changes one row.
-use mathlib.Core.Path.{_≡_, refl, sym, _∙_, subst}
+use mathlib.Core.Path.{_≡_}
 use mathlib.Core.Logic.{_≢_}
 use mathlib.Core.List.{List}
-use Prim.Native.Nat.{ℕ, suc, _+_, _<_, _≤_}
+use Prim.Native.Nat.{ℕ, _+_, _<_}
 use native.Mathlib.Omega.{arith}
-use native.Mathlib.Decide.{ℕ-discrete, decLt}
-use lib.ListN.{length, getD, set, replicate, length-replicate, getD-replicate, List·getD-eq-default}
+use native.Mathlib.Decide.{ℕ-discrete}
+use lib.ListN.{length, getD, set}
 use lib.Seq.{getD-set-same, getD-set-other}
 
 -- a property of one row and its number holds of every row below n + 1, if it held below n and holds of the number stored at n
@@ -19,11 +19,3 @@ below-set P list n v h old new s hs = go (ℕ-discrete s n)
 
 pub set-other : (list : List ℕ) (n v s : ℕ) → s ≢ n → getD (set list n v) s 0 ≡ getD list s 0
 set-other list n v s q = getD-set-other list n s v 0 q
-
--- a list of zeros is 0 at every place
-pub zeros : (n s : ℕ) → getD (replicate {A = ℕ} n 0) s 0 ≡ 0
-zeros n s = go (decLt s n)
-  where
-    go : Dec (s < n) → getD (replicate {A = ℕ} n 0) s 0 ≡ 0
-    go (yes h) = getD-replicate n s 0 0 h
-    go (no h) = List·getD-eq-default (replicate n 0) 0 (rw length-replicate (omega arith))

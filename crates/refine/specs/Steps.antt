@@ -3,7 +3,7 @@ use mathlib.Core.Path.{_≡_}
 use mathlib.Core.Logic.{_⊎_, _≢_}
 use mathlib.Core.List.{List}
 use Prim.Native.Nat.{ℕ, suc, _*_, _<_, _≤_}
-use lib.ListN.{getD, length}
+use lib.ListN.{getD, length, replicate}
 use Rattle.marks.specs.Marks.{Marked}
 use Rattle.refine.specs.Classes.{IsNamed, Refined, Sizes}
 use Rattle.refine.specs.Splitting.{Falling, Sharing}
@@ -57,9 +57,18 @@ pub record Rounds (letters : ℕ) (entries class next heads links shared : List 
   pub low : (s : ℕ) → getD class s 0 ≤ suc s
   pub falling : Falling links
 
--- The classes are those of the rows that no record tells apart, if the lists have the sizes; and else nothing changes. What
--- the work tables `next`, `heads`, `links` and `shared` hold afterwards is free.
+-- "work tables are zero after every call"
+pub record IsRefinement (letters : ℕ) (entries live finals class next heads links shared class′ next′ heads′ links′ shared′ : List ℕ) : Type 0 where
+  pub class-length : length class′ ≡ length class
+  pub refined : Refined letters entries live finals class′
+  pub next-zero : next′ ≡ replicate (length next) 0
+  pub heads-zero : heads′ ≡ replicate (length heads) 0
+  pub links-zero : links′ ≡ replicate (length links) 0
+  pub shared-zero : shared′ ≡ replicate (length shared) 0
+
+-- The classes are those of the rows that no record tells apart, and the work tables are zero, if the lists have the sizes; and
+-- else nothing changes. So nothing is left open: `Refined` holds of one list only (`Rattle.refine.proofs.Unique`).
 pub record RefineOutcome (letters : ℕ) (entries live finals class next heads links shared class′ next′ heads′ links′ shared′ : List ℕ) : Type 0 where
-  pub fits : Sizes letters entries live finals class next heads links shared → Refined letters entries live finals class′
+  pub fits : Sizes letters entries live finals class next heads links shared → IsRefinement letters entries live finals class next heads links shared class′ next′ heads′ links′ shared′
   pub unchanged : ¬ Sizes letters entries live finals class next heads links shared
       → (class′ ≡ class) × (next′ ≡ next) × (heads′ ≡ heads) × (links′ ≡ links) × (shared′ ≡ shared)

@@ -293,8 +293,8 @@ fn sizes_agree(
     true
 }
 
-// Gives each live row its class, 0 to each other row, if the lists of rows hold as many, at most 65,535, and there is room for
-// their entries and final bytes. Else nothing changes.
+// Gives each live row its class, 0 to each other row, and clears the work tables `next`, `heads`, `links` and `shared`, if the lists
+// of rows hold as many, at most 65,535, and there is room for their entries and final bytes. Else nothing changes.
 pub fn refine(
     entries: &[u16],
     letters: usize,
@@ -334,5 +334,9 @@ pub fn refine(
             links,
             shared,
         );
+        marks::fill(next, 0);
+        marks::fill(heads, 0);
+        marks::fill(links, 0);
+        marks::fill(shared, 0);
     }
 }

@@ -1,7 +1,6 @@
--- `compile::explored` meets its contract: the letters' values are there, so what the exploration leaves is the law `exploration-found`.
+-- `compile::explored` meets its contract: the letters' values are there, so what the exploration leaves is the law `exploration-found`; it
+-- clears the keys itself.
 use Prim.Native.Nat.{zero-le}
-use mathlib.Core.Path.{_∙_, ap}
-use lib.ListN.{replicate}
 use borrow.Author.Needs.{needs}
 use Rattle.meaning.proofs.Arithmetic.{cutTowardZero-lawful}
 use Rattle.compile.proofs.Found.{count-within, found-more, found-all}
@@ -13,9 +12,6 @@ fill-letters-requires c κs = search needs
 
 explore-stored-requires : tie.Need-explore-stored-requires
 explore-stored-requires c κs = search needs
-
-fill-requires : tie.Need-fill-requires
-fill-requires c κs = search needs
 
 same-length : tie.Need-same-length
 same-length c = search needs
@@ -37,11 +33,11 @@ same-length-6 c = search needs
 
 returns : tie.Need-returns
 returns c =
-    let call = c .before .before .before .before .before .before .before .before .before .before .before .before .before .before .before .explore-stored in
-    let letters = c .before .before .before .before .before .before .before .before .before .before .before .before .before .before .before .before .before .before .before .before .before .before .before .fill-letters in (
+    let call = c .before .before .before .before .before .before .before .before .before .before .before .explore-stored in
+    let letters = c .before .before .before .before .before .before .before .before .before .before .before .before .before .before .before .before .before .before .before .fill-letters in (
       zero-le,
       (
-        c .before .before .before .fill .ensures ∙ ap (λ n. replicate n 0) (call .kept .1 .1 .1 .1 .1 .1 .1 .1 .1 .1 .1 .1 .1 .0),
+        call .ensures .work-zero .keys-zero,
         λ s accepted slices long room. found-more cutTowardZero-lawful accepted slices _ _ long (letters .ensures .1) (letters .kept .1 .1 .0) room (call .ensures) (c .if1 .taken),
       ),
     )
@@ -66,11 +62,11 @@ same-length-12 c = search needs
 
 returns-2 : tie.Need-returns-2
 returns-2 c =
-    let call = c .before .before .before .before .before .before .before .before .before .before .before .before .before .before .before .explore-stored in
-    let letters = c .before .before .before .before .before .before .before .before .before .before .before .before .before .before .before .before .before .before .before .before .before .before .before .fill-letters in (
+    let call = c .before .before .before .before .before .before .before .before .before .before .before .explore-stored in
+    let letters = c .before .before .before .before .before .before .before .before .before .before .before .before .before .before .before .before .before .before .before .fill-letters in (
       count-within (call .ensures),
       (
-        c .before .before .before .fill .ensures ∙ ap (λ n. replicate n 0) (call .kept .1 .1 .1 .1 .1 .1 .1 .1 .1 .1 .1 .1 .1 .0),
+        call .ensures .work-zero .keys-zero,
         λ s accepted slices long room. found-all cutTowardZero-lawful accepted slices _ _ long (letters .ensures .1) (letters .kept .1 .1 .0) room (call .ensures) (c .if1 .left),
       ),
     )
@@ -81,7 +77,6 @@ explored-spec =
     (tie.spec
     fill-letters-requires
     explore-stored-requires
-    fill-requires
     same-length
     same-length-2
     same-length-3

@@ -1,5 +1,6 @@
 -- `search` meets its contract. Before each row, and before each letter of a row, the places before the present one hold the rows of their keys, and
--- every row but the first is met at such a place. Before a letter, what the letters of the row need is prepared too. From the laws of the search.
+-- every row but the first is met at such a place; what stands behind the present place is as it was. Before a letter, what the letters of the row need
+-- is prepared too. From the laws of the search.
 use Prim.Native.Nat.{ℕ, _+_, _-_, _*_, _≤_, _<_}
 use mathlib.Core.Path.{_≡_, refl, sym, subst}
 use mathlib.Core.Bool.{false}
@@ -11,10 +12,10 @@ use lib.ListN.{length}
 use Rattle.meaning.specs.Arithmetic.{cutTowardZero}
 use Rattle.explore.specs.Chains.{rowAt}
 use Rattle.explore.specs.Step.{Store, storeOf, IsKey, lettersStore, Prepared}
-use Rattle.explore.specs.Search.{Known, Turn, IsLent}
+use Rattle.explore.specs.Search.{Known, Turn, Kept, IsLent}
 use Rattle.explore.proofs.ChainLaws.{row-part}
 use Rattle.explore.proofs.PreparedLaws.{letters-key}
-use Rattle.explore.proofs.SearchLaws.{row-fits, letter-values, reach-key, turn-begin, turn-row, turn-end, follow-fits, follow-old, follow-new, follow-full, SameSizes, sizes-refl, sizes-trans, sizes-stored, sizes-lent}
+use Rattle.explore.proofs.SearchLaws.{true-not-false, row-fits, letter-values, reach-key, turn-begin, turn-row, turn-end, follow-fits, follow-old, follow-new, follow-full, kept-refl, kept-trans, kept-old, kept-new, kept-end, SameSizes, sizes-refl, sizes-trans, sizes-stored, sizes-lent}
 use Rattle.explore.proofs.search.Statement.{statement}
 use Rattle.explore.proofs.search.Tie as tie
 
@@ -22,7 +23,7 @@ use Rattle.explore.proofs.search.Tie as tie
 abbrev Inv-loop : tie.InvT-loop
 Inv-loop kinds values starts relations lefts rights first-nodes letter-values streams ahead width letters limit keys₀ heads₀ links₀ entries₀ flags₀ every full₀ n₀ s at₀ start end recent₀ window₀ firsts a₀ keys heads links entries flags full n at recent window a =
     (full ≡ false) × (s < n) × (a ≤ letters) × Turn cutTowardZero (storeOf kinds values starts relations lefts rights first-nodes letter-values streams ahead width) letters limit every keys entries flags heads links n s a at × SameSizes keys₀ heads₀ links₀ entries₀ flags₀ keys heads links entries flags
-    × Prepared letter-values streams width (length first-nodes) (rowAt keys s) recent window firsts
+    × Prepared letter-values streams width (length first-nodes) (rowAt keys s) recent window firsts × Kept entries₀ flags₀ at₀ n₀ entries flags at n
 
 abbrev μ-loop : tie.MeasureT-loop
 μ-loop kinds values starts relations lefts rights first-nodes letter-values streams ahead width letters limit keys₀ heads₀ links₀ entries₀ flags₀ every full₀ n₀ s at₀ start end recent₀ window₀ firsts a₀ keys heads links entries flags full n at recent window a = letters - a
@@ -30,7 +31,7 @@ abbrev μ-loop : tie.MeasureT-loop
 -- before a row
 abbrev Inv-rows : tie.InvT-rows
 Inv-rows kinds values starts relations lefts rights first-nodes letter-values streams ahead width letters limit keys₀ heads₀ links₀ entries₀ flags₀ every full₀ n₀ s₀ at₀ keys heads links entries flags full n s at =
-    (full ≡ false) × Turn cutTowardZero (storeOf kinds values starts relations lefts rights first-nodes letter-values streams ahead width) letters limit every keys entries flags heads links n s 0 at × SameSizes keys₀ heads₀ links₀ entries₀ flags₀ keys heads links entries flags
+    (full ≡ false) × Turn cutTowardZero (storeOf kinds values starts relations lefts rights first-nodes letter-values streams ahead width) letters limit every keys entries flags heads links n s 0 at × SameSizes keys₀ heads₀ links₀ entries₀ flags₀ keys heads links entries flags × (s ≤ n) × Kept entries₀ flags₀ at₀ n₀ entries flags at n
 
 abbrev μ-rows : tie.MeasureT-rows
 μ-rows kinds values starts relations lefts rights first-nodes letter-values streams ahead width letters limit keys₀ heads₀ links₀ entries₀ flags₀ every full₀ n₀ s₀ at₀ keys heads links entries flags full n s at = limit - s
@@ -104,7 +105,7 @@ left-sizes c = sizes-trans (sizes (in-loop-of c .before)) (follow-sizes c)
 -- ---- the needs
 
 rows-holds : tie.Need-rows-holds Inv-loop μ-loop Inv-rows μ-rows
-rows-holds c = let start = c .before .before .before .before .before .before .before .before .before in (refl, turn-begin _ _ _ _ _ (start .pre .1 .0 .some-row) (start .pre .1 .1 .0) (start .pre .1 .1 .1), sizes-refl)
+rows-holds c = let start = c .before .before .before .before .before .before .before .before .before in (refl, turn-begin _ _ _ _ _ (start .pre .1 .0 .some-row) (start .pre .1 .1 .0) (start .pre .1 .1 .1), sizes-refl, omega arith, kept-refl _ _ _ _)
 
 mul-start : tie.Need-mul-start Inv-loop μ-loop Inv-rows μ-rows
 mul-start c = omega (arith, few-rows c)
@@ -158,6 +159,7 @@ loop-holds c =
       rows .inv .1,
       sizes-refl,
       subst (λ k. Prepared (a .letter-values .now) (a .streams) (a .width) (length (a .first-nodes .now)) k (prepare .last .1 .1 .1 .1 .1 .0) (prepare .last .1 .1 .1 .1 .1 .1 .0) (prepare .last .1 .1 .1 .1 .1 .1 .1 .0)) (row-part (rows .keys) (rows .s)) (prepare .ensures),
+      kept-refl _ _ _ _,
     )
 
 cast-follow : tie.Need-cast-follow Inv-loop μ-loop Inv-rows μ-rows
@@ -217,9 +219,9 @@ loop-again c =
     let loop = in-loop .before .loop in
     ⊎-elim
     (λ w.
-    (loop .inv .0, rw (w .2) (omega (arith, loop .inv .1)), omega (arith, in-loop .loop-test .taken), rw (w .2) (follow-new _ _ _ _ _ (loop .inv .3) (loop .inv .1) (in-loop .loop-test .taken) (within in-loop) (lent (in-loop .before) .few-rows) (lent (in-loop .before) .flags-room) (at .follow .result) (at .follow .ensures .0) (w .0 .taken) (w .1 .left)), sizes-stored (loop .at) (at .follow .result) (sizes-trans (loop .inv .4) (follow-sizes at)), at .follow .ensures .1))
+    (loop .inv .0, rw (w .2) (omega (arith, loop .inv .1)), omega (arith, in-loop .loop-test .taken), rw (w .2) (follow-new _ _ _ _ _ (loop .inv .3) (loop .inv .1) (in-loop .loop-test .taken) (within in-loop) (lent (in-loop .before) .few-rows) (lent (in-loop .before) .flags-room) (at .follow .result) (at .follow .ensures .0) (w .0 .taken) (w .1 .left)), sizes-stored (loop .at) (at .follow .result) (sizes-trans (loop .inv .4) (follow-sizes at)), at .follow .ensures .1, rw (w .2) (kept-new _ _ _ _ _ (loop .inv .3) (loop .inv .1) (in-loop .loop-test .taken) (within in-loop) (lent (in-loop .before) .few-rows) (lent (in-loop .before) .flags-room) (at .follow .result) (at .follow .ensures .0) (w .0 .taken) (w .1 .left) (loop .inv .6))))
     (λ w.
-    (loop .inv .0, rw (w .1) (loop .inv .1), omega (arith, in-loop .loop-test .taken), rw (w .1) (follow-old _ _ _ _ _ (loop .inv .3) (loop .inv .1) (in-loop .loop-test .taken) (within in-loop) (lent (in-loop .before) .few-rows) (lent (in-loop .before) .flags-room) (at .follow .result) (at .follow .ensures .0) (w .0 .left)), sizes-stored (loop .at) (at .follow .result) (sizes-trans (loop .inv .4) (follow-sizes at)), at .follow .ensures .1))
+    (loop .inv .0, rw (w .1) (loop .inv .1), omega (arith, in-loop .loop-test .taken), rw (w .1) (follow-old _ _ _ _ _ (loop .inv .3) (loop .inv .1) (in-loop .loop-test .taken) (within in-loop) (lent (in-loop .before) .few-rows) (lent (in-loop .before) .flags-room) (at .follow .result) (at .follow .ensures .0) (w .0 .left)), sizes-stored (loop .at) (at .follow .result) (sizes-trans (loop .inv .4) (follow-sizes at)), at .follow .ensures .1, rw (w .1) (kept-old _ _ _ _ _ (loop .inv .3) (loop .inv .1) (in-loop .loop-test .taken) (within in-loop) (lent (in-loop .before) .few-rows) (lent (in-loop .before) .flags-room) (at .follow .result) (at .follow .ensures .0) (w .0 .left) (loop .inv .6))))
     (c .if1 .came)
 
 add-s : tie.Need-add-s Inv-loop μ-loop Inv-rows μ-rows
@@ -229,7 +231,7 @@ rows-less : tie.Need-rows-less Inv-loop μ-loop Inv-rows μ-rows
 rows-less c = let in-rows = in-rows-of (c .before) in omega (arith, in-rows .rows-test .taken, in-rows .before .rows .inv .1 .n-le)
 
 rows-again : tie.Need-rows-again Inv-loop μ-loop Inv-rows μ-rows
-rows-again c = let loop = c .before .loop in (loop .inv .0, turn-row _ _ _ _ _ (c .loop-test .left) (loop .inv .2) (loop .inv .3), sizes (c .before))
+rows-again c = let loop = c .before .loop in (loop .inv .0, turn-row _ _ _ _ _ (c .loop-test .left) (loop .inv .2) (loop .inv .3), sizes (c .before), omega (arith, loop .inv .1), kept-trans (in-rows-of (c .before) .before .rows .inv .4) (loop .inv .6))
 
 same-length : tie.Need-same-length Inv-loop μ-loop Inv-rows μ-rows
 same-length c = c .before .rows .inv .2 .keys-long
@@ -247,7 +249,11 @@ same-length-5 : tie.Need-same-length-5 Inv-loop μ-loop Inv-rows μ-rows
 same-length-5 c = c .before .rows .inv .2 .flags-long
 
 returns : tie.Need-returns Inv-loop μ-loop Inv-rows μ-rows
-returns c = let rows = c .before .rows in rw (rows .inv .0) (turn-end _ _ _ _ _ (c .rows-test .left) (rows .inv .1))
+returns c =
+    let rows = c .before .rows in (
+      rw (rows .inv .0) (turn-end _ _ _ _ _ (c .rows-test .left) (rows .inv .1)),
+      λ e. kept-end (rows .inv .3) (c .rows-test .left) (rows .inv .1 .here) (rows .inv .2 .entries-long) (rows .inv .2 .flags-long) (rows .inv .4),
+    )
 
 same-length-6 : tie.Need-same-length-6 Inv-loop μ-loop Inv-rows μ-rows
 same-length-6 c = left-sizes (c .before .before .before .before .before .before .before .before .before .before .before .before) .keys-long
@@ -268,8 +274,10 @@ returns-2 : tie.Need-returns-2 Inv-loop μ-loop Inv-rows μ-rows
 returns-2 c =
     let at = c .before .before .before .before .before .before .before .before .before .before .before .before in
     let in-loop = in-loop-of at in
-    let loop = in-loop .before .loop in
-    follow-full _ _ _ _ _ (loop .inv .3) (loop .inv .1) (in-loop .loop-test .taken) (within in-loop) (lent (in-loop .before) .few-rows) (lent (in-loop .before) .flags-room) (at .follow .result) (at .follow .ensures .0) (c .before .if1 .taken) (c .if2 .taken)
+    let loop = in-loop .before .loop in (
+      follow-full _ _ _ _ _ (loop .inv .3) (loop .inv .1) (in-loop .loop-test .taken) (within in-loop) (lent (in-loop .before) .few-rows) (lent (in-loop .before) .flags-room) (at .follow .result) (at .follow .ensures .0) (c .before .if1 .taken) (c .if2 .taken),
+      λ e. true-not-false e,
+    )
 
 pub search-spec : {M : Type 1} → statement M
 search-spec =

@@ -1,17 +1,12 @@
 -- `minimise::minimise` meets its contract: what the passes leave is cleared beyond the used rows, and every work table is cleared.
-use Prim.Native.Nat.{ℕ, _≤_, _<_, _*_}
-use mathlib.Core.Path.{_≡_, refl, ap, ap₂, _∙_}
-use mathlib.Core.List.{List, [], _∷_}
+use mathlib.Core.Path.{refl, ap₂, _∙_}
+use mathlib.Core.List.{[], _∷_}
 use native.Mathlib.Omega.{arith}
-use lib.ListN.{length, replicate}
+use Rattle.marks.proofs.Clearing.{zeroed}
 use Rattle.minimise.proofs.Outcome.{ran-fits, ran-outcome}
 use borrow.Author.Needs.{needs}
 use Rattle.minimise.proofs.minimise.Statement.{statement}
 use Rattle.minimise.proofs.minimise.Tie as tie
-
--- a list that was filled with 0 is one of as many zeros
-zeroed : {new : List ℕ} {m n : ℕ} → new ≡ replicate m 0 → m ≡ n → new ≡ replicate n 0
-zeroed e l = e ∙ ap (λ n. replicate n 0) l
 
 run-requires : tie.Need-run-requires
 run-requires c κs = search needs

@@ -30,7 +30,7 @@ refined c =
       heads-fit = start .pre .1 .2 ∙ sym live;
       links-fit = start .pre .1 .3 ∙ sym live;
       shared-fits = start .pre .1 .4 ∙ sym live;
-    })
+    }) .refined
 
 -- the lists that go on hold as many rows as before
 class-length : (c : tie.After-refine) → length (c .refine .last .1 .1 .1 .1 .0) ≡ length (c .before .before .before .before .before .before .before .before .before .before .before .before .before .before .before .before .before .before .before .before .before .before .before .before .before .before .before .before .before .before .before .before .before .before .before .before .before .before .args .live .now)

@@ -1,11 +1,11 @@
--- `refine::refine` meets its contract: the rounds run where all lists hold as many rows, and else nothing changes.
-use Prim.Native.Nat.{_≤_, _<_}
-use mathlib.Core.Path.{_≡_, refl}
+-- `refine::refine` meets its contract: the rounds run where all lists hold as many rows, and the work tables are cleared after them;
+-- else nothing changes.
+use mathlib.Core.Path.{_≡_, refl, _∙_}
 use mathlib.Core.Bool.{true}
 use borrow.Author.Tests.{not-true, not-false}
 use native.Mathlib.Omega.{arith}
-use lib.ListN.{length}
 use Rattle.marks.proofs.Laws.{says-yes, says-no}
+use Rattle.marks.proofs.Clearing.{zeroed}
 use Rattle.refine.specs.Classes.{Sizes}
 use borrow.Author.Needs.{needs}
 use Rattle.refine.proofs.refine.Statement.{statement}
@@ -42,23 +42,47 @@ sizes-agree-requires c κs = search needs
 rounds-requires : tie.Need-rounds-requires
 rounds-requires c κs = sizes (c .before .before .before .before .before .before) (c .before .before .before .before .before .if3 .taken)
 
+fill-requires : tie.Need-fill-requires
+fill-requires c κs = search needs
+
+fill-requires-2 : tie.Need-fill-requires-2
+fill-requires-2 c κs = search needs
+
+fill-requires-3 : tie.Need-fill-requires-3
+fill-requires-3 c κs = search needs
+
+fill-requires-4 : tie.Need-fill-requires-4
+fill-requires-4 c κs = search needs
+
 same-length : tie.Need-same-length
-same-length c = search needs
+same-length c = c .before .before .before .before .before .before .before .before .before .before .before .before .before .before .before .before .before .before .before .before .before .before .before .before .before .before .rounds .kept .1 .1 .1 .1 .0
 
 same-length-2 : tie.Need-same-length-2
-same-length-2 c = search needs
+same-length-2 c = c .before .before .before .before .before .before .before .before .before .before .before .before .before .before .fill .kept .0 ∙ c .before .before .before .before .before .before .before .before .before .before .before .before .before .before .before .before .before .before .before .before .before .before .before .before .before .before .rounds .kept .1 .1 .1 .1 .1 .0
 
 same-length-3 : tie.Need-same-length-3
-same-length-3 c = search needs
+same-length-3 c = c .before .before .before .before .before .before .before .before .before .before .fill2 .kept .0 ∙ c .before .before .before .before .before .before .before .before .before .before .before .before .before .before .before .before .before .before .before .before .before .before .before .before .before .before .rounds .kept .1 .1 .1 .1 .1 .1 .0
 
 same-length-4 : tie.Need-same-length-4
-same-length-4 c = search needs
+same-length-4 c = c .before .before .before .before .before .before .fill3 .kept .0 ∙ c .before .before .before .before .before .before .before .before .before .before .before .before .before .before .before .before .before .before .before .before .before .before .before .before .before .before .rounds .kept .1 .1 .1 .1 .1 .1 .1 .0
 
 same-length-5 : tie.Need-same-length-5
-same-length-5 c = search needs
+same-length-5 c = c .before .before .fill4 .kept .0 ∙ c .before .before .before .before .before .before .before .before .before .before .before .before .before .before .before .before .before .before .before .before .before .before .before .before .before .before .rounds .kept .1 .1 .1 .1 .1 .1 .1 .1 .0
 
 returns-3 : tie.Need-returns-3
-returns-3 c = record { fits = λ z. c .before .before .before .before .before .before .before .before .before .before .rounds .ensures; unchanged = λ z. absurd (z (sizes (c .before .before .before .before .before .before .before .before .before .before .before .before .before .before .before .before .before) (c .before .before .before .before .before .before .before .before .before .before .before .before .before .before .before .before .if3 .taken))) }
+returns-3 c =
+    let rounds = c .before .before .before .before .before .before .before .before .before .before .before .before .before .before .before .before .before .before .before .before .before .before .before .before .before .before .rounds in
+    record {
+      fits = λ z. record {
+        class-length = rounds .kept .1 .1 .1 .1 .0;
+        refined = rounds .ensures;
+        next-zero = zeroed (c .before .before .before .before .before .before .before .before .before .before .before .before .before .before .fill .ensures) (rounds .kept .1 .1 .1 .1 .1 .0);
+        heads-zero = zeroed (c .before .before .before .before .before .before .before .before .before .before .fill2 .ensures) (rounds .kept .1 .1 .1 .1 .1 .1 .0);
+        links-zero = zeroed (c .before .before .before .before .before .before .fill3 .ensures) (rounds .kept .1 .1 .1 .1 .1 .1 .1 .0);
+        shared-zero = zeroed (c .before .before .fill4 .ensures) (rounds .kept .1 .1 .1 .1 .1 .1 .1 .1 .0);
+      };
+      unchanged = λ z. absurd (z (sizes (c .before .before .before .before .before .before .before .before .before .before .before .before .before .before .before .before .before .before .before .before .before .before .before .before .before .before .before .before .before .before .before .before .before) (c .before .before .before .before .before .before .before .before .before .before .before .before .before .before .before .before .before .before .before .before .before .before .before .before .before .before .before .before .before .before .before .before .if3 .taken)));
+    }
 
 returns-4 : tie.Need-returns-4
 returns-4 c = record {
@@ -75,6 +99,10 @@ refine-spec =
     returns-2
     sizes-agree-requires
     rounds-requires
+    fill-requires
+    fill-requires-2
+    fill-requires-3
+    fill-requires-4
     same-length
     same-length-2
     same-length-3

@@ -1,11 +1,11 @@
 -- `refine::round` meets its contract: the tables are made ready, and the classes are split.
-use Prim.Native.Nat.{ℕ, suc, _≤_, _<_}
-use mathlib.Core.Path.{_≡_, refl, sym, ap, _∙_}
+use Prim.Native.Nat.{ℕ, suc, _≤_}
+use mathlib.Core.Path.{_≡_, _∙_}
 use mathlib.Core.List.{List}
 use native.Mathlib.Omega.{arith}
 use native.Mathlib.Decide.{decLt}
 use lib.ListN.{length, getD, List·getD-eq-default}
-use Rattle.refine.proofs.Lists.{zeros}
+use Rattle.marks.proofs.Clearing.{zeros}
 use borrow.Author.Needs.{needs}
 use Rattle.refine.proofs.round.Statement.{statement}
 use Rattle.refine.proofs.round.Tie as tie

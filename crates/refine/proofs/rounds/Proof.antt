@@ -2,12 +2,12 @@
 -- the classes are those of the rows that no record tells apart. A turn of the loop has two rounds, and the lists of the classes change
 -- places at each.
 use Prim.Native.Nat.{_<_}
-use mathlib.Core.Path.{_≡_, refl, sym, _∙_}
-use mathlib.Core.Bool.{Bool, true}
+use mathlib.Core.Path.{_≡_, sym, _∙_}
+use mathlib.Core.Bool.{true}
 use native.Mathlib.Omega.{arith}
 use borrow.Author.Tests.{not-true, not-false}
 use lib.ListN.{length}
-use Rattle.refine.proofs.Lists.{zeros}
+use Rattle.marks.proofs.Clearing.{zeros}
 use Rattle.refine.proofs.Refinement.{slack, Going, going-start, going-ready, next-same, going-next, round-rises, round-refined, round-refined-before}
 use borrow.Author.Needs.{needs}
 use Rattle.refine.proofs.rounds.Statement.{statement}
