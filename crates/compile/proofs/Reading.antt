@@ -20,8 +20,9 @@ use Rattle.minimise.specs.Outcome.{MinimiseOutcome}
 use Rattle.outcome.specs.Room.{zeros}
 use Rattle.outcome.specs.Compile.{Room, Tables, allZero, CompileOutcome, unread}
 use Rattle.outcome.proofs.AcceptedCompile.{refusal-positive}
-use Rattle.compile.specs.declared.Compiled.{Compiled}
-use Rattle.compile.specs.Lent.{roomOf, tablesOf, answerOf, refusedWith}
+use Rattle.compiled.specs.declared.Compiled.{Compiled}
+use Rattle.compile.specs.Lent.{roomOf, tablesOf, answerOf}
+use Rattle.compiled.specs.Answer.{refusedWith}
 use Rattle.compile.specs.Stored.{IsStoredSheet}
 
 -- Where there are no rows there is no graph, so every table is cleared.

@@ -29,8 +29,9 @@ use Rattle.marks.proofs.Clearing.{all-zero}
 use Rattle.outcome.specs.Room.{zeros, zeroTables}
 use Rattle.outcome.specs.Compile.{refusedBy, Room, roomRows, Tables, allZero, SituationsFit, SheetOutcome, tooManySituations, tooFewRows, noSolution, compiled, situationBound}
 use Rattle.outcome.proofs.CompileTotal.{no-streams}
-use Rattle.compile.specs.declared.Compiled.{Compiled}
-use Rattle.compile.specs.Lent.{roomOf, tablesOf, answerOf, refusedWith, madeOf}
+use Rattle.compiled.specs.declared.Compiled.{Compiled}
+use Rattle.compile.specs.Lent.{roomOf, tablesOf, answerOf}
+use Rattle.compiled.specs.Answer.{refusedWith, madeOf}
 use Rattle.compile.specs.Sheet.{Found, RoomFor}
 use Rattle.compile.proofs.Rows.{Holds, fewest-hold, le-of-not-lt, limit-rows, limit-bound, within-rows, within-bound, rows-lent}
 

@@ -1,13 +1,10 @@
 -- The lent tables in document 01's terms: the room that they give, what they hold, and the answer.
 use Prim.Native.Nat.{ℕ}
-use mathlib.Core.Bool.{cond}
 use mathlib.Core.List.{List, [], _∷_}
-use lib.Dec.{eqb, ltb}
 use lib.ListN.{length}
 use Rattle.outcome.specs.Room.{Lent}
-use Rattle.outcome.specs.Compile.{CompileAnswer, Room, Tables, situationBound}
-use Rattle.minimise.specs.declared.Minimised.{Minimised}
-use Rattle.compile.specs.declared.Compiled.{Compiled}
+use Rattle.outcome.specs.Compile.{CompileAnswer, Room, Tables}
+use Rattle.compiled.specs.declared.Compiled.{Compiled}
 
 -- A table with this many numbers a row.
 abbrev pub lent : ℕ → List ℕ → Lent
@@ -28,14 +25,3 @@ tablesOf entries finals keys live class next heads links shared =
 
 abbrev pub answerOf : Compiled → CompileAnswer
 answerOf c = record { refusal = c .refusal; states = c .states; situations = c .situations }
-
--- "A refusal returns its number with states and situations 0."
-abbrev pub refusedWith : ℕ → Compiled
-refusedWith n = record { refusal = n; states = 0; situations = 0 }
-
--- The answer after the situations were explored, 0 where they do not fit, and the table was made of them: a refusal other than 9 says that
--- there was nothing to make it of.
-abbrev pub madeOf : (rows situations : ℕ) → Minimised → Compiled
-madeOf rows situations made =
-    cond (eqb (made .refusal) 0) (record { refusal = 0; states = made .states; situations = situations })
-    (cond (eqb (made .refusal) 9) (refusedWith 9) (cond (ltb rows situationBound) (refusedWith 10) (refusedWith 8)))

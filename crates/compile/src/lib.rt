@@ -1,5 +1,6 @@
 // From a sheet's bytes to its table.
 use arithmetic::fewer;
+use compiled::Compiled;
 ghost use mathlib.Core.Path.{_≡_};
 ghost use Prim.Native.Nat.{_/_, _<_, _≤_, min};
 ghost use lib.ListN.{length, replicate};
@@ -8,28 +9,9 @@ ghost use Rattle.meaning.specs.Expression.{Sheet};
 ghost use Rattle.sheet.specs.Accepted.{Accepted};
 ghost use Rattle.reader.specs.Stored.{storedSheet};
 ghost use Rattle.outcome.specs.Compile.{allZero, SheetOutcome, CompileCall};
-ghost use Rattle.compile.specs.Lent.{roomOf, tablesOf, answerOf, refusedWith, madeOf};
+ghost use Rattle.compile.specs.Lent.{roomOf, tablesOf, answerOf};
 ghost use Rattle.compile.specs.Sheet.{Found, SlicesOf, HasRoom, RoomFor};
 ghost use Rattle.compile.specs.Stored.{IsStoredSheet};
-
-// The refusal's number or 0, "the number of states and the number of distinct situations". Laid out as in C, so that an exported function can give
-// it back.
-#[repr(C)]
-pub struct Compiled {
-    pub refusal: u32,
-    pub states: u32,
-    pub situations: u32,
-}
-
-fn refused(refusal: u32) -> Compiled
-    ensures { λ r. ⌜ r ≡ refusedWith refusal ⌝ }
-{
-    Compiled {
-        refusal: refusal,
-        states: 0,
-        situations: 0,
-    }
-}
 
 // "the fewest rows any lent table holds", of tables with these lengths
 fn fewest_rows(
@@ -52,26 +34,6 @@ fn fewest_rows(
         fewer(class, fewer(next, fewer(heads, fewer(links, shared)))),
     );
     fewer(entries / letters, fewer(finals, fewer(keys / 16, passes)))
-}
-
-// The answer from the rows lent, the situations found and what the table's making gave.
-fn made(rows: usize, situations: usize, table: minimise::Minimised) -> Compiled
-    requires { ⌜ situations ≤ 4096 ⌝ }
-    ensures { λ r. ⌜ r ≡ madeOf rows situations table ⌝ }
-{
-    let refusal = table.refusal;
-    let counted = situations as u32;
-    if refusal == 0 {
-        return Compiled {
-            refusal: 0,
-            states: table.states,
-            situations: counted,
-        };
-    }
-    if refusal == 9 {
-        return refused(9);
-    }
-    if rows < 4096 { refused(10) } else { refused(8) }
 }
 
 // Explores the situations of a stored sheet: their number, with the entries and flags of their rows, or 0 where they are more than the limit. The
@@ -271,7 +233,7 @@ fn compile_sheet(
         links,
         shared,
     );
-    made(rows, count, table)
+    compiled::made(rows, count, table)
 }
 
 // Clears every table: where there are no rows, there is no graph.
@@ -387,7 +349,7 @@ pub fn compile(
             links,
             shared,
         );
-        return refused(refusal);
+        return compiled::refused(refusal);
     }
     let sheet = reading.sheet;
     compile_stored(

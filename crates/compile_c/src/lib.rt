@@ -1,7 +1,7 @@
 // The entry by which C programs call `compile`. A slice is a pointer and a length there.
 ghost use Rattle.compile.specs.Lent.{roomOf, tablesOf, answerOf};
 ghost use Rattle.outcome.specs.Compile.{CompileCall};
-use compile::Compiled;
+use compiled::Compiled;
 
 #[no_mangle]
 pub extern "C" fn compile_c(
