@@ -1,0 +1,4 @@
+pub mod Token
+pub mod Postfix
+pub mod Spans
+pub mod Stored
