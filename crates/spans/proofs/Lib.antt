@@ -4,3 +4,6 @@ pub mod Steps
 pub mod Phrases
 pub mod Lines
 pub mod Loop
+pub mod Words
+pub mod Reading
+pub mod Sheets

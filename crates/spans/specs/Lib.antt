@@ -2,3 +2,4 @@ pub mod Token
 pub mod Postfix
 pub mod Spans
 pub mod Stored
+pub mod Reading
