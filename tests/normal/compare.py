@@ -6,7 +6,7 @@ Builds the archive of the crate `normal_c` (rt staticlib), links it as a shared 
 (CC names the compiler) and calls it for each line of vectors/normal.jsonl, with the
 line's sheet of vectors/sheets.jsonl and a list of the line's length. The answer, every
 record and what it says, the ranges of the added streams and the zeros behind the records
-must agree, and what stands behind the list must stay as it was.
+must agree, byte for byte, and what stands behind the list must stay as it was.
 """
 
 import ctypes
@@ -25,21 +25,21 @@ from reading import read  # noqa: E402
 
 ARCHIVE = ROOT / "target" / "staticlib" / "libnormal_c.a"
 LIBRARY = ROOT / "target" / "tests" / "libnormal_c.so"
-ZEROS = (0,) * 8
 # Records behind the list, which the call must not touch.
 BEHIND = 4
 
 
+PLACES = ["kind", "relation", "stream_kind", "replaces", "left", "left_added", "left_begin", "left_end",
+          "right", "right_added", "right_begin", "right_end"]
+
+
 class Entry(ctypes.Structure):
-    _fields_ = [("kind", ctypes.c_uint8), ("relation", ctypes.c_uint8),
-                ("left", ctypes.c_uint16), ("left_added", ctypes.c_uint16),
-                ("right", ctypes.c_uint16), ("right_added", ctypes.c_uint16),
-                ("low", ctypes.c_int64), ("high", ctypes.c_int64)]
+    _fields_ = [(name, ctypes.c_uint16) for name in PLACES] + [("low", ctypes.c_int64), ("high", ctypes.c_int64)]
 
 
-# An entry in memory: six bytes between `right_added` and `low` belong to no field.
-ENTRY = struct.Struct("<BB4H6x2q")
-assert ENTRY.size == ctypes.sizeof(Entry)
+# An entry in memory: every byte belongs to a field.
+ENTRY = struct.Struct("<12H2q")
+assert ENTRY.size == ctypes.sizeof(Entry) == 40
 
 
 class NormalForm(ctypes.Structure):
@@ -57,27 +57,27 @@ def built():
 
 
 def called(function, text, length):
-    """The answer, the records of the list, and whether what stands behind the list is as it was. All bytes are ones
-    before the call, so that what is not written shows."""
+    """The answer, the list's bytes, and whether what stands behind the list is as it was. All bytes are ones before the
+    call, so that what is not written shows."""
     lent = (Entry * (length + BEHIND))()
     ctypes.memset(lent, 1, ctypes.sizeof(lent))
     answer = function(ctypes.c_char_p(text), ctypes.c_size_t(len(text)), lent, ctypes.c_size_t(length))
     content = bytes(lent)
     end = length * ENTRY.size
-    return answer, list(ENTRY.iter_unpack(content[:end])), content[end:] == b"\1" * (BEHIND * ENTRY.size)
+    return answer, content[:end], content[end:] == b"\1" * (BEHIND * ENTRY.size)
 
 
 def difference(function, text, wanted):
-    answer, records, untouched = called(function, text, wanted["list"])
+    answer, content, untouched = called(function, text, wanted["list"])
     counts = len(wanted["entries"]), len(wanted["added"])
     if (answer.refusal, answer.entries, answer.added) != (wanted["refusal"], *counts):
         return "answer %d %d %d" % (answer.refusal, answer.entries, answer.added)
-    filled, rest = records[:answer.entries], records[answer.entries:]
-    if any(record != ZEROS for record in rest):
-        return "numbers behind the records"
+    filled, rest = content[:answer.entries * ENTRY.size], content[answer.entries * ENTRY.size:]
+    if any(rest):
+        return "bytes behind the records"
     if not untouched:
         return "numbers written behind the list"
-    return None if answer.refusal else filled_difference(Rows(read(text)[1]), filled, wanted)
+    return None if answer.refusal else filled_difference(Rows(text, read(text)[1]), list(ENTRY.iter_unpack(filled)), wanted)
 
 
 def filled_difference(rows, filled, wanted):
@@ -86,7 +86,7 @@ def filled_difference(rows, filled, wanted):
         return "records"
     if [rows.decoded(record) for record in filled] != wanted["entries"]:
         return "what the records say"
-    ranges = {(record[2] - rows.own, *record[6:]) for record in filled if record[0] > 1}
+    ranges = {(record[4] - rows.own, *record[12:]) for record in filled if record[0] > 1}
     if ranges != {(stream, *ends) for stream, ends in enumerate(wanted["added"])}:
         return "ranges of the added streams"
     return None

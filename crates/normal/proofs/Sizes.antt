@@ -3,6 +3,7 @@
 use Prim.Native.Nat.{ℕ, suc, _+_, _*_, _-_, _≤_, _<_}
 use native.Mathlib.Omega.{arith}
 use mathlib.Core.Path.{sym, subst}
+use mathlib.Core.Bool.{Bool, true, false, cond}
 use mathlib.Core.List.{List, [], _∷_, _++_}
 use lib.ListN.{length, length-append, length-map}
 use Rattle.meaning.specs.Arithmetic.{cutTowardZero}
@@ -13,8 +14,10 @@ use Rattle.meaning.proofs.NormalForm.Names.{streams-length}
 use Rattle.sheet.specs.Refusal.{InBounds}
 use Rattle.sheet.specs.Reading.{allExpressions}
 use Rattle.sheet.specs.Accepted.{Accepted}
-use Rattle.normal.specs.Rows.{Row, nodeCount, inPostfix, rewriting, Line, lineAt, linesOf, ownRows, addedRows, streamsAfter}
-use Rattle.normal.specs.Encoded.{nodeExpressions, entryOf, sourceInterval, rowsOf, encoded}
+use Rattle.spans.specs.Postfix.{inPostfix, nodeCount, nodeExpressions}
+use Rattle.normal.specs.Rows.{Row, rewriting, Line, lineAt, linesOf, ownRows, addedRows, streamsAfter}
+use Rattle.normal.specs.Encoded.{rowsOf, recordOf, encoded}
+use Rattle.normal.specs.Fields.{leftIsNode, rightIsNode}
 use Rattle.normal.specs.declared.Entry.{Entry}
 use Rattle.normal.proofs.Lines.{streams-more}
 use Rattle.normal.proofs.Decoding.{always-line, streams-counted}
@@ -107,6 +110,10 @@ pub record FieldsFit (e : Entry) : Type 0 where
   pub right : e .right < 65536
   pub rightAdded : e .«right_added» < 65536
 
+small-or-none : (b : Bool) {n : ℕ} → n < 65536 → cond b 0 n < 65536
+small-or-none true h = omega arith
+small-or-none false h = h
+
 module _ {s : Sheet} (ok : Accepted cutTowardZero s) where
   abbrev n : ℕ
   n = length (s .streams)
@@ -118,16 +125,16 @@ module _ {s : Sheet} (ok : Accepted cutTowardZero s) where
   pub streams-bounded : length (normalForm cutTowardZero s .streams) ≤ 8 + 3 * 1024
   streams-bounded = omega (arith, streams-few, streams-counted s 0 n (s .constraints) (stand-self (nodeExpressions (s .constraints))), streams-length cutTowardZero s)
 
-  pub entries-bounded : length (encoded s) ≤ 32 + 4 * 1024
-  entries-bounded = omega (arith, rows-few ok, length-map (rowsOf s) (λ r. entryOf r (sourceInterval cutTowardZero s (r .source))))
+  pub entries-bounded : (text : List ℕ) → length (encoded text s) ≤ 32 + 4 * 1024
+  entries-bounded text = omega (arith, rows-few ok, length-map (rowsOf s) (recordOf text s))
 
-  pub fields-fit : All FieldsFit (encoded s)
-  fields-fit =
+  pub fields-fit : (text : List ℕ) → All FieldsFit (encoded text s)
+  fields-fit text =
       let h = lines-fit 0 n (s .constraints) (omega (arith, ok .expressionCount)) (omega (arith, streams-few)) in
-      all-map FieldsFit (λ r. entryOf r (sourceInterval cutTowardZero s (r .source))) (λ r f. record { left = f .left; leftAdded = f .leftAdded; right = f .right; rightAdded = f .rightAdded }) (rowsOf s)
+      all-map FieldsFit (recordOf text s) (λ r f. record { left = small-or-none (leftIsNode (r .kind)) (f .left); leftAdded = f .leftAdded; right = small-or-none (rightIsNode (r .kind)) (f .right); rightAdded = f .rightAdded }) (rowsOf s)
       (All-append Fits (ownRows n (linesOf 0 (s .constraints))) (addedRows n (linesOf 0 (s .constraints))) .1 h)
 
   -- "Magnitudes to 1,000,000,000."
-  pub ranges-bounded : All (λ e. InBounds (record { low = e .low; high = e .high })) (encoded s)
-  ranges-bounded =
-      all-map (λ e. InBounds (record { low = e .low; high = e .high })) (λ r. entryOf r (sourceInterval cutTowardZero s (r .source))) (λ r k. record { above = k .bounds .above; below = k .bounds .below }) (rowsOf s) (sheet-sound s ok)
+  pub ranges-bounded : (text : List ℕ) → All (λ e. InBounds (record { low = e .low; high = e .high })) (encoded text s)
+  ranges-bounded text =
+      all-map (λ e. InBounds (record { low = e .low; high = e .high })) (recordOf text s) (λ r k. record { above = k .bounds .above; below = k .bounds .below }) (rowsOf s) (sheet-sound s ok)

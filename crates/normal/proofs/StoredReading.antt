@@ -24,11 +24,14 @@ use Rattle.nodes.proofs.Postfix.{sides-inside}
 use Rattle.reader.specs.Stored.{padded, relationsOf, leftsOf, rightsOf, storedSheet, readingOf}
 use Rattle.reader.specs.declared.Sheet.{Sheet as StoredSheet}
 use Rattle.reader.specs.declared.Reading.{Reading}
+use Rattle.spans.specs.Spans.{spansIn}
+use Rattle.spans.specs.Stored.{spanBound, spanTable}
 use Rattle.normal.specs.Rows.{linesOf}
 use Rattle.normal.specs.Stored.{storedLines, rangeBefore}
 use Rattle.normal.specs.Table.{HasLines, LinesHaveRoom, refusedMade, madeOf}
 use Rattle.normal.specs.Outcome.{sheetRange, entriesFor}
 use Rattle.normal.specs.declared.Made.{Made}
+use Rattle.normal.proofs.TextSpans.{spans-few}
 use Rattle.normal.proofs.SheetRows.{lines-stored, sheet-holds, nodes-total, sheet-room}
 
 -- ---- the lists of a stored sheet
@@ -142,8 +145,8 @@ module _ (s : Sheet) where
   abbrev pub Asked : Lists → Type 0
   Asked l = HasLines (l .kinds) (l .relations) (l .lefts) (l .rights) × LinesHaveRoom (storedLines (l .kinds) (l .starts) (l .relations) (l .lefts) (l .rights)) (length (l .relations)) (length (l .lows))
 
-  abbrev pub madeFrom : Lists → ℕ → Made
-  madeFrom l room = madeOf (storedLines (l .kinds) (l .starts) (l .relations) (l .lefts) (l .rights)) (length (l .lows)) (rangeBefore cutTowardZero (stored (l .kinds) (l .values) (l .starts)) (l .lows) (l .highs)) room
+  abbrev pub madeFrom : Lists → List ℕ → ℕ → Made
+  madeFrom l spans room = madeOf (storedLines (l .kinds) (l .starts) (l .relations) (l .lefts) (l .rights)) (length (l .lows)) (rangeBefore cutTowardZero (stored (l .kinds) (l .values) (l .starts)) (l .lows) (l .highs)) spans room
 
   lines-are : storedLines (kindsOf nodes) (startsOf nodes) (relationsOf constraints) (leftsOf constraints) (rightsOf constraints) ≡ linesOf 0 (s .constraints)
   lines-are = lines-stored (nodesOf nodes) 0 0 (s .constraints) (sheet-holds (s .constraints))
@@ -178,43 +181,47 @@ module _ (s : Sheet) where
             (subst (LinesHaveRoom (linesOf 0 (s .constraints)) (length (s .constraints))) (sym (length-map (s .streams) (λ (x : Stream). x .range .low))) room)),
       )
 
-  sheet-made : (room : ℕ) → madeFrom (sheetLists s) room ≡ entriesFor (sheet s) room
-  sheet-made room = λ i. madeOf (lines-are i) (length-map (s .streams) (λ (x : Stream). x .range .low) i) (sheetRange s) room
+  sheet-made : (text : List ℕ) (room : ℕ) → madeFrom (sheetLists s) (spanTable text) room ≡ entriesFor text (sheet s) room
+  sheet-made text room = λ i. madeOf (lines-are i) (length-map (s .streams) (λ (x : Stream). x .range .low) i) (sheetRange s) (spanTable text) room
 
 -- ---- the reader's answer
 
 -- The reading of an accepted sheet.
-pub record SheetRead (a : Answer) (x : Reading) : Type 0 where
+pub record SheetRead (text : List ℕ) (a : Answer) (x : Reading) : Type 0 where
   pub source : Sheet
   pub is : a ≡ sheet source
   pub stored : x .sheet ≡ storedSheet source
   pub accepted : Accepted cutTowardZero source
+  pub fewSpans : length (spansIn text) ≤ spanBound
 
 module _ (text : List ℕ) {x : Reading} (e : x ≡ readingOf (answerTo cutTowardZero threeHeaderLines text)) where
   abbrev answer : Answer
   answer = answerTo cutTowardZero threeHeaderLines text
 
-  pub reading-refused : (x .refusal ≡ 0 → ⊥) → (room : ℕ) {m : Made} → m ≡ refusedMade (x .refusal) → m ≡ entriesFor answer room
+  pub reading-refused : (x .refusal ≡ 0 → ⊥) → (room : ℕ) {m : Made} → m ≡ refusedMade (x .refusal) → m ≡ entriesFor text answer room
   reading-refused h room {m} q = q ∙ by answer e
     where
-      by : (a : Answer) → x ≡ readingOf a → refusedMade (x .refusal) ≡ entriesFor a room
+      by : (a : Answer) → x ≡ readingOf a → refusedMade (x .refusal) ≡ entriesFor text a room
       by (refused n) p = ap (λ (y : Reading). refusedMade (y .refusal)) p
       by (sheet s) p = absurd (h (ap (λ (y : Reading). y .refusal) p))
 
-  pub reading-sheet : x .refusal ≡ 0 → SheetRead answer x
+  pub reading-sheet : x .refusal ≡ 0 → SheetRead text answer x
   reading-sheet h = by answer e (answer-correct cutTowardZero threeHeaderLines text)
     where
-      by : (a : Answer) → x ≡ readingOf a → AnswerTo cutTowardZero threeHeaderLines text a → SheetRead a x
+      by : (a : Answer) → x ≡ readingOf a → AnswerTo cutTowardZero threeHeaderLines text a → SheetRead text a x
       by (refused n) p r = let z = ap (λ (y : Reading). y .refusal) p in absurd (omega (arith, refusal-positive r))
-      by (sheet s) p r = record { source = s; is = refl; stored = ap (λ (y : Reading). y .sheet) p; accepted = accepted-facts r }
+      by (sheet s) p r = record { source = s; is = refl; stored = ap (λ (y : Reading). y .sheet) p; accepted = accepted-facts r; fewSpans = spans-few r }
 
-module _ {a : Answer} {x : Reading} (r : SheetRead a x) where
+module _ {text : List ℕ} {a : Answer} {x : Reading} (r : SheetRead text a x) where
   pub read-holding : Holding (x .sheet)
   read-holding = subst Holding (sym (r .stored)) (sheet-holding (r .source))
 
   pub read-asked : Asked (r .source) (listsOf (x .sheet))
   read-asked = subst (Asked (r .source)) (sym (ap listsOf (r .stored) ∙ lists-are (r .source))) (sheet-asked (r .source) (r .accepted))
 
-  pub read-made : (room : ℕ) {m : Made} → m ≡ madeFrom (r .source) (listsOf (x .sheet)) room → m ≡ entriesFor a room
-  read-made room q =
-      q ∙ ap (λ l. madeFrom (r .source) l room) (ap listsOf (r .stored) ∙ lists-are (r .source)) ∙ sheet-made (r .source) room ∙ ap (λ b. entriesFor b room) (sym (r .is))
+  pub read-made : (room : ℕ) {m : Made} {spans : List ℕ} → (length (spansIn text) ≤ spanBound → spans ≡ spanTable text) → m ≡ madeFrom (r .source) (listsOf (x .sheet)) spans room → m ≡ entriesFor text a room
+  read-made room e q =
+      q
+      ∙ (λ i. madeFrom (r .source) ((ap listsOf (r .stored) ∙ lists-are (r .source)) i) (e (r .fewSpans) i) room)
+      ∙ sheet-made (r .source) text room
+      ∙ ap (λ b. entriesFor text b room) (sym (r .is))
