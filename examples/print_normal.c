@@ -31,6 +31,8 @@ static void print_side(uint32_t entries, unsigned begin, unsigned end)
         if (stream != NULL) {
             printf("#%u", stream->left);
             at = stream->left_end;
+            if (at < end && text[at] != ' ')
+                putchar(' '); /* the next token may stand against a bracket that was replaced */
         } else {
             putchar(text[at]);
             at++;

@@ -18,7 +18,8 @@
  *   kind 5  first stream `left` == first stream `right`.
  * In kinds 3 to 5 `relation` is 2. In kinds 2 to 5 stream `left` is an added one; it stands for the expression `left_begin`
  * to `left_end` and takes the values `low` to `high`. Where `replaces` is 1, that expression is a whole `next` or `fby`, and in
- * the text of a side that holds it the stream stands in its place, the longest such one where several begin at one place.
+ * the text of a side that holds it the stream stands in its place, the longest such one where several begin at one place,
+ * parted by a space from what follows.
  * `left_added` and `right_added` are the numbers of the first streams that rewriting the left and the right side adds.
  * `stream_kind` is the kind of stream `left`, always 0 today. All else is 0.
  *

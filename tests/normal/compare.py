@@ -7,12 +7,16 @@ Builds the archive of the crate `normal_c` (rt staticlib), links it as a shared 
 line's sheet of vectors/sheets.jsonl and a list of the line's length. The answer, every
 record and what it says, the ranges of the added streams and the zeros behind the records
 must agree, byte for byte, and what stands behind the list must stay as it was.
+
+What `examples/print_normal.c` prints of each accepted sheet, from text and list alone, must
+read back as the stored entries.
 """
 
 import ctypes
 import json
 import os
 import pathlib
+import re
 import struct
 import subprocess
 import sys
@@ -20,11 +24,13 @@ from collections import Counter
 
 ROOT = pathlib.Path(__file__).resolve().parents[2]
 sys.path.insert(0, str(ROOT / "enumerator"))
+from grammar import Token, constraint_readings, constraint_text, split_tokens  # noqa: E402
 from normal_rows import Rows  # noqa: E402
 from reading import read  # noqa: E402
 
 ARCHIVE = ROOT / "target" / "staticlib" / "libnormal_c.a"
 LIBRARY = ROOT / "target" / "tests" / "libnormal_c.so"
+PROGRAM = ROOT / "target" / "tests" / "print_normal"
 # Records behind the list, which the call must not touch.
 BEHIND = 4
 
@@ -51,6 +57,8 @@ def built():
     subprocess.run(["rt", "staticlib", "normal_c"], cwd=ROOT, check=True, stdout=subprocess.DEVNULL)
     subprocess.run([os.environ.get("CC", "cc"), "-shared", "-o", str(LIBRARY),
                     "-Wl,--whole-archive", str(ARCHIVE), "-Wl,--no-whole-archive"], cwd=ROOT, check=True)
+    subprocess.run([os.environ.get("CC", "cc"), "-std=c11", "-O2", "-Wall", "-Wextra", "-Wpedantic", "-Werror", "-I", "include",
+                    "-o", str(PROGRAM), "examples/print_normal.c", str(ARCHIVE)], cwd=ROOT, check=True)
     function = ctypes.CDLL(str(LIBRARY)).normal_form_c
     function.restype = NormalForm
     return function
@@ -92,6 +100,35 @@ def filled_difference(rows, filled, wanted):
     return None
 
 
+# ---- what the example prints
+
+
+def stream_name(number):
+    """A name for an added stream that no sheet of the vectors has."""
+    return "zz" + "".join("abcdefghij"[int(digit)] for digit in "%06d" % number)
+
+
+def read_back(line, own):
+    """The entry that a printed line is read as, in the text of the vectors."""
+    tokens = [Token(stream_name(int(token.text[1:])) if token.text[0] == "#" else token.text, token.place)
+              for token in split_tokens(line.split(b", #")[0], 0)]
+    entry, = constraint_readings(tokens)
+    digits = lambda name: int("".join(str("abcdefghij".index(letter)) for letter in name.group(1)))  # noqa: E731
+    return re.sub("zz([a-j]{6})", lambda name: "#%d" % (digits(name) - own), constraint_text(entry))
+
+
+def printed_difference(text, wanted):
+    printed = subprocess.run([str(PROGRAM)], input=text, check=True, stdout=subprocess.PIPE).stdout.splitlines()
+    own = len(text.split(b"\n")[0].split())
+    if [read_back(line, own) for line in printed] != wanted["entries"]:
+        return "what the example prints"
+    ranges = {(int(stream) - own, int(low), int(high))
+              for stream, low, high in re.findall(rb"#(\d+) from (-?\d+) to (-?\d+)", b"\n".join(printed))}
+    if ranges != {(stream, *ends) for stream, ends in enumerate(wanted["added"])}:
+        return "the ranges that the example prints"
+    return None
+
+
 def lines(name):
     with open(ROOT / "vectors" / name, encoding="latin-1") as stored:
         return [json.loads(line) for line in stored]
@@ -101,16 +138,20 @@ def main():
     function = built()
     texts = {sheet["name"]: sheet["sheet"].encode("latin-1") for sheet in lines("sheets.jsonl")}
     calls = lines("normal.jsonl")
-    compared, records, faults = Counter(), 0, 0
+    compared, records, faults, printed = Counter(), 0, 0, set()
     for wanted in calls:
-        fault = difference(function, texts[wanted["name"]], wanted)
+        text = texts[wanted["name"]]
+        fault = difference(function, text, wanted)
+        if not wanted["refusal"] and text not in printed:
+            printed.add(text)
+            fault = fault or printed_difference(text, wanted)
         compared[wanted["refusal"]] += 1
         records += len(wanted["entries"])
         if fault:
             faults += 1
             print("%s with a list of %d: %s" % (wanted["name"], wanted["list"], fault))
-    print("normal_form: %d calls with %d entries compared (%s), %d differ" % (
-        len(calls), records, ", ".join("refusal %d: %d" % item for item in sorted(compared.items())), faults))
+    print("normal_form: %d calls with %d entries compared (%s), %d sheets printed and read back, %d differ" % (
+        len(calls), records, ", ".join("refusal %d: %d" % item for item in sorted(compared.items())), len(printed), faults))
     return 1 if faults else 0
 
 

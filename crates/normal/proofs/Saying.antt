@@ -1,15 +1,13 @@
 -- What the records say, from the sheet's text and the records alone: one by one, the constraints of the normal form; and nothing else. So text and list
 -- determine the normal form. From the spans of the text (TextSpans), the constraints of the rows (Decoding), and because the grammar is unambiguous.
-use Prim.Native.Nat.{ℕ, suc, _<_}
+use Prim.Native.Nat.{ℕ, _<_}
 use native.Mathlib.Omega.{arith}
 use mathlib.Core.Path.{_≡_, refl, sym, _∙_, ap, ap₂, subst}
 use mathlib.Core.List.{List, [], _∷_, map}
 use lib.IntN.{pos}
 use lib.ListN.{length, getD}
-use Rattle.text.specs.Bytes.{Token}
 use Rattle.meaning.specs.Arithmetic.{cutTowardZero}
-use Rattle.meaning.specs.Value.{equal}
-use Rattle.meaning.specs.Expression.{Expression, integer, name, first, next, comparison, Constraint, always, until, Sheet}
+use Rattle.meaning.specs.Expression.{Expression, integer, Constraint, always, Sheet}
 use Rattle.meaning.specs.NormalForm.{rewritten, equation, normalForm}
 use Rattle.meaning.proofs.Lists.{All}
 use Rattle.nodes.specs.Code.{signAt}

@@ -1,19 +1,19 @@
 -- The spans of the text of an accepted sheet: one for each node, and the text of each is read as the expression of its node. From the laws of `spans`, since an
 -- accepted text is short.
-use Prim.Native.Nat.{ℕ, _+_, _≤_, _<_}
+use Prim.Native.Nat.{ℕ, _+_, _≤_}
 use native.Mathlib.Omega.{arith}
 use native.Mathlib.Decide.{decLe}
-use mathlib.Core.Path.{_≡_, refl, sym, _∙_, ap, subst}
+use mathlib.Core.Path.{_≡_, refl, sym, _∙_, subst}
 use mathlib.Core.List.{List, [], _∷_, _++_}
 use lib.ListN.{length, length-append}
 use Rattle.meaning.specs.Arithmetic.{cutTowardZero}
 use Rattle.meaning.specs.Expression.{Constraint, leftSide, rightSide, Sheet}
-use Rattle.sheet.specs.Form.{threeHeaderLines, lineTokens, HasForm}
+use Rattle.sheet.specs.Form.{threeHeaderLines, lineTokens}
 use Rattle.sheet.specs.Refusal.{Refusal1, tooManyBytes, sheet, AnswerTo, accepted}
 use Rattle.sheet.specs.Reading.{allExpressions}
 use Rattle.sheet.proofs.Accepted.{accepted-facts}
 use Rattle.nodes.specs.Postfix.{allNodes}
-use Rattle.spans.specs.Postfix.{inPostfix, nodeCount, nodeExpressions}
+use Rattle.spans.specs.Postfix.{inPostfix, nodeExpressions}
 use Rattle.spans.specs.Spans.{spansIn}
 use Rattle.spans.specs.Stored.{spanBound}
 use Rattle.spans.specs.Reading.{EachReads}

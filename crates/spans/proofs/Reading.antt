@@ -3,9 +3,9 @@
 use Prim.Native.Nat.{ℕ, zero, suc, _+_, _≤_, _<_}
 use native.Mathlib.Omega.{arith}
 use mathlib.Core.Path.{_≡_, refl, sym, ap, subst, _∙_}
-use mathlib.Core.Bool.{Bool, true, false}
-use mathlib.Core.List.{List, [], _∷_, _++_, append-assoc, append-cancel-right, nil≢cons, cons≢nil, head-eq-of-cons-eq, tail-eq-of-cons-eq}
-use mathlib.Core.Option.{some, none}
+use mathlib.Core.Bool.{false}
+use mathlib.Core.List.{List, [], _∷_, _++_, append-assoc, append-cancel-right, nil≢cons, head-eq-of-cons-eq, tail-eq-of-cons-eq}
+use mathlib.Core.Option.{none}
 use lib.IntN.{ℤ}
 use lib.ListN.{length, drop}
 use Rattle.text.specs.Bytes.{Token, bytesOf, tokens}
@@ -20,10 +20,10 @@ use Rattle.scan.specs.Place.{between, TokenAt, noToken, aToken}
 use Rattle.scan.proofs.Tokens.{between-none}
 use Rattle.spans.specs.Token.{span, tokenFrom}
 use Rattle.spans.specs.Postfix.{inPostfix}
-use Rattle.spans.specs.Spans.{Spanned, spanned, closed, wordOf, branchesBy, expressionBy, partTo}
+use Rattle.spans.specs.Spans.{Spanned, closed, wordOf, expressionBy, partTo}
 use Rattle.spans.specs.Reading.{SpanReads, EachReads}
 use Rattle.spans.proofs.Token.{Ended, token-from, token-same, token-ended, token-ordered, tokens-up-to}
-use Rattle.spans.proofs.Words.{integer-no-bracket, integer-no-prefix, name-no-bracket, name-no-prefix, bracket-no-prefix, PartFirst, part-first}
+use Rattle.spans.proofs.Words.{integer-no-bracket, integer-no-prefix, name-no-bracket, name-no-prefix, bracket-no-prefix, part-first}
 use Rattle.spans.proofs.Steps.{step-prefix, step-bracket, step-leaf, step-conditional, step-operation, step-alone, step-joined, step-branches}
 
 -- The nodes of an expression with a prefix, and of one with an operator.

@@ -5,12 +5,11 @@ use native.Mathlib.Omega.{arith}
 use mathlib.Core.Path.{_≡_, refl, sym, ap, ap₂, subst, _∙_}
 use mathlib.Core.List.{List, [], _∷_, _++_, append-assoc, nil≢cons}
 use lib.ListN.{length, getD, drop, length-append}
-use Rattle.text.specs.Bytes.{Token, lines, tokens}
+use Rattle.text.specs.Bytes.{Token, tokens}
 use Rattle.meaning.specs.Expression.{Expression, Constraint, leftSide, rightSide, Sheet}
-use Rattle.sheet.specs.Vocabulary.{Relation, sign, untilSign, related, relationOf}
-use Rattle.sheet.specs.Grammar.{expression, Reads, ReadsConstraint, isConstraint}
+use Rattle.sheet.specs.Vocabulary.{Relation, sign, untilSign, related}
+use Rattle.sheet.specs.Grammar.{ReadsConstraint, isConstraint}
 use Rattle.sheet.specs.Form.{threeHeaderLines, Constraints, namesOf, HasForm}
-use Rattle.sheet.proofs.Grammar.{reads-nonempty}
 use Rattle.sheet.proofs.Vocabulary.{relation-no-operator}
 use Rattle.sheet.proofs.Parser.{NoOperator}
 use Rattle.scan.specs.declared.Span.{Span}
@@ -23,7 +22,7 @@ use Rattle.spans.proofs.Token.{token-from}
 use Rattle.spans.proofs.Steps.{step-last, step-line}
 use Rattle.spans.proofs.Words.{no-operator-first}
 use Rattle.spans.proofs.Lines.{start-within, spans-short, tokensOf, start-tokens}
-use Rattle.spans.proofs.Reading.{each-append, Found, word-at, token-from-past, expression-found}
+use Rattle.spans.proofs.Reading.{each-append, word-at, token-from-past, expression-found}
 
 left-is : (r : Relation) (a b : Expression) → leftSide (related r a b) ≡ a
 left-is (sign s) a b = refl

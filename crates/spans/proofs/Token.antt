@@ -1,5 +1,5 @@
 -- The first token from a place on is the one of scan's relation, which has one answer. By induction over the bytes from the place on.
-use Prim.Native.Nat.{ℕ, zero, suc, _+_, _-_, _≤_, _<_}
+use Prim.Native.Nat.{ℕ, suc, _+_, _-_, _≤_, _<_}
 use mathlib.Core.Path.{_≡_, refl, sym, ap, ap₂, subst, _∙_}
 use mathlib.Core.Bool.{Bool, true, false, true≢false}
 use mathlib.Core.List.{List, [], _∷_, _++_, append-assoc, cons≢nil, head-eq-of-cons-eq}
@@ -7,9 +7,9 @@ use native.Mathlib.Omega.{arith}
 use native.Mathlib.Decide.{decLe}
 use native.Mathlib.Numerals.{add-one}
 use lib.Dec.{T}
-use lib.ListN.{length, take, drop, getD, length-drop, drop-of-length-le}
+use lib.ListN.{length, take, drop, getD, length-drop}
 use lib.Seq.{drop-drop, drop-cons}
-use Rattle.text.specs.Bytes.{Token, ByteClass, inside, isBracket, isInside, classOf, startsInside, extendFirst, addToTokens, tokens}
+use Rattle.text.specs.Bytes.{Token, ByteClass, isBracket, isInside, startsInside, extendFirst, addToTokens, tokens}
 use Rattle.text.proofs.Bytes.{HasClass, aBracket, anInside, aBetween, classOf-has, BeginsWithRun, begins, tokens-begin, tokens-append, tokens-bracket}
 use Rattle.scan.specs.declared.Span.{Span}
 use Rattle.scan.specs.Place.{between, TokenAt, noToken, aToken}

@@ -10,8 +10,8 @@ use Rattle.text.proofs.Reflects.{to-false, and-both}
 use Rattle.text.proofs.Token.{sameBytes-reflects}
 use Rattle.meaning.specs.Expression.{Expression}
 use Rattle.sheet.specs.Vocabulary.{operators, operatorOf, Prefix, prefixes, prefixOf}
-use Rattle.sheet.specs.Grammar.{Phrase, part, expression, Reads, isIntegerToken, isStream, isBracketed, isPrefixed, isPart, isOperation, isConditional}
-use Rattle.sheet.proofs.Vocabulary.{lookUp-key, lookUp-none}
+use Rattle.sheet.specs.Grammar.{Phrase, part, Reads, isIntegerToken, isStream, isBracketed, isPrefixed, isPart, isOperation, isConditional}
+use Rattle.sheet.proofs.Vocabulary.{lookUp-none}
 use Rattle.sheet.proofs.Parser.{NoOperator}
 
 -- ---- a word that is one thing is not another

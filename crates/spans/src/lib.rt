@@ -83,8 +83,8 @@ fn expression(text: &[u8], at: usize, spans: &mut [u16; 2048], count: usize) -> 
     let start = token.start;
     let end = token.end;
     if scan::is_if(&text[start..end]) {
-        let inner = branches(text, end, spans, count);
-        return put(spans, inner.count, start, inner.next);
+        let inside = branches(text, end, spans, count);
+        return put(spans, inside.count, start, inside.next);
     }
     let left = part(text, at, spans, count);
     let sign = scan::next_token(text, left.next);

@@ -1,10 +1,10 @@
 -- `spans::spans` meets its contract.
 use Prim.Native.Nat.{suc, _≤_}
 use native.Mathlib.Omega.{arith}
-use mathlib.Core.Path.{_≡_, refl, sym, ap, _∙_}
+use mathlib.Core.Path.{sym, ap, _∙_}
 use lib.ListN.{length, replicate}
 use borrow.Author.Needs.{needs}
-use Rattle.spans.specs.Spans.{constraintsTo, lineStart}
+use Rattle.spans.specs.Spans.{constraintsTo}
 use Rattle.spans.specs.Stored.{putSpans}
 use Rattle.spans.proofs.Lines.{start-within, spans-long, spans-short}
 use Rattle.spans.proofs.spans.Statement.{statement}
