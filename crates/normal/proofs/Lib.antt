@@ -12,5 +12,6 @@ pub mod Outcome
 pub mod StoredReading
 pub mod Saying
 pub mod Ranges
+pub mod Standing
 pub mod Solutions
 pub mod Sizes

@@ -15,13 +15,14 @@ use Rattle.meaning.specs.Arithmetic.{Interval, cutTowardZero}
 use Rattle.meaning.specs.Expression.{Expression, integer, name, first, next, negation, binary, conditional, fby, Constraint, always, until, leftSide, rightSide, Stream, Sheet, rangeOf}
 use Rattle.meaning.specs.Interval.{interval}
 use Rattle.meaning.specs.NormalForm.{added, addedCount, addedBy, allAdded, normalForm}
-use Rattle.meaning.proofs.Lists.{All, All-append}
+use Rattle.meaning.proofs.Lists.{All, All-append, All-map}
 use Rattle.meaning.proofs.NormalForm.{range-added}
 use Rattle.meaning.proofs.NormalForm.Names.{streams-length}
 use Rattle.spans.specs.Postfix.{inPostfix, nodeCount, nodeExpressions}
 use Rattle.normal.specs.Rows.{Row, rewriting, Line, lineAt, linesOf, ownRows, addedRows, streamsAfter}
 use Rattle.normal.specs.Encoded.{expressionAt, sourceInterval, rowsOf, recordOf, encoded}
 use Rattle.normal.specs.Fields.{leftIsNode}
+use Rattle.normal.specs.Says.{standsFor}
 use Rattle.normal.specs.declared.Entry.{Entry}
 use Rattle.normal.proofs.Decoding.{added-counted, always-line, line-count, streams-counted}
 use Rattle.normal.proofs.Places.{Stand, Stand-append, stand-self, some-node, root-at, sides-stand}
@@ -133,7 +134,7 @@ lines-cover p (c ∷ cs) n k l h = by (decLt k (n + lineAt p c .adds .added)) (l
     by (no q) r = some-right (NamesStream k) (lineAt p c .adds .rows n) _ (r (omega arith) h)
 
 -- From kind 2 on the left is a stream.
-stream-left : (r : Row) → 2 ≤ r .kind → cond (leftIsNode (r .kind)) 0 (r .left) ≡ r .left
+pub stream-left : (r : Row) → 2 ≤ r .kind → cond (leftIsNode (r .kind)) 0 (r .left) ≡ r .left
 stream-left r h = ap (λ b. cond b 0 (r .left)) (ne-eqb (r .kind) 1 (λ e. omega arith))
 
 -- The entry names stream k.
@@ -326,6 +327,23 @@ module _ (s : Sheet) where
       source-interval (r .source) (h .source k)
       ∙ ap (interval cutTowardZero (s .streams)) (sym (h .stands k) ∙ ap streamed at′ ∙ getD-append-add pad (allAdded (s .constraints)) j (integer (pos 0)))
       ∙ sym (ap (rangeOf (normalForm cutTowardZero s .streams)) at ∙ range-added cutTowardZero s j (omega arith))
+
+  -- A row with a stream at its left has a source, the expression that the stream stands for.
+  row-stands : (r : Row) → Ranged r → 2 ≤ r .kind → (0 < r .source) × (expressionAt s (r .source - 1) ≡ standsFor s (r .left))
+  row-stands r h k =
+      let pad = map (λ (x : Stream). integer (pos 0)) (s .streams) in
+      let len = length-map (s .streams) (λ (x : Stream). integer (pos 0)) in
+      let low = h .low k in
+      let j = r .left - length (s .streams) in
+      let at : r .left ≡ length pad + j = omega arith in
+      (h .source k, sym (h .stands k) ∙ ap streamed at ∙ getD-append-add pad (allAdded (s .constraints)) j (integer (pos 0)))
+
+-- What the streams at the left of the rows stand for.
+pub rows-stand : (s : Sheet) → All (λ r. 2 ≤ r .kind → (0 < r .source) × (expressionAt s (r .source - 1) ≡ standsFor s (r .left))) (rowsOf s)
+rows-stand s =
+    let n = length (s .streams) in
+    let h = lines-ranged s 0 n (s .constraints) (stand-self (nodeExpressions (s .constraints))) (streamed-added s) (omega arith) (omega arith) in
+    All-map (rowsOf s) (λ r k. row-stands s r k) (All-append (Ranged s) (ownRows n (linesOf 0 (s .constraints))) (addedRows n (linesOf 0 (s .constraints))) .1 h)
 
 -- The entry names a stream only with that stream's range.
 abbrev pub HasRange : Sheet → Entry → Type 0

@@ -25,10 +25,11 @@ use Rattle.outcome.specs.NormalForm.{NormalAnswer, NormalOutcome, unread, tooSh
 use Rattle.outcome.proofs.AcceptedCompile.{refusal-positive}
 use Rattle.normal.specs.Table.{blank}
 use Rattle.normal.specs.Encoded.{encoded}
-use Rattle.normal.specs.Says.{EachSays}
+use Rattle.normal.specs.Says.{EachSays, LeftStands}
 use Rattle.normal.specs.declared.Entry.{Entry}
 use Rattle.normal.proofs.Decoding.{encoded-length}
 use Rattle.normal.proofs.Saying.{entries-say, each-says-unique}
+use Rattle.normal.proofs.Standing.{lefts-stand}
 use Rattle.normal.proofs.Ranges.{Some, NamedBy, HasRange, streams-named, entries-ranged}
 
 abbrev rangeIn : Entry → Interval
@@ -111,6 +112,7 @@ pub record GivenForm (text : List ℕ) (a : NormalAnswer) (list : List Entry) : 
   pub read : AnswerTo cutTowardZero threeHeaderLines text (sheet source)
   pub entries : take (a .entries) list ≡ encoded text source
   pub says : EachSays text (take (a .entries) list) (normalForm cutTowardZero source .constraints)
+  pub stands : All (LeftStands text source) (take (a .entries) list)
   pub determined : (cs : List Constraint) → EachSays text (take (a .entries) list) cs → cs ≡ normalForm cutTowardZero source .constraints
   pub added : a .added ≡ length (normalForm cutTowardZero source .streams) - length (source .streams)
   pub extends : {t : Sheet} → ReadFrom text source (take (a .entries) list) (a .added) t → {w : Streams} → Solution cutTowardZero source w → ExtendsTo source t w
@@ -136,8 +138,8 @@ given-cut {text} s r es e {t} f h a =
     let g : ReadFrom text s (encoded text s) (length (normalForm cutTowardZero s .streams) - length (s .streams)) t = subst (λ l. ReadFrom text s l (length (normalForm cutTowardZero s .streams) - length (s .streams)) t) e f in
     cut-back cutTowardZero s known (read-solution r g .0 h) a
 
--- Where a call gives no refusal, the list holds the entries of the sheet's normal form, text and list say its constraints and nothing else, and what is
--- read from them has the sheet's solutions.
+-- Where a call gives no refusal, the list holds the entries of the sheet's normal form, text and list say its constraints and nothing else, each left
+-- span is the text of what its stream stands for, and what is read from text and list has the sheet's solutions.
 pub list-given : {text : List ℕ} {room : ℕ} {a : NormalAnswer} {list : List Entry} → NormalOutcome blank (encoded text) cutTowardZero threeHeaderLines text room a list → a .refusal ≡ 0 → GivenForm text a list
 list-given (unread r) e = absurd (omega (arith, refusal-positive r))
 list-given (tooShort r h) e = absurd (omega arith)
@@ -149,6 +151,7 @@ list-given {text} {room} (given {s = s} r h) e =
       read = r;
       entries = is;
       says = subst (λ l. EachSays text l (normalForm cutTowardZero s .constraints)) (sym is) (entries-say r);
+      stands = subst (All (LeftStands text s)) (sym is) (lefts-stand r);
       determined = λ cs h. each-says-unique h (subst (λ l. EachSays text l (normalForm cutTowardZero s .constraints)) (sym is) (entries-say r));
       added = refl;
       extends = λ f k. given-form s r _ is f k;

@@ -55,10 +55,12 @@ module _ (s : Sheet) where
   pub record Sound (r : Row) : Type 0 where
     pub ends : endsOf (sheetRange s (r .source)) ≡ endsOfInterval (sourceInterval cutTowardZero s (r .source))
     pub form : RowForm (length (allNodes 0 0 (s .constraints))) r
+    pub source : r .source ≤ length (allNodes 0 0 (s .constraints))
     pub bounds : InBounds (sourceInterval cutTowardZero s (r .source))
 
   -- The range of the part that ends before a place is its expression's interval, which is within the bounds.
   record Good (e : ℕ) : Type 0 where
+    within : e ≤ length (allNodes 0 0 (s .constraints))
     ends : endsOf (sheetRange s e) ≡ endsOfInterval (sourceInterval cutTowardZero s e)
     bounds : InBounds (sourceInterval cutTowardZero s e)
 
@@ -100,7 +102,7 @@ module _ (s : Sheet) where
         ap (λ (x : Summary). endsOf (x .range)) (nodeSummary-summaryOf cutTowardZero (s .streams) (allNodes 0 0 (s .constraints)) t l (g .below) few)
         ∙ known-ends (all (λ f. endsInBound (interval cutTowardZero (s .streams) f)) (subexpressions e)) (interval cutTowardZero (s .streams) e) (bounded-inBounds cutTowardZero-lawful (s .streams) ordered e (g .below) .1 (g .bounds))
         ∙ ap (λ x. endsOfInterval (interval cutTowardZero (s .streams) x)) (sym is) in
-        record { ends = ends; bounds = subst (λ x. InBounds (interval cutTowardZero (s .streams) x)) (sym is) (own-bounds e (g .bounds)) }
+        record { within = l; ends = ends; bounds = subst (λ x. InBounds (interval cutTowardZero (s .streams) x)) (sym is) (own-bounds e (g .bounds)) }
 
     part-good : {p f m : ℕ} {e : Expression} → StoredAt N p f e m → Stand L p (inPostfix e) → Fine e → m ≤ nodes → Good m
     part-good {p} {f} {m} {e} t h g l =
@@ -108,7 +110,7 @@ module _ (s : Sheet) where
         subst Good q (node-good (m - 1) e (subst (StoredAt N p f e) (sym q) t) h g (omega arith))
 
     row : {r : Row} → Good (r .source) → RowForm nodes r → Sound r
-    row g f = record { ends = g .ends; form = f; bounds = g .bounds }
+    row g f = record { ends = g .ends; form = f; source = g .within; bounds = g .bounds }
 
     -- ---- expressions
 
@@ -200,7 +202,7 @@ module _ (s : Sheet) where
             → Sound (lineAt p c .own n) × All Sound (lineAt p c .adds .rows n)
         by-sides (always t a b) k ga gb ra rb =
             let w = always-line t (p + nodeCount a) (p + nodeCount a + nodeCount b) (rewriting p a) (rewriting (p + nodeCount a) b) in (
-              subst (λ (m : Line). Sound (m .own n)) (sym w) (record { ends = refl; form = isConstraint (omega (arith, some-node a)) (omega (arith, some-node b)); bounds = record { above = leZ-yes tt; below = leZ-yes tt } }),
+              subst (λ (m : Line). Sound (m .own n)) (sym w) (record { ends = refl; form = isConstraint (omega (arith, some-node a)) (omega (arith, some-node b)); source = omega arith; bounds = record { above = leZ-yes tt; below = leZ-yes tt } }),
               subst (λ (m : Line). All Sound (m .adds .rows n)) (sym w) (All-append Sound (rewriting p a .rows n) _ .1 (ra n, rb (n + rewriting p a .added))),
             )
         by-sides (until a b) k ga gb ra rb =

@@ -1,10 +1,12 @@
 -- What a record of the list says, from the sheet's text and the record alone: no number of a node is needed, and no reader's store.
-use Prim.Native.Nat.{ℕ}
+use Prim.Native.Nat.{ℕ, _-_, _≤_}
 use mathlib.Core.Path.{_≡_}
 use mathlib.Core.List.{List, [], _∷_}
+use lib.IntN.{pos}
+use lib.ListN.{length, getD}
 use Rattle.meaning.specs.Value.{equal}
-use Rattle.meaning.specs.Expression.{Expression, name, first, next, comparison, Constraint, always, until}
-use Rattle.meaning.specs.NormalForm.{rewritten, equation}
+use Rattle.meaning.specs.Expression.{Expression, integer, name, first, next, comparison, Constraint, always, until, Sheet}
+use Rattle.meaning.specs.NormalForm.{rewritten, equation, allAdded}
 use Rattle.nodes.specs.Code.{signAt}
 use Rattle.sheet.specs.Form.{threeHeaderLines, lineTokens}
 use Rattle.spans.specs.Token.{span}
@@ -32,3 +34,11 @@ pub data Says (text : List ℕ) (r : Entry) : Constraint → Type 0 where
 pub data EachSays (text : List ℕ) : List Entry → List Constraint → Type 0 where
   none : EachSays text [] []
   more : {r : Entry} {rs : List Entry} {c : Constraint} {cs : List Constraint} → Says text r c → EachSays text rs cs → EachSays text (r ∷ rs) (c ∷ cs)
+
+-- The expression that an added stream of the sheet's normal form stands for.
+abbrev pub standsFor : Sheet → ℕ → Expression
+standsFor s k = getD (allAdded (s .constraints)) (k - length (s .streams)) (integer (pos 0))
+
+-- The span at the left of a record that names a stream is the text of the expression that the stream stands for.
+pub record LeftStands (text : List ℕ) (s : Sheet) (r : Entry) : Type 0 where
+  pub reads : 2 ≤ r .kind → SpanReads (lineTokens text (threeHeaderLines .namesLine)) text (span (r .«left_begin») (r .«left_end»)) (standsFor s (r .left))

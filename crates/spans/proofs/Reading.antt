@@ -1,13 +1,14 @@
 -- On the text of a phrase the spans are those of its expressions: the text of each is read as the expression of its node, in the order of the nodes.
 -- By recursion on how the tokens are read; for every bound that is large enough.
-use Prim.Native.Nat.{ℕ, zero, suc, _+_, _≤_, _<_}
+use Prim.Native.Nat.{ℕ, zero, suc, _+_, _-_, _≤_, _<_}
 use native.Mathlib.Omega.{arith}
 use mathlib.Core.Path.{_≡_, refl, sym, ap, subst, _∙_}
 use mathlib.Core.Bool.{false}
 use mathlib.Core.List.{List, [], _∷_, _++_, append-assoc, append-cancel-right, nil≢cons, head-eq-of-cons-eq, tail-eq-of-cons-eq}
 use mathlib.Core.Option.{none}
 use lib.IntN.{ℤ}
-use lib.ListN.{length, drop}
+use lib.Dec.{T}
+use lib.ListN.{length, getD, drop}
 use Rattle.text.specs.Bytes.{Token, bytesOf, tokens}
 use Rattle.text.specs.Token.{sameBytes}
 use Rattle.meaning.specs.Expression.{Expression, integer, name, conditional}
@@ -17,12 +18,13 @@ use Rattle.sheet.proofs.Vocabulary.{bracket-no-operator}
 use Rattle.sheet.proofs.Parser.{NoOperator, Follows}
 use Rattle.scan.specs.declared.Span.{Span}
 use Rattle.scan.specs.Place.{between, TokenAt, noToken, aToken}
+use Rattle.scan.specs.Start.{isVisible}
 use Rattle.scan.proofs.Tokens.{between-none}
 use Rattle.spans.specs.Token.{span, tokenFrom}
 use Rattle.spans.specs.Postfix.{inPostfix}
 use Rattle.spans.specs.Spans.{Spanned, closed, wordOf, expressionBy, partTo}
 use Rattle.spans.specs.Reading.{SpanReads, EachReads}
-use Rattle.spans.proofs.Token.{Ended, token-from, token-same, token-ended, token-ordered, tokens-up-to}
+use Rattle.spans.proofs.Token.{Ended, Seen, token-from, token-same, token-ended, token-seen, token-ordered, tokens-up-to}
 use Rattle.spans.proofs.Words.{integer-no-bracket, integer-no-prefix, name-no-bracket, name-no-prefix, bracket-no-prefix, part-first}
 use Rattle.spans.proofs.Steps.{step-prefix, step-bracket, step-leaf, step-conditional, step-operation, step-alone, step-joined, step-branches}
 
@@ -55,6 +57,7 @@ module _ (names : List Token) (text : List ℕ) where
     pub within : tokenFrom text at .end ≤ length text
     pub word : wordOf text (tokenFrom text at) ≡ t
     pub after : tokens (drop (tokenFrom text at .end) text) ≡ ts
+    pub seen : Seen text (tokenFrom text at)
 
   pub word-at : {at : ℕ} {t : Token} {ts : List Token} → at ≤ length text → tokens (drop at text) ≡ t ∷ ts → Word at t ts
   word-at {at} {t} {ts} h e = by (token-from text at h)
@@ -69,6 +72,7 @@ module _ (names : List Token) (text : List ℕ) where
             within = w;
             word = head-eq-of-cons-eq (sym all ∙ e);
             after = tail-eq-of-cons-eq (sym all ∙ e);
+            seen = token-seen text at h s;
           }
 
   no-word : {at : ℕ} → at ≤ length text → tokens (drop at text) ≡ [] → wordOf text (tokenFrom text at) ≡ []
@@ -86,6 +90,7 @@ module _ (names : List Token) (text : List ℕ) where
     pub each : EachReads names text (w .spans) (inPostfix e)
     pub after : tokens (drop (w .next) text) ≡ rest
     pub ended : Ended text (w .next)
+    pub last : T (isVisible (getD text (w .next - 1) 0))
     pub past : tokenFrom text at .start < w .next
     pub within : w .next ≤ length text
 
@@ -98,17 +103,18 @@ module _ (names : List Token) (text : List ℕ) where
       (ap (λ ts. tokens (between text s n) ++ ts) (sym k) ∙ sym (tokens-up-to text z f) ∙ token-same text at h ∙ e)
 
   own-reads : {at n : ℕ} {us rest : List Token} {e : Expression} → Reads names expression us e → at ≤ length text → tokens (drop at text) ≡ us ++ rest → tokens (drop n text) ≡ rest → Ended text n → tokenFrom text at .start < n → n ≤ length text
-      → SpanReads names text (span (tokenFrom text at .start) n) e
-  own-reads {us = us} {rest} {e} r h q k f l w = record { ordered = l; within = w; reads = subst (λ ts. Reads names expression ts e) (sym (own-tokens us rest h q k f l)) r }
+      → Seen text (span (tokenFrom text at .start) n) → SpanReads names text (span (tokenFrom text at .start) n) e
+  own-reads {us = us} {rest} {e} r h q k f l w v = record { ordered = l; within = w; first = v .first; last = v .last; reads = subst (λ ts. Reads names expression ts e) (sym (own-tokens us rest h q k f l)) r }
 
   -- A phrase whose last expression is the whole.
   closed-found : {at n : ℕ} {us rest : List Token} {e : Expression} {l : List Span} {es : List Expression} → Reads names expression us e → at ≤ length text → tokens (drop at text) ≡ us ++ rest → tokens (drop n text) ≡ rest → Ended text n → tokenFrom text at .start < n → n ≤ length text
-      → EachReads names text l es → inPostfix e ≡ es ++ (e ∷ []) → Found e rest at (closed l (tokenFrom text at .start) n)
-  closed-found r h q k f i w each nodes =
+      → Seen text (span (tokenFrom text at .start) n) → EachReads names text l es → inPostfix e ≡ es ++ (e ∷ []) → Found e rest at (closed l (tokenFrom text at .start) n)
+  closed-found r h q k f i w v each nodes =
       record {
-        each = subst (EachReads names text _) (sym nodes) (each-append each (EachReads.more (own-reads r h q k f i w) EachReads.none));
+        each = subst (EachReads names text _) (sym nodes) (each-append each (EachReads.more (own-reads r h q k f i w v) EachReads.none));
         after = k;
         ended = f;
+        last = v .last;
         past = i;
         within = w;
       }
@@ -117,7 +123,7 @@ module _ (names : List Token) (text : List ℕ) where
   leaf-found n {at} {t} {rest} {e} r nodes p b h q =
       let w = word-at h q in
       subst (Found e rest at) (sym (step-leaf text at refl n (w .stands) (ap prefixOf (w .word) ∙ p) (ap (sameBytes (bytesOf "(")) (w .word) ∙ b)))
-      (closed-found (isPart r) h q (w .after) (token-ended text at h) (w .ordered) (w .within) EachReads.none nodes)
+      (closed-found (isPart r) h q (w .after) (token-ended text at h) (w .ordered) (w .within) (w .seen) EachReads.none nodes)
 
   -- What p gives for a bound.
   abbrev spansTo : Phrase → ℕ → ℕ → Spanned
@@ -154,6 +160,7 @@ module _ (names : List Token) (text : List ℕ) where
         each = a .each;
         after = c .after;
         ended = token-ended text (expressionBy text (partTo text n) (tokenFrom text at .end) .next) (a .within);
+        last = c .seen .last;
         past = omega (arith, w .ordered, a .past, from, c .forward, c .ordered);
         within = c .within;
       })
@@ -163,7 +170,7 @@ module _ (names : List Token) (text : List ℕ) where
       let b = found r n rest tt (tokenFrom text at .end) (w .within) (omega (arith, w .forward, w .ordered)) (w .after) in
       let from = token-from-past (w .within) in
       subst (Found (prefixed p a) rest at) (sym (step-prefix text at refl n (w .stands) (ap prefixOf (w .word) ∙ e)))
-      (closed-found (isPart (isPrefixed e r)) i q (b .after) (b .ended) (omega (arith, w .ordered, b .past, from)) (b .within) (b .each) (prefixed-nodes p a))
+      (closed-found (isPart (isPrefixed e r)) i q (b .after) (b .ended) (omega (arith, w .ordered, b .past, from)) (b .within) (record { first = w .seen .first; last = b .last }) (b .each) (prefixed-nodes p a))
   found (isPart {ts} {e} r) n rest f at i l q =
       let a = found r n rest tt at i l q in
       let t = part-first r in
@@ -178,7 +185,7 @@ module _ (names : List Token) (text : List ℕ) where
       let from = token-from-past (sign .within) in
       let b = found s n rest tt (tokenFrom text (partTo text n at .next) .end) (sign .within) (omega (arith, w .forward, a .past, sign .forward, sign .ordered)) (sign .after) in
       subst (Found (joined o x y) rest at) (sym (step-operation text at refl (partTo text n) (ap (sameBytes (bytesOf "if")) (w .word) ∙ first .noIf) ∙ step-joined text (partTo text n) (tokenFrom text at .start) (partTo text n at) refl (ap operatorOf (sign .word) ∙ e)))
-      (closed-found (isOperation t r e s) i q (b .after) (b .ended) (omega (arith, a .past, sign .forward, sign .ordered, b .past, from)) (b .within) (each-append (a .each) (b .each)) (joined-nodes o x y))
+      (closed-found (isOperation t r e s) i q (b .after) (b .ended) (omega (arith, a .past, sign .forward, sign .ordered, b .past, from)) (b .within) (record { first = w .seen .first; last = b .last }) (each-append (a .each) (b .each)) (joined-nodes o x y))
   found (isConditional {ts} {us} {vs} {c = x} {a = y} {b = z} r s t) n rest f at i l q =
       let whole : tokens (drop at text) ≡ bytesOf "if" ∷ (ts ++ (bytesOf "then" ∷ (us ++ (bytesOf "else" ∷ (vs ++ rest))))) =
       q ∙ ap (λ w. bytesOf "if" ∷ w) (append-assoc ts (bytesOf "then" ∷ (us ++ (bytesOf "else" ∷ vs))) rest ∙ ap (λ w. ts ++ (bytesOf "then" ∷ w)) (append-assoc us (bytesOf "else" ∷ vs) rest)) in
@@ -193,7 +200,7 @@ module _ (names : List Token) (text : List ℕ) where
       let from3 = token-from-past (other .within) in
       let b = found t n rest tt (tokenFrom text (p (tokenFrom text (p (tokenFrom text at .end) .next) .end) .next) .end) (other .within) (omega (arith, w .forward, w .ordered, from, c .past, then .forward, then .ordered, from2, a .past, other .forward, other .ordered)) (other .after) in
       subst (Found (conditional x y z) rest at) (sym (step-conditional text at refl p (ap (sameBytes (bytesOf "if")) (w .word)) ∙ ap (λ d. closed (d .spans) (tokenFrom text at .start) (d .next)) (step-branches text p (tokenFrom text at .end) refl refl refl)))
-      (closed-found (isConditional r s t) i q (b .after) (b .ended) (omega (arith, w .ordered, from, c .past, then .forward, then .ordered, from2, a .past, other .forward, other .ordered, from3, b .past)) (b .within)
+      (closed-found (isConditional r s t) i q (b .after) (b .ended) (omega (arith, w .ordered, from, c .past, then .forward, then .ordered, from2, a .past, other .forward, other .ordered, from3, b .past)) (b .within) (record { first = w .seen .first; last = b .last })
       (each-append (c .each) (each-append (a .each) (b .each))) (conditional-nodes x y z))
 
   -- The expression from a place on.

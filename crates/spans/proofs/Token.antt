@@ -1,7 +1,7 @@
 -- The first token from a place on is the one of scan's relation, which has one answer. By induction over the bytes from the place on.
 use Prim.Native.Nat.{ℕ, suc, _+_, _-_, _≤_, _<_}
 use mathlib.Core.Path.{_≡_, refl, sym, ap, ap₂, subst, _∙_}
-use mathlib.Core.Bool.{Bool, true, false, true≢false}
+use mathlib.Core.Bool.{Bool, true, false, _||_, true≢false}
 use mathlib.Core.List.{List, [], _∷_, _++_, append-assoc, cons≢nil, head-eq-of-cons-eq}
 use native.Mathlib.Omega.{arith}
 use native.Mathlib.Decide.{decLe}
@@ -13,6 +13,7 @@ use Rattle.text.specs.Bytes.{Token, ByteClass, isBracket, isInside, startsInsid
 use Rattle.text.proofs.Bytes.{HasClass, aBracket, anInside, aBetween, classOf-has, BeginsWithRun, begins, tokens-begin, tokens-append, tokens-bracket}
 use Rattle.scan.specs.declared.Span.{Span}
 use Rattle.scan.specs.Place.{between, TokenAt, noToken, aToken}
+use Rattle.scan.specs.Start.{isVisible}
 use Rattle.scan.proofs.Tokens.{between-split, between-first, between-last, between-none}
 use Rattle.scan.proofs.Functional.{token-unique}
 use Rattle.spans.specs.Token.{span, addToFirst, firstToken, tokenFrom}
@@ -22,12 +23,32 @@ pub data Ended (text : List ℕ) : ℕ → Type 0 where
   runEnds : {e : ℕ} → startsInside (drop e text) ≡ false → Ended text e
   bracketEnds : {p : ℕ} → p < length text → T (isBracket (getD text p 0)) → Ended text (suc p)
 
+-- The first and the last byte of a token are bytes of a token.
+pub record Seen (text : List ℕ) (r : Span) : Type 0 where
+  pub first : T (isVisible (getD text (r .start) 0))
+  pub last : T (isVisible (getD text (r .end - 1) 0))
+
 -- What is shown of the first token from a place on; `run` says whether the byte there is inside a run.
 record First (text : List ℕ) (at : ℕ) (run : Bool) (r : Span) : Type 0 where
   is : TokenAt text at r
   same : tokens (drop (r .start) text) ≡ tokens (drop at text)
   here : run ≡ true → r .start ≡ at
   ended : Ended text (r .end)
+  seen : r .start < r .end → Seen text r
+
+bracket-visible : (b : ℕ) → T (isBracket b) → T (isVisible b)
+bracket-visible b t = or-left (isBracket b) (isInside b) t
+  where
+    or-left : (m n : Bool) → T m → T (m || n)
+    or-left true n t = tt
+    or-left false n t = absurd t
+
+inside-visible : (b : ℕ) → T (isInside b) → T (isVisible b)
+inside-visible b t = or-right (isBracket b) (isInside b) t
+  where
+    or-right : (m n : Bool) → T n → T (m || n)
+    or-right true n t = tt
+    or-right false n t = t
 
 some-token : {ts : List Token} → BeginsWithRun ts → ts ≡ [] → ⊥
 some-token (begins t) e = cons≢nil e
@@ -46,19 +67,20 @@ module _ (text : List ℕ) where
   byte-at p b bs e = head-eq-of-cons-eq (sym (drop-cons text p 0 (inside-text p b bs e)) ∙ e)
 
   -- A token of one byte.
-  single : (p b : ℕ) (bs : List ℕ) (run : Bool) → drop p text ≡ b ∷ bs → tokens (drop p text) ≡ (b ∷ []) ∷ tokens bs → Ended text (suc p) → First text p run (span p (suc p))
-  single p b bs run e q f =
+  single : (p b : ℕ) (bs : List ℕ) (run : Bool) → drop p text ≡ b ∷ bs → tokens (drop p text) ≡ (b ∷ []) ∷ tokens bs → Ended text (suc p) → T (isVisible b) → First text p run (span p (suc p))
+  single p b bs run e q f v =
       let h = inside-text p b bs e in
       record {
         is = aToken (omega arith) (omega arith) (omega arith) (q ∙ ap₂ (λ w l. w ∷ tokens l) (sym (one-byte p b bs h e)) (sym (next-byte p b bs e)));
         same = refl;
         here = λ t. refl;
         ended = f;
+        seen = λ l. let byte = sym (byte-at p b bs e) in let back : p ≡ suc p - 1 = omega arith in record { first = subst (λ k. T (isVisible k)) byte v; last = subst (λ k. T (isVisible (getD text k 0))) back (subst (λ k. T (isVisible k)) byte v) };
       }
 
   -- A byte before a run that begins at the next place.
-  longer : (p b : ℕ) (bs : List ℕ) (run : Bool) {r : Span} → drop p text ≡ b ∷ bs → tokens (drop p text) ≡ extendFirst b (tokens bs) → startsInside bs ≡ true → First text (suc p) true r → First text p run (span p (r .end))
-  longer p b bs run {r} e q g h = by (h .is) (h .here refl) (tokens-begin bs g)
+  longer : (p b : ℕ) (bs : List ℕ) (run : Bool) {r : Span} → T (isVisible b) → drop p text ≡ b ∷ bs → tokens (drop p text) ≡ extendFirst b (tokens bs) → startsInside bs ≡ true → First text (suc p) true r → First text p run (span p (r .end))
+  longer p b bs run {r} v e q g h = by (h .is) (h .here refl) (tokens-begin bs g)
     where
       by : TokenAt text (suc p) r → r .start ≡ suc p → BeginsWithRun (tokens bs) → First text p run (span p (r .end))
       by (noToken s f none) i n = absurd (some-token n (sym (ap tokens (next-byte p b bs e)) ∙ none))
@@ -72,29 +94,30 @@ module _ (text : List ℕ) where
             same = refl;
             here = λ t. refl;
             ended = h .ended;
+            seen = λ l. record { first = subst (λ k. T (isVisible k)) (sym byte) v; last = h .seen s .last };
           }
 
   -- A byte between tokens is passed over.
   passed : (p b : ℕ) (bs : List ℕ) {run : Bool} {r : Span} → drop p text ≡ b ∷ bs → tokens (drop p text) ≡ tokens bs → run ≡ false → First text (suc p) (startsInside bs) r → First text p run r
   passed p b bs {run} {r} e q o h =
       let same : tokens (drop p text) ≡ tokens (drop (suc p) text) = q ∙ ap tokens (sym (next-byte p b bs e)) in
-      record { is = by (h .is) same; same = h .same ∙ sym same; here = λ t. absurd (true≢false (sym t ∙ o)); ended = h .ended }
+      record { is = by (h .is) same; same = h .same ∙ sym same; here = λ t. absurd (true≢false (sym t ∙ o)); ended = h .ended; seen = h .seen }
     where
       by : TokenAt text (suc p) r → tokens (drop p text) ≡ tokens (drop (suc p) text) → TokenAt text p r
       by (noToken s f none) k = noToken s f (k ∙ none)
       by (aToken f s w all) k = aToken (omega arith) s w (k ∙ all)
 
   step : (p b : ℕ) (bs : List ℕ) {c : ByteClass} (g : Bool) {r : Span} → HasClass b c → drop p text ≡ b ∷ bs → tokens (drop p text) ≡ addToTokens c g b (tokens bs) → startsInside bs ≡ g → First text (suc p) g r → First text p (isInside b) (addToFirst c g p r)
-  step p b bs g (aBracket t) e q i h = single p b bs (isInside b) e q (bracketEnds (inside-text p b bs e) (subst (λ k. T (isBracket k)) (sym (byte-at p b bs e)) t))
-  step p b bs true (anInside t) e q i h = longer p b bs (isInside b) e q i h
-  step p b bs false (anInside t) e q i h = single p b bs (isInside b) e q (runEnds (ap startsInside (next-byte p b bs e) ∙ i))
+  step p b bs g (aBracket t) e q i h = single p b bs (isInside b) e q (bracketEnds (inside-text p b bs e) (subst (λ k. T (isBracket k)) (sym (byte-at p b bs e)) t)) (bracket-visible b t)
+  step p b bs true (anInside t) e q i h = longer p b bs (isInside b) (inside-visible b t) e q i h
+  step p b bs false (anInside t) e q i h = single p b bs (isInside b) e q (runEnds (ap startsInside (next-byte p b bs e) ∙ i)) (inside-visible b t)
   step p b bs g {r} (aBetween m n) e q i h = passed p b bs e q n (subst (λ k. First text (suc p) k r) (sym i) h)
 
   first-of : (l : List ℕ) (p : ℕ) → p ≤ length text → drop p text ≡ l → First text p (startsInside l) (firstToken p l)
   unfolding firstToken tokens
   first-of [] p h e =
       let whole : p ≡ length text = let z = ap length e in let w = length-drop p text in omega arith in
-      record { is = noToken whole whole (ap tokens e); same = refl; here = λ t. refl; ended = runEnds (ap startsInside e) }
+      record { is = noToken whole whole (ap tokens e); same = refl; here = λ t. refl; ended = runEnds (ap startsInside e); seen = λ l. absurd (omega arith) }
   first-of (b ∷ bs) p h e =
       let k = inside-text p b bs e in
       step p b bs (startsInside bs) (classOf-has b) e (ap tokens e) refl (first-of bs (suc p) (omega arith) (next-byte p b bs e))
@@ -108,6 +131,9 @@ module _ (text : List ℕ) where
 
   pub token-ended : (at : ℕ) → at ≤ length text → Ended text (tokenFrom text at .end)
   token-ended at h = first-of (drop at text) at h refl .ended
+
+  pub token-seen : (at : ℕ) → at ≤ length text → tokenFrom text at .start < tokenFrom text at .end → Seen text (tokenFrom text at)
+  token-seen at h = first-of (drop at text) at h refl .seen
 
   -- What `next_token` gives is that token.
   pub token-is : {at : ℕ} {r : Span} → at ≤ length text → TokenAt text at r → tokenFrom text at ≡ r
