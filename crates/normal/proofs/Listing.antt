@@ -15,9 +15,9 @@ use mathlib.Core.Bool.{Bool, true, false, cond}
 use Rattle.nodes.specs.declared.Range.{Range}
 use Rattle.scan.specs.declared.Span.{Span}
 use Rattle.spans.specs.Token.{span}
-use Rattle.spans.specs.Stored.{spanBound, placesOf, spanTable}
+use Rattle.spans.specs.Stored.{spanBound, placesOf, putSpans, noSpans, spanTable}
 use Rattle.spans.specs.Spans.{spansIn}
-use Rattle.spans.proofs.Tables.{places-length}
+use Rattle.spans.proofs.Tables.{places-length, table-few}
 use Rattle.normal.specs.Rows.{Row}
 use Rattle.normal.specs.Fields.{entryWith}
 use Rattle.normal.specs.Table.{rowBound, numbersOf, flat, sourceAt, endsOf, endsUpTo, spansFrom, withSpans, blank, rowAt, storedPlace, storedSpan, entryAt, numbersWith, endsWith, listed}
@@ -115,7 +115,11 @@ module _ (numbers text : List ℕ) (long : length numbers ≡ 30944) (few : leng
   ss = spansIn text
 
   abbrev zeros : List ℕ
-  zeros = replicate 2048 0
+  zeros = noSpans
+
+  -- The table of spans that have room.
+  table-at : (k : ℕ) → getD (spanTable text) k 0 ≡ getD (putSpans noSpans 0 ss) k 0
+  table-at k = ap (λ t. getD t k 0) (table-few text few)
 
   places-fit : length (placesOf ss) ≤ length zeros
   places-fit = omega (arith, places-length ss, length-replicate {A = ℕ} 2048 0)
@@ -138,12 +142,12 @@ module _ (numbers text : List ℕ) (long : length numbers ≡ 30944) (few : leng
       table = withSpans numbers (spanTable text)
 
       start-is : Dec (n < length ss) → getD (spanTable text) (n * 2 + 0) 0 ≡ getD ss n (span 0 0) .start
-      start-is (yes l) = stored-in zeros (placesOf ss) 0 places-fit (n * 2 + 0) (omega (arith, places-length ss)) ∙ places-start ss n l
-      start-is (no l) = stored-out zeros (placesOf ss) 0 places-fit (n * 2 + 0) (omega (arith, places-length ss)) ∙ zeros-at {A = ℕ} 2048 (n * 2 + 0) 0 ∙ sym (ap (λ (x : Span). x .start) (List·getD-eq-default ss (span 0 0) (omega arith)))
+      start-is (yes l) = table-at (n * 2 + 0) ∙ stored-in zeros (placesOf ss) 0 places-fit (n * 2 + 0) (omega (arith, places-length ss)) ∙ places-start ss n l
+      start-is (no l) = table-at (n * 2 + 0) ∙ stored-out zeros (placesOf ss) 0 places-fit (n * 2 + 0) (omega (arith, places-length ss)) ∙ zeros-at {A = ℕ} 2048 (n * 2 + 0) 0 ∙ sym (ap (λ (x : Span). x .start) (List·getD-eq-default ss (span 0 0) (omega arith)))
 
       end-is : Dec (n < length ss) → getD (spanTable text) (n * 2 + 1) 0 ≡ getD ss n (span 0 0) .end
-      end-is (yes l) = stored-in zeros (placesOf ss) 0 places-fit (n * 2 + 1) (omega (arith, places-length ss)) ∙ places-end ss n l
-      end-is (no l) = stored-out zeros (placesOf ss) 0 places-fit (n * 2 + 1) (omega (arith, places-length ss)) ∙ zeros-at {A = ℕ} 2048 (n * 2 + 1) 0 ∙ sym (ap (λ (x : Span). x .end) (List·getD-eq-default ss (span 0 0) (omega arith)))
+      end-is (yes l) = table-at (n * 2 + 1) ∙ stored-in zeros (placesOf ss) 0 places-fit (n * 2 + 1) (omega (arith, places-length ss)) ∙ places-end ss n l
+      end-is (no l) = table-at (n * 2 + 1) ∙ stored-out zeros (placesOf ss) 0 places-fit (n * 2 + 1) (omega (arith, places-length ss)) ∙ zeros-at {A = ℕ} 2048 (n * 2 + 1) 0 ∙ sym (ap (λ (x : Span). x .end) (List·getD-eq-default ss (span 0 0) (omega arith)))
 
       by : Dec (n < spanBound) → Dec (n < length ss) → storedSpan table (suc n) ≡ getD ss n (span 0 0)
       by (yes h) d =

@@ -24,14 +24,12 @@ use Rattle.nodes.proofs.Postfix.{sides-inside}
 use Rattle.reader.specs.Stored.{padded, relationsOf, leftsOf, rightsOf, storedSheet, readingOf}
 use Rattle.reader.specs.declared.Sheet.{Sheet as StoredSheet}
 use Rattle.reader.specs.declared.Reading.{Reading}
-use Rattle.spans.specs.Spans.{spansIn}
-use Rattle.spans.specs.Stored.{spanBound, spanTable}
+use Rattle.spans.specs.Stored.{spanTable}
 use Rattle.normal.specs.Rows.{linesOf}
 use Rattle.normal.specs.Stored.{storedLines, rangeBefore}
 use Rattle.normal.specs.Table.{HasLines, LinesHaveRoom, refusedMade, madeOf}
 use Rattle.normal.specs.Outcome.{sheetRange, entriesFor}
 use Rattle.normal.specs.declared.Made.{Made}
-use Rattle.normal.proofs.TextSpans.{spans-few}
 use Rattle.normal.proofs.SheetRows.{lines-stored, sheet-holds, nodes-total, sheet-room}
 
 -- ---- the lists of a stored sheet
@@ -187,12 +185,11 @@ module _ (s : Sheet) where
 -- ---- the reader's answer
 
 -- The reading of an accepted sheet.
-pub record SheetRead (text : List ℕ) (a : Answer) (x : Reading) : Type 0 where
+pub record SheetRead (a : Answer) (x : Reading) : Type 0 where
   pub source : Sheet
   pub is : a ≡ sheet source
   pub stored : x .sheet ≡ storedSheet source
   pub accepted : Accepted cutTowardZero source
-  pub fewSpans : length (spansIn text) ≤ spanBound
 
 module _ (text : List ℕ) {x : Reading} (e : x ≡ readingOf (answerTo cutTowardZero threeHeaderLines text)) where
   abbrev answer : Answer
@@ -205,23 +202,23 @@ module _ (text : List ℕ) {x : Reading} (e : x ≡ readingOf (answerTo cutTowar
       by (refused n) p = ap (λ (y : Reading). refusedMade (y .refusal)) p
       by (sheet s) p = absurd (h (ap (λ (y : Reading). y .refusal) p))
 
-  pub reading-sheet : x .refusal ≡ 0 → SheetRead text answer x
+  pub reading-sheet : x .refusal ≡ 0 → SheetRead answer x
   reading-sheet h = by answer e (answer-correct cutTowardZero threeHeaderLines text)
     where
-      by : (a : Answer) → x ≡ readingOf a → AnswerTo cutTowardZero threeHeaderLines text a → SheetRead text a x
+      by : (a : Answer) → x ≡ readingOf a → AnswerTo cutTowardZero threeHeaderLines text a → SheetRead a x
       by (refused n) p r = let z = ap (λ (y : Reading). y .refusal) p in absurd (omega (arith, refusal-positive r))
-      by (sheet s) p r = record { source = s; is = refl; stored = ap (λ (y : Reading). y .sheet) p; accepted = accepted-facts r; fewSpans = spans-few r }
+      by (sheet s) p r = record { source = s; is = refl; stored = ap (λ (y : Reading). y .sheet) p; accepted = accepted-facts r }
 
-module _ {text : List ℕ} {a : Answer} {x : Reading} (r : SheetRead text a x) where
+module _ {a : Answer} {x : Reading} (r : SheetRead a x) where
   pub read-holding : Holding (x .sheet)
   read-holding = subst Holding (sym (r .stored)) (sheet-holding (r .source))
 
   pub read-asked : Asked (r .source) (listsOf (x .sheet))
   read-asked = subst (Asked (r .source)) (sym (ap listsOf (r .stored) ∙ lists-are (r .source))) (sheet-asked (r .source) (r .accepted))
 
-  pub read-made : (room : ℕ) {m : Made} {spans : List ℕ} → (length (spansIn text) ≤ spanBound → spans ≡ spanTable text) → m ≡ madeFrom (r .source) (listsOf (x .sheet)) spans room → m ≡ entriesFor text a room
-  read-made room e q =
+  pub read-made : (text : List ℕ) (room : ℕ) {m : Made} {spans : List ℕ} → spans ≡ spanTable text → m ≡ madeFrom (r .source) (listsOf (x .sheet)) spans room → m ≡ entriesFor text a room
+  read-made text room e q =
       q
-      ∙ (λ i. madeFrom (r .source) ((ap listsOf (r .stored) ∙ lists-are (r .source)) i) (e (r .fewSpans) i) room)
+      ∙ (λ i. madeFrom (r .source) ((ap listsOf (r .stored) ∙ lists-are (r .source)) i) (e i) room)
       ∙ sheet-made (r .source) text room
       ∙ ap (λ b. entriesFor text b room) (sym (r .is))

@@ -34,15 +34,16 @@ module _ {text : List ℕ} {from : ℕ} {old mid : List ℕ} {at count : ℕ} (h
   is : tokenFrom text at ≡ t
   is = token-is text (h .place .inside) token
 
-  pub loop-ends : t .start ≡ t .end → length (allFrom text from) ≤ spanBound → mid ≡ putSpans old 0 (allFrom text from)
-  loop-ends e l =
-      let all : allFrom text from ≡ h .done = h .all ∙ ap (λ x. h .done ++ x) (none (h .left) (h .enough)) ∙ append-nil (h .done) in
-      let z = ap length all in
-      h .table (omega arith) ∙ ap (putSpans old 0) (sym all)
-    where
-      none : (d : ℕ) → length text < at + d → constraintsTo text d at ≡ []
-      none zero k = absurd (omega (arith, h .place .inside))
-      none (suc n) k = step-last text n at is e
+  module _ (e : t .start ≡ t .end) where
+    all-done : allFrom text from ≡ h .done
+    all-done = h .all ∙ ap (λ x. h .done ++ x) (none (h .left) (h .enough)) ∙ append-nil (h .done)
+      where
+        none : (d : ℕ) → length text < at + d → constraintsTo text d at ≡ []
+        none zero k = absurd (omega (arith, h .place .inside))
+        none (suc n) k = step-last text n at is e
+
+    pub loop-ends : (count ≡ length (allFrom text from)) × (count ≤ spanBound → mid ≡ putSpans old 0 (allFrom text from))
+    loop-ends = (h .counted ∙ ap length (sym all-done), λ l. h .table (omega (arith, h .counted)) ∙ ap (putSpans old 0) (sym all-done))
 
   module _ (stands : t .start ≡ t .end → ⊥) {new : List ℕ} {r : Reached} (k : Stores (λ d. constraintFrom text at) text at count mid new r) where
     pub loop-further : at < r .next

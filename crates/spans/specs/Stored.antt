@@ -1,7 +1,9 @@
 -- Spans in a table of numbers, two for each, and what the functions over a text store and give.
 use Prim.Native.Nat.{ℕ, _+_, _*_, _≤_, _<_}
 use mathlib.Core.Path.{_≡_}
+use mathlib.Core.Bool.{cond}
 use mathlib.Core.List.{List, [], _∷_}
+use lib.Dec.{ltb}
 use lib.ListN.{length, replicate}
 use lib.Seq.{sets}
 use Rattle.scan.specs.declared.Span.{Span}
@@ -21,9 +23,12 @@ spanBound = 1024
 abbrev pub putSpans : List ℕ → ℕ → List Span → List ℕ
 putSpans table n ss = sets table (n * 2) (placesOf ss)
 
--- The table of the spans of a text.
-abbrev pub spanTable : List ℕ → List ℕ
-spanTable text = putSpans (replicate 2048 0) 0 (spansIn text)
+abbrev pub noSpans : List ℕ
+noSpans = replicate 2048 0
+
+-- The table of the spans of a text; zeros where they are more than it holds.
+unfoldable pub spanTable : List ℕ → List ℕ
+spanTable text = cond (ltb spanBound (length (spansIn text))) noSpans (putSpans noSpans 0 (spansIn text))
 
 -- A place of a text that is short enough for its places to be stored, with no more spans stored than bytes passed.
 pub record PlaceIn (text : List ℕ) (at count : ℕ) : Type 0 where

@@ -5,7 +5,7 @@ ghost use mathlib.Core.List.{[], _∷_};
 ghost use Prim.Native.Nat.{suc, _+_, _≤_, _<_};
 ghost use lib.ListN.{length};
 ghost use Rattle.spans.specs.Token.{span};
-ghost use Rattle.spans.specs.Spans.{partTo, branchesBy, expressionBy, constraintFrom, constraintsTo, lineStart, spansIn};
+ghost use Rattle.spans.specs.Spans.{partTo, branchesBy, expressionBy, constraintFrom, constraintsTo, lineStart};
 ghost use Rattle.spans.specs.Stored.{spanBound, putSpans, spanTable, PlaceIn, Stores};
 
 // The place behind a phrase, and how many spans are stored so far.
@@ -107,19 +107,19 @@ fn constraint(text: &[u8], at: usize, spans: &mut [u16; 2048], count: usize) -> 
     expression(text, sign.end, spans, left.count)
 }
 
-// Stores the spans of the constraints from the place `from` on.
-fn constraints(text: &[u8], from: usize, spans: &mut [u16; 2048])
+// Stores the spans of the constraints from the place `from` on, and gives their number.
+fn constraints(text: &[u8], from: usize, spans: &mut [u16; 2048]) -> usize
     requires { ⌜ PlaceIn (now text) from 0 ⌝ }
-    ensures { λ r. ⌜ (length (constraintsTo (now (text .entry)) (suc (length (now (text .entry)))) from) ≤ spanBound → now (spans .exit) ≡ putSpans (now (spans .entry)) 0 (constraintsTo (now (text .entry)) (suc (length (now (text .entry)))) from)) ⌝ }
+    ensures { λ r. ⌜ (r ≡ length (constraintsTo (now (text .entry)) (suc (length (now (text .entry)))) from)) × (r ≤ spanBound → now (spans .exit) ≡ putSpans (now (spans .entry)) 0 (constraintsTo (now (text .entry)) (suc (length (now (text .entry)))) from)) ⌝ }
 {
     let mut at = from;
-    let mut count = 0;
+    let mut count: usize = 0;
     loop {
         let token = scan::next_token(text, at);
         let start = token.start;
         let end = token.end;
         if start == end {
-            return;
+            return count;
         }
         let line = constraint(text, at, spans, count);
         at = line.next;
@@ -145,16 +145,19 @@ fn behind_header(text: &[u8]) -> usize
     i
 }
 
-// The spans of the expressions of the sheet's constraints, two numbers each, in the order of the stored nodes. What the table holds where they
-// are more than a sheet's is left open.
+// The spans of the expressions of the sheet's constraints, two numbers each, in the order of the stored nodes. The table is zero where they are more
+// than a sheet's.
 pub fn spans(text: &[u8]) -> [u16; 2048]
-    ensures { λ r. ⌜ (length (spansIn (now (text .entry))) ≤ spanBound → r ≡ spanTable (now (text .entry))) ⌝ }
+    ensures { λ r. ⌜ r ≡ spanTable (now (text .entry)) ⌝ }
 {
     let mut table: [u16; 2048] = [0; 2048];
     if 65535 < text.len() {
         return table;
     }
     let from = behind_header(text);
-    constraints(text, from, &mut table);
+    let count = constraints(text, from, &mut table);
+    if 1024 < count {
+        return [0; 2048];
+    }
     table
 }

@@ -143,7 +143,7 @@ returns-2 c =
     let s = c .before .before .before .before .before .before .before .before .before .before .before .before .before .before .before .before .before .before .before .before .before .before .before .before in
     let read = c .before .before .before .before .before .before .before .before .before .before .before .before .before .before .before .before .before .before .before .before .before .before .read in
     let got = reading-sheet (s .args .text .now) (read .ensures) (c .before .before .before .before .before .before .before .before .before .before .before .before .before .before .before .before .before .before .before .before .if1 .left) in
-    read-made got (s .args .room) (c .before .before .before .before .before .before .before .before .before .before .spans .ensures) (c .make .ensures)
+    read-made got (s .args .text .now) (s .args .room) (c .before .before .before .before .before .before .before .before .before .before .spans .ensures) (c .make .ensures)
 
 pub read-entries-spec : {M : Type 1} → statement M
 read-entries-spec =
