@@ -127,10 +127,10 @@ def normal_case(vector, text):
     it must print; the rows are held to the vector's entries."""
     lines, rows, added = [], [], 0
     if not vector["refusal"]:
-        form = Rows(read(text)[1])
+        form = Rows(text, read(text)[1])
         rows, added = form.all()
         assert [form.decoded(row) for row in rows] == vector["entries"]
-        ranges = {row[2] - form.own: list(row[6:]) for row in rows if row[0] > 1}
+        ranges = {row[4] - form.own: list(row[12:]) for row in rows if row[0] > 1}
         assert [ranges[stream] for stream in range(added)] == vector["added"]
     lines = [(vector["refusal"], len(rows), added), *rows]
     printed = "".join(" ".join(map(str, line)) + "\n" for line in lines)

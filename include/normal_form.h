@@ -6,10 +6,24 @@
  * The sheet's bytes and the list are each a pointer, which is not null, and the number of elements there. With refusal 0
  * the first `entries` records of the list hold the normal form, `added` streams are added to the sheet's, and the records
  * behind them are zero. With a refusal 1 to 7, or 10 where the list is shorter than the entries, the other numbers are 0
- * and the whole list is zero.
+ * and the whole list is zero, byte for byte: a record has no bytes between its fields.
  *
- * crates/normal/specs/Encoded.antt says what the fields of a record mean, by its kind. A place of a node counts the nodes
- * of all sides of the sheet's constraints in the order in which they are read, each node behind its parts.
+ * A record's fields, by its kind. Streams are numbered from 0, the sheet's own first, in the order of line 1. A span is a
+ * pair of places in the sheet's bytes, from 0: an expression's text from `begin` to before `end`, without brackets around it.
+ *   kind 1  a rewritten constraint: `left_begin` to `left_end`, the sign, `right_begin` to `right_end`.
+ *           `relation` is the sign's place among < <= == >= > != ->, from 0.
+ *   kind 2  stream `left` until stream `right`; `relation` is 7.
+ *   kind 3  stream `left` == the expression `right_begin` to `right_end`.
+ *   kind 4  stream `left` == next stream `right`.
+ *   kind 5  first stream `left` == first stream `right`.
+ * In kinds 3 to 5 `relation` is 2. In kinds 2 to 5 stream `left` is an added one; it stands for the expression `left_begin`
+ * to `left_end` and takes the values `low` to `high`. Where `replaces` is 1, that expression is a whole `next` or `fby`, and in
+ * the text of a side that holds it the stream stands in its place, the longest such one where several begin at one place,
+ * parted by a space from what follows.
+ * `left_added` and `right_added` are the numbers of the first streams that rewriting the left and the right side adds.
+ * `stream_kind` is the kind of stream `left`, always 0 today. All else is 0.
+ *
+ * examples/print_normal.c prints the entries of a sheet.
  */
 #ifndef NORMAL_FORM_H
 #define NORMAL_FORM_H
@@ -17,8 +31,9 @@
 #include <stdint.h>
 
 struct normal_form_entry {
-    uint8_t kind, relation;
-    uint16_t left, left_added, right, right_added;
+    uint16_t kind, relation, stream_kind, replaces;
+    uint16_t left, left_added, left_begin, left_end;
+    uint16_t right, right_added, right_begin, right_end;
     int64_t low, high;
 };
 

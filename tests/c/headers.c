@@ -5,5 +5,5 @@
 
 _Static_assert(sizeof(struct compile_answer) == 12, "three numbers of four bytes");
 _Static_assert(sizeof(struct normal_form_answer) == 12, "three numbers of four bytes");
-_Static_assert(sizeof(struct normal_form_entry) == 32, "as in tests/normal/compare.py");
-_Static_assert(offsetof(struct normal_form_entry, left) == 2 && offsetof(struct normal_form_entry, low) == 16, "as in tests/normal/compare.py");
+_Static_assert(sizeof(struct normal_form_entry) == 12 * 2 + 2 * 8, "twelve numbers of two bytes and two of eight, with no bytes between them");
+_Static_assert(offsetof(struct normal_form_entry, left) == 8 && offsetof(struct normal_form_entry, right) == 16 && offsetof(struct normal_form_entry, low) == 24, "as in tests/normal/compare.py");

@@ -6,13 +6,17 @@ Builds the archive of the crate `normal_c` (rt staticlib), links it as a shared 
 (CC names the compiler) and calls it for each line of vectors/normal.jsonl, with the
 line's sheet of vectors/sheets.jsonl and a list of the line's length. The answer, every
 record and what it says, the ranges of the added streams and the zeros behind the records
-must agree, and what stands behind the list must stay as it was.
+must agree, byte for byte, and what stands behind the list must stay as it was.
+
+What `examples/print_normal.c` prints of each accepted sheet, from text and list alone, must
+read back as the stored entries.
 """
 
 import ctypes
 import json
 import os
 import pathlib
+import re
 import struct
 import subprocess
 import sys
@@ -20,26 +24,28 @@ from collections import Counter
 
 ROOT = pathlib.Path(__file__).resolve().parents[2]
 sys.path.insert(0, str(ROOT / "enumerator"))
+from grammar import Token, constraint_readings, constraint_text, split_tokens  # noqa: E402
 from normal_rows import Rows  # noqa: E402
 from reading import read  # noqa: E402
 
 ARCHIVE = ROOT / "target" / "staticlib" / "libnormal_c.a"
 LIBRARY = ROOT / "target" / "tests" / "libnormal_c.so"
-ZEROS = (0,) * 8
+PROGRAM = ROOT / "target" / "tests" / "print_normal"
 # Records behind the list, which the call must not touch.
 BEHIND = 4
 
 
+PLACES = ["kind", "relation", "stream_kind", "replaces", "left", "left_added", "left_begin", "left_end",
+          "right", "right_added", "right_begin", "right_end"]
+
+
 class Entry(ctypes.Structure):
-    _fields_ = [("kind", ctypes.c_uint8), ("relation", ctypes.c_uint8),
-                ("left", ctypes.c_uint16), ("left_added", ctypes.c_uint16),
-                ("right", ctypes.c_uint16), ("right_added", ctypes.c_uint16),
-                ("low", ctypes.c_int64), ("high", ctypes.c_int64)]
+    _fields_ = [(name, ctypes.c_uint16) for name in PLACES] + [("low", ctypes.c_int64), ("high", ctypes.c_int64)]
 
 
-# An entry in memory: six bytes between `right_added` and `low` belong to no field.
-ENTRY = struct.Struct("<BB4H6x2q")
-assert ENTRY.size == ctypes.sizeof(Entry)
+# An entry in memory: every byte belongs to a field.
+ENTRY = struct.Struct("<12H2q")
+assert ENTRY.size == ctypes.sizeof(Entry) == 40
 
 
 class NormalForm(ctypes.Structure):
@@ -51,33 +57,35 @@ def built():
     subprocess.run(["rt", "staticlib", "normal_c"], cwd=ROOT, check=True, stdout=subprocess.DEVNULL)
     subprocess.run([os.environ.get("CC", "cc"), "-shared", "-o", str(LIBRARY),
                     "-Wl,--whole-archive", str(ARCHIVE), "-Wl,--no-whole-archive"], cwd=ROOT, check=True)
+    subprocess.run([os.environ.get("CC", "cc"), "-std=c11", "-O2", "-Wall", "-Wextra", "-Wpedantic", "-Werror", "-I", "include",
+                    "-o", str(PROGRAM), "examples/print_normal.c", str(ARCHIVE)], cwd=ROOT, check=True)
     function = ctypes.CDLL(str(LIBRARY)).normal_form_c
     function.restype = NormalForm
     return function
 
 
 def called(function, text, length):
-    """The answer, the records of the list, and whether what stands behind the list is as it was. All bytes are ones
-    before the call, so that what is not written shows."""
+    """The answer, the list's bytes, and whether what stands behind the list is as it was. All bytes are ones before the
+    call, so that what is not written shows."""
     lent = (Entry * (length + BEHIND))()
     ctypes.memset(lent, 1, ctypes.sizeof(lent))
     answer = function(ctypes.c_char_p(text), ctypes.c_size_t(len(text)), lent, ctypes.c_size_t(length))
     content = bytes(lent)
     end = length * ENTRY.size
-    return answer, list(ENTRY.iter_unpack(content[:end])), content[end:] == b"\1" * (BEHIND * ENTRY.size)
+    return answer, content[:end], content[end:] == b"\1" * (BEHIND * ENTRY.size)
 
 
 def difference(function, text, wanted):
-    answer, records, untouched = called(function, text, wanted["list"])
+    answer, content, untouched = called(function, text, wanted["list"])
     counts = len(wanted["entries"]), len(wanted["added"])
     if (answer.refusal, answer.entries, answer.added) != (wanted["refusal"], *counts):
         return "answer %d %d %d" % (answer.refusal, answer.entries, answer.added)
-    filled, rest = records[:answer.entries], records[answer.entries:]
-    if any(record != ZEROS for record in rest):
-        return "numbers behind the records"
+    filled, rest = content[:answer.entries * ENTRY.size], content[answer.entries * ENTRY.size:]
+    if any(rest):
+        return "bytes behind the records"
     if not untouched:
         return "numbers written behind the list"
-    return None if answer.refusal else filled_difference(Rows(read(text)[1]), filled, wanted)
+    return None if answer.refusal else filled_difference(Rows(text, read(text)[1]), list(ENTRY.iter_unpack(filled)), wanted)
 
 
 def filled_difference(rows, filled, wanted):
@@ -86,9 +94,38 @@ def filled_difference(rows, filled, wanted):
         return "records"
     if [rows.decoded(record) for record in filled] != wanted["entries"]:
         return "what the records say"
-    ranges = {(record[2] - rows.own, *record[6:]) for record in filled if record[0] > 1}
+    ranges = {(record[4] - rows.own, *record[12:]) for record in filled if record[0] > 1}
     if ranges != {(stream, *ends) for stream, ends in enumerate(wanted["added"])}:
         return "ranges of the added streams"
+    return None
+
+
+# ---- what the example prints
+
+
+def stream_name(number):
+    """A name for an added stream that no sheet of the vectors has."""
+    return "zz" + "".join("abcdefghij"[int(digit)] for digit in "%06d" % number)
+
+
+def read_back(line, own):
+    """The entry that a printed line is read as, in the text of the vectors."""
+    tokens = [Token(stream_name(int(token.text[1:])) if token.text[0] == "#" else token.text, token.place)
+              for token in split_tokens(line.split(b", #")[0], 0)]
+    entry, = constraint_readings(tokens)
+    digits = lambda name: int("".join(str("abcdefghij".index(letter)) for letter in name.group(1)))  # noqa: E731
+    return re.sub("zz([a-j]{6})", lambda name: "#%d" % (digits(name) - own), constraint_text(entry))
+
+
+def printed_difference(text, wanted):
+    printed = subprocess.run([str(PROGRAM)], input=text, check=True, stdout=subprocess.PIPE).stdout.splitlines()
+    own = len(text.split(b"\n")[0].split())
+    if [read_back(line, own) for line in printed] != wanted["entries"]:
+        return "what the example prints"
+    ranges = {(int(stream) - own, int(low), int(high))
+              for stream, low, high in re.findall(rb"#(\d+) from (-?\d+) to (-?\d+)", b"\n".join(printed))}
+    if ranges != {(stream, *ends) for stream, ends in enumerate(wanted["added"])}:
+        return "the ranges that the example prints"
     return None
 
 
@@ -101,16 +138,20 @@ def main():
     function = built()
     texts = {sheet["name"]: sheet["sheet"].encode("latin-1") for sheet in lines("sheets.jsonl")}
     calls = lines("normal.jsonl")
-    compared, records, faults = Counter(), 0, 0
+    compared, records, faults, printed = Counter(), 0, 0, set()
     for wanted in calls:
-        fault = difference(function, texts[wanted["name"]], wanted)
+        text = texts[wanted["name"]]
+        fault = difference(function, text, wanted)
+        if not wanted["refusal"] and text not in printed:
+            printed.add(text)
+            fault = fault or printed_difference(text, wanted)
         compared[wanted["refusal"]] += 1
         records += len(wanted["entries"])
         if fault:
             faults += 1
             print("%s with a list of %d: %s" % (wanted["name"], wanted["list"], fault))
-    print("normal_form: %d calls with %d entries compared (%s), %d differ" % (
-        len(calls), records, ", ".join("refusal %d: %d" % item for item in sorted(compared.items())), faults))
+    print("normal_form: %d calls with %d entries compared (%s), %d sheets printed and read back, %d differ" % (
+        len(calls), records, ", ".join("refusal %d: %d" % item for item in sorted(compared.items())), len(printed), faults))
     return 1 if faults else 0
 
 

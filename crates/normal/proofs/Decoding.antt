@@ -1,21 +1,21 @@
--- The entries say what the normal form says: decoded one by one they are its constraints, in order. So entries that are equal come from equal
--- normal forms, and there are as many entries as constraints.
-use Prim.Native.Nat.{ℕ, suc, _+_, _-_, _<_}
+-- The rows of a sheet's entries are the constraints of its normal form, one by one and in order, where a node stands for its expression. So there are as
+-- many entries as constraints. (Saying shows the same of the records, from the text.)
+use Prim.Native.Nat.{ℕ, suc, _+_, _-_}
 use native.Mathlib.Omega.{arith}
 use mathlib.Core.Path.{_≡_, refl, sym, _∙_, ap, ap₂}
 use mathlib.Core.Bool.{cond}
 use mathlib.Core.List.{List, [], _∷_, _++_, map, map-append}
-use lib.ListN.{length, getD, length-append, length-map}
+use lib.Dec.{eqb}
+use lib.ListN.{length, length-append, length-map}
 use Rattle.meaning.specs.Value.{equal}
 use Rattle.meaning.specs.Arithmetic.{cutTowardZero}
 use Rattle.meaning.specs.Expression.{Expression, integer, name, first, next, negation, binary, conditional, fby, Sign, comparison, Constraint, always, until, leftSide, rightSide, Sheet}
 use Rattle.meaning.specs.NormalForm.{added, addedCount, rewritten, equation, addedEntries, addedBy, rewrittenConstraint, entriesBy, allAdded, allRewritten, allEntries, normalForm}
-use Rattle.meaning.proofs.Lists.{getD-map}
-use Rattle.nodes.specs.Code.{signCode}
+use Rattle.nodes.specs.Code.{signCode, signAt}
 use Rattle.nodes.proofs.SignCodes.{sign-code}
-use Rattle.normal.specs.Rows.{Row, Rewriting, nodeCount, inPostfix, rewriting, fbyEntries, untilEntries, Line, untilLine, alwaysLine, lineOf, lineAt, linesOf, ownRows, addedRows, streamsAfter}
-use Rattle.normal.specs.Table.{blank}
-use Rattle.normal.specs.Encoded.{nodeExpressions, sourceInterval, entryOf, rowsOf, encoded, decoded}
+use Rattle.spans.specs.Postfix.{inPostfix, nodeCount, nodeExpressions}
+use Rattle.normal.specs.Rows.{Row, Rewriting, rewriting, fbyEntries, untilEntries, Line, untilLine, alwaysLine, lineOf, lineAt, linesOf, ownRows, addedRows, streamsAfter}
+use Rattle.normal.specs.Encoded.{expressionAt, rowsOf, recordOf, encoded}
 use Rattle.normal.proofs.Places.{Stand, Stand-append, stand-self, root-at, sides-stand}
 
 -- ---- how many streams are added
@@ -46,13 +46,26 @@ added-counted p (fby a b) =
 pub always-line : (s : Sign) (l r : ℕ) (a b : Rewriting) → lineOf (signCode s) l r a b ≡ alwaysLine (signCode s) l r a b
 always-line s l r a b = ap (λ t. cond t (untilLine l r a b) (alwaysLine (signCode s) l r a b)) (sign-code s .1)
 
+-- The constraint of a row, where a node stands for the expression of the sheet's node.
+unfoldable pub decoded : Sheet → Row → Constraint
+decoded s r =
+    cond (eqb (r .kind) 1)
+    (always (signAt (r .relation)) (rewritten (r .leftAdded) (expressionAt s (r .left))) (rewritten (r .rightAdded) (expressionAt s (r .right))))
+    (cond (eqb (r .kind) 2)
+    (until (name (r .left)) (name (r .right)))
+    (cond (eqb (r .kind) 3)
+    (equation (r .left) (rewritten (r .rightAdded) (expressionAt s (r .right))))
+    (cond (eqb (r .kind) 4)
+    (equation (r .left) (next (name (r .right))))
+    (always (comparison equal) (first (name (r .left))) (first (name (r .right)))))))
+
 module _ (s : Sheet) where
   abbrev pub L : List Expression
   L = nodeExpressions (s .constraints)
 
-  -- What a row says; its range plays no part.
+  -- What a row says.
   abbrev pub says : Row → Constraint
-  says r = decoded s (entryOf r (sourceInterval cutTowardZero s (r .source)))
+  says r = decoded s r
 
   -- ---- expressions
 
@@ -171,19 +184,12 @@ module _ (s : Sheet) where
       let w = line-says p c (g .0) (g .1) in
       streams-counted _ _ cs (g .2) ∙ omega (arith, w .count, length-append (addedBy c) (allAdded cs))
 
--- Decoded one by one, the entries are the constraints of the normal form.
-pub entries-decoded : (s : Sheet) → map (decoded s) (encoded s) ≡ normalForm cutTowardZero s .constraints
-entries-decoded s = maps (rowsOf s) ∙ all-say s
-  where
-    maps : (rows : List Row) → map (decoded s) (map (λ r. entryOf r (sourceInterval cutTowardZero s (r .source))) rows) ≡ map (says s) rows
-    maps [] = refl
-    maps (r ∷ rows) = ap (λ l. says s r ∷ l) (maps rows)
+-- Decoded one by one, the rows are the constraints of the normal form.
+pub rows-decoded : (s : Sheet) → map (decoded s) (rowsOf s) ≡ normalForm cutTowardZero s .constraints
+rows-decoded s = all-say s
 
-pub encoded-length : (s : Sheet) → length (encoded s) ≡ length (normalForm cutTowardZero s .constraints)
-encoded-length s = sym (length-map (encoded s) (decoded s)) ∙ ap length (entries-decoded s)
+pub rows-counted : (s : Sheet) → length (rowsOf s) ≡ length (normalForm cutTowardZero s .constraints)
+rows-counted s = sym (length-map (rowsOf s) (decoded s)) ∙ ap length (rows-decoded s)
 
--- Each entry says the constraint of the normal form in its own place.
-pub entry-decodes : (s : Sheet) (i : ℕ) (c : Constraint) → i < length (normalForm cutTowardZero s .constraints)
-    → decoded s (getD (encoded s) i blank) ≡ getD (normalForm cutTowardZero s .constraints) i c
-entry-decodes s i c h =
-    sym (getD-map (decoded s) (encoded s) i blank c (omega (arith, encoded-length s))) ∙ ap (λ l. getD l i c) (entries-decoded s)
+pub encoded-length : (text : List ℕ) (s : Sheet) → length (encoded text s) ≡ length (normalForm cutTowardZero s .constraints)
+encoded-length text s = length-map (rowsOf s) (recordOf text s) ∙ rows-counted s

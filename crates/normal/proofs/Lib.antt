@@ -5,10 +5,13 @@ pub mod Entries
 pub mod Places
 pub mod Decoding
 pub mod SheetRows
+pub mod TextSpans
 pub mod Sources
 pub mod Listing
 pub mod Outcome
 pub mod StoredReading
+pub mod Saying
 pub mod Ranges
+pub mod Standing
 pub mod Solutions
 pub mod Sizes

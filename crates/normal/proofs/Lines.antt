@@ -12,7 +12,7 @@ use lib.Seq.{sets, set-comm, drop-cons}
 use borrow.Author.Tests.{eq-eqb, ne-eqb, lt-ltb, le-ltb}
 use Rattle.normal.specs.Rows.{Row, Rewriting, joined, untilRow, untilEntries, untilRewriting, Line, untilLine, alwaysLine, lineOf, ownRows, addedRows, allRows, streamsAfter}
 use Rattle.normal.specs.Stored.{rewritingBefore, storedLine, storedLines}
-use Rattle.normal.specs.Table.{rowBound, streamLimit, flat, putRows, HasRoom, Wrote, WroteLine, WroteLines, LinesHaveRoom, endsUpTo, refusedMade, numbersWith, madeOf}
+use Rattle.normal.specs.Table.{rowBound, streamLimit, flat, putRows, HasRoom, Wrote, WroteLine, WroteLines, LinesHaveRoom, endsUpTo, refusedMade, numbersWith, withSpans, madeOf}
 use Rattle.normal.specs.declared.Made.{Made}
 use Rattle.normal.specs.declared.Written.{Written}
 use Rattle.nodes.specs.declared.Range.{Range}
@@ -203,32 +203,32 @@ stored-count kinds starts (p ∷ relations) (l ∷ lefts) (r ∷ rights) el er =
 
 -- ---- all entries
 
-module _ (ls : List Line) (streams : ℕ) {count : ℕ} (e : length ls ≡ count) {new : List ℕ} {r : Written} (w : WroteLines ls 0 count streams (replicate 28896 0) new r) where
+module _ (ls : List Line) (streams : ℕ) {count : ℕ} (e : length ls ≡ count) {new : List ℕ} {r : Written} (w : WroteLines ls 0 count streams (replicate 30944 0) new r) where
   pub rows-counted : r .row ≡ length (allRows streams ls)
   rows-counted = w .rows ∙ omega (arith, length-append (ownRows streams ls) (addedRows streams ls), length-ownRows streams ls)
 
   pub rows-written : new ≡ numbersWith (allRows streams ls)
   rows-written =
       let at : count ≡ 0 + length (ownRows streams ls) = omega (arith, length-ownRows streams ls) in
-      put-more (replicate 28896 0) 0 (ownRows streams ls) (addedRows streams ls) refl at (w .table)
+      put-more (replicate 30944 0) 0 (ownRows streams ls) (addedRows streams ls) refl at (w .table)
 
   pub streams-added : streams ≤ r .stream
   streams-added = omega (arith, streams-more streams ls, w .streams)
 
-  module _ (range : ℕ → Range) (room : ℕ) where
-    pub made-short : {x : Made} → room < r .row → x ≡ refusedMade 10 → x ≡ madeOf ls streams range room
+  module _ (range : ℕ → Range) (spans : List ℕ) (room : ℕ) where
+    pub made-short : {x : Made} → room < r .row → x ≡ refusedMade 10 → x ≡ madeOf ls streams range spans room
     unfolding madeOf
     made-short h q = let c = rows-counted in q ∙ sym (simp (lt-ltb room (length (allRows streams ls)) (omega arith)))
 
-    pub made-whole : {ends : List ℤ} → r .row ≤ room → ends ≡ sets (replicate 8256 (pos 0)) 0 (endsUpTo range new (r .row))
-        → _≡_ {A = Made} (record { answer = record { refusal = 0; entries = r .row; added = r .stream - streams }; numbers = new; ends = ends }) (madeOf ls streams range room)
+    pub made-whole : {ends : List ℤ} {numbers : List ℕ} → r .row ≤ room → numbers ≡ withSpans new spans → ends ≡ sets (replicate 8256 (pos 0)) 0 (endsUpTo range new (r .row))
+        → _≡_ {A = Made} (record { answer = record { refusal = 0; entries = r .row; added = r .stream - streams }; numbers = numbers; ends = ends }) (madeOf ls streams range spans room)
     unfolding madeOf
-    made-whole h q =
+    made-whole h p q =
         let c = rows-counted in
         let s = w .streams in
         (λ i. record {
           answer = record { refusal = 0; entries = c i; added = s i - streams };
-          numbers = rows-written i;
+          numbers = (p ∙ ap (λ t. withSpans t spans) rows-written) i;
           ends = (q ∙ (λ k. sets (replicate 8256 (pos 0)) 0 (endsUpTo range (rows-written k) (c k)))) i;
         })
         ∙ sym (simp (le-ltb room (length (allRows streams ls)) (omega arith)))

@@ -9,8 +9,7 @@ use lib.ListN.{length, getD, length-append}
 use lib.Seq.{getD-append-seam}
 use Rattle.meaning.specs.Expression.{Expression, integer, name, first, next, negation, binary, conditional, fby, Constraint, leftSide, rightSide}
 use Rattle.meaning.specs.Interval.{subexpressions}
-use Rattle.normal.specs.Rows.{inPostfix, nodeCount}
-use Rattle.normal.specs.Encoded.{nodeExpressions}
+use Rattle.spans.specs.Postfix.{inPostfix, nodeCount, nodeExpressions}
 
 -- The expressions stand in the list from the place p on.
 abbrev pub Stand : List Expression → ℕ → List Expression → Type 0

@@ -4,8 +4,10 @@ use Prim.Native.Nat.{ℕ, zero, suc, _+_, _-_, _≤_, _<_}
 use native.Mathlib.Omega.{arith}
 use native.Mathlib.Decide.{ℕ-discrete, decLt}
 use mathlib.Core.Path.{_≡_, sym, _∙_, ap, subst}
+use mathlib.Core.Bool.{cond}
 use mathlib.Core.List.{List, [], _∷_, _++_, map}
 use mathlib.Core.Logic.{_⊎_, inl, inr}
+use borrow.Author.Tests.{ne-eqb}
 use lib.IntN.{pos}
 use lib.ListN.{length, getD, length-append, length-map}
 use lib.Seq.{getD-append-add}
@@ -13,11 +15,14 @@ use Rattle.meaning.specs.Arithmetic.{Interval, cutTowardZero}
 use Rattle.meaning.specs.Expression.{Expression, integer, name, first, next, negation, binary, conditional, fby, Constraint, always, until, leftSide, rightSide, Stream, Sheet, rangeOf}
 use Rattle.meaning.specs.Interval.{interval}
 use Rattle.meaning.specs.NormalForm.{added, addedCount, addedBy, allAdded, normalForm}
-use Rattle.meaning.proofs.Lists.{All, All-append}
+use Rattle.meaning.proofs.Lists.{All, All-append, All-map}
 use Rattle.meaning.proofs.NormalForm.{range-added}
 use Rattle.meaning.proofs.NormalForm.Names.{streams-length}
-use Rattle.normal.specs.Rows.{Row, nodeCount, inPostfix, rewriting, Line, lineAt, linesOf, ownRows, addedRows, streamsAfter}
-use Rattle.normal.specs.Encoded.{nodeExpressions, expressionAt, sourceInterval, entryOf, rowsOf, encoded}
+use Rattle.spans.specs.Postfix.{inPostfix, nodeCount, nodeExpressions}
+use Rattle.normal.specs.Rows.{Row, rewriting, Line, lineAt, linesOf, ownRows, addedRows, streamsAfter}
+use Rattle.normal.specs.Encoded.{expressionAt, sourceInterval, rowsOf, recordOf, encoded}
+use Rattle.normal.specs.Fields.{leftIsNode}
+use Rattle.normal.specs.Says.{standsFor}
 use Rattle.normal.specs.declared.Entry.{Entry}
 use Rattle.normal.proofs.Decoding.{added-counted, always-line, line-count, streams-counted}
 use Rattle.normal.proofs.Places.{Stand, Stand-append, stand-self, some-node, root-at, sides-stand}
@@ -128,16 +133,20 @@ lines-cover p (c ∷ cs) n k l h = by (decLt k (n + lineAt p c .adds .added)) (l
     by (yes q) r = some-left (NamesStream k) (lineAt p c .adds .rows n) _ (line-cover p c n k l q)
     by (no q) r = some-right (NamesStream k) (lineAt p c .adds .rows n) _ (r (omega arith) h)
 
+-- From kind 2 on the left is a stream.
+pub stream-left : (r : Row) → 2 ≤ r .kind → cond (leftIsNode (r .kind)) 0 (r .left) ≡ r .left
+stream-left r h = ap (λ b. cond b 0 (r .left)) (ne-eqb (r .kind) 1 (λ e. omega arith))
+
 -- The entry names stream k.
 pub record NamedBy (k : ℕ) (e : Entry) : Type 0 where
   pub kind : 2 ≤ e .kind
   pub left : e .left ≡ k
 
 -- Every added stream is the left of some entry.
-pub streams-named : (s : Sheet) (k : ℕ) → length (s .streams) ≤ k → k < length (normalForm cutTowardZero s .streams) → Some (NamedBy k) (encoded s)
-streams-named s k l h =
+pub streams-named : (text : List ℕ) (s : Sheet) (k : ℕ) → length (s .streams) ≤ k → k < length (normalForm cutTowardZero s .streams) → Some (NamedBy k) (encoded text s)
+streams-named text s k l h =
     let total = streams-counted s 0 (length (s .streams)) (s .constraints) (stand-self (nodeExpressions (s .constraints))) ∙ sym (streams-length cutTowardZero s) in
-    some-map (NamedBy k) (λ r. entryOf r (sourceInterval cutTowardZero s (r .source))) (λ r p. record { kind = p .kind; left = p .left }) (rowsOf s)
+    some-map (NamedBy k) (recordOf text s) (λ r p. record { kind = p .kind; left = stream-left r (p .kind) ∙ p .left }) (rowsOf s)
     (some-right (NamesStream k) (ownRows (length (s .streams)) (linesOf 0 (s .constraints))) (addedRows (length (s .streams)) (linesOf 0 (s .constraints))) (lines-cover 0 (s .constraints) (length (s .streams)) k l (omega arith)))
 
 -- ---- the ranges of named streams
@@ -319,13 +328,30 @@ module _ (s : Sheet) where
       ∙ ap (interval cutTowardZero (s .streams)) (sym (h .stands k) ∙ ap streamed at′ ∙ getD-append-add pad (allAdded (s .constraints)) j (integer (pos 0)))
       ∙ sym (ap (rangeOf (normalForm cutTowardZero s .streams)) at ∙ range-added cutTowardZero s j (omega arith))
 
+  -- A row with a stream at its left has a source, the expression that the stream stands for.
+  row-stands : (r : Row) → Ranged r → 2 ≤ r .kind → (0 < r .source) × (expressionAt s (r .source - 1) ≡ standsFor s (r .left))
+  row-stands r h k =
+      let pad = map (λ (x : Stream). integer (pos 0)) (s .streams) in
+      let len = length-map (s .streams) (λ (x : Stream). integer (pos 0)) in
+      let low = h .low k in
+      let j = r .left - length (s .streams) in
+      let at : r .left ≡ length pad + j = omega arith in
+      (h .source k, sym (h .stands k) ∙ ap streamed at ∙ getD-append-add pad (allAdded (s .constraints)) j (integer (pos 0)))
+
+-- What the streams at the left of the rows stand for.
+pub rows-stand : (s : Sheet) → All (λ r. 2 ≤ r .kind → (0 < r .source) × (expressionAt s (r .source - 1) ≡ standsFor s (r .left))) (rowsOf s)
+rows-stand s =
+    let n = length (s .streams) in
+    let h = lines-ranged s 0 n (s .constraints) (stand-self (nodeExpressions (s .constraints))) (streamed-added s) (omega arith) (omega arith) in
+    All-map (rowsOf s) (λ r k. row-stands s r k) (All-append (Ranged s) (ownRows n (linesOf 0 (s .constraints))) (addedRows n (linesOf 0 (s .constraints))) .1 h)
+
 -- The entry names a stream only with that stream's range.
 abbrev pub HasRange : Sheet → Entry → Type 0
 HasRange s e = 2 ≤ e .kind → _≡_ {A = Interval} (record { low = e .low; high = e .high }) (rangeOf (normalForm cutTowardZero s .streams) (e .left))
 
-pub entries-ranged : (s : Sheet) → All (HasRange s) (encoded s)
-entries-ranged s =
+pub entries-ranged : (text : List ℕ) (s : Sheet) → All (HasRange s) (encoded text s)
+entries-ranged text s =
     let n = length (s .streams) in
     let h = lines-ranged s 0 n (s .constraints) (stand-self (nodeExpressions (s .constraints))) (streamed-added s) (omega arith) (omega arith) in
-    all-map (HasRange s) (λ r. entryOf r (sourceInterval cutTowardZero s (r .source))) (λ r k. row-range s r k) (rowsOf s)
+    all-map (HasRange s) (recordOf text s) (λ r h k. row-range s r h k ∙ ap (rangeOf (normalForm cutTowardZero s .streams)) (sym (stream-left r k))) (rowsOf s)
     (All-append (Ranged s) (ownRows n (linesOf 0 (s .constraints))) (addedRows n (linesOf 0 (s .constraints))) .1 h)

@@ -17,7 +17,8 @@ use Rattle.nodes.proofs.Postfix.{NodeAt, StoredAt, storedInteger, storedName, s
 use Rattle.reader.specs.Stored.{relationsOf, leftsOf, rightsOf}
 use Rattle.meaning.specs.Arithmetic.{Arithmetic}
 use Rattle.sheet.specs.Accepted.{Accepted}
-use Rattle.normal.specs.Rows.{fbyEntries, untilEntries, ownRows, allRows, Rewriting, joined, nextRewriting, fbyRewriting, nodeCount, inPostfix, rewriting, Line, lineOf, lineAt, linesOf, addedRows, streamsAfter}
+use Rattle.spans.specs.Postfix.{inPostfix, nodeCount}
+use Rattle.normal.specs.Rows.{fbyEntries, untilEntries, ownRows, allRows, Rewriting, joined, nextRewriting, fbyRewriting, rewriting, Line, lineOf, lineAt, linesOf, addedRows, streamsAfter}
 use Rattle.normal.specs.Stored.{rewritingByKind, rewritingBefore, storedLine, storedLines}
 use Rattle.normal.proofs.Recursion.{rewritingBefore-node}
 use Rattle.normal.specs.Table.{rowBound, LinesHaveRoom}

@@ -1,24 +1,34 @@
 -- The numbers of an accepted sheet's entries fit their fields: there are at most 32 + 4 · 1,024 entries, 8 + 3 · 1,024 streams and 1,024 nodes, so
--- every stream's number and every node's place is below 65,536, and the ranges are within the magnitude bound.
-use Prim.Native.Nat.{ℕ, suc, _+_, _*_, _-_, _≤_, _<_}
+-- every stream's number and every node's place is below 65,536; spans are places of the text, of at most 16,384 bytes; and the ranges are within the
+-- magnitude bound.
+use Prim.Native.Nat.{ℕ, zero, suc, _+_, _*_, _-_, _≤_, _<_}
 use native.Mathlib.Omega.{arith}
 use mathlib.Core.Path.{sym, subst}
-use mathlib.Core.List.{List, [], _∷_, _++_}
+use mathlib.Core.Bool.{Bool, true, false, cond}
+use mathlib.Core.List.{List, [], _∷_, _++_, map}
 use lib.ListN.{length, length-append, length-map}
 use Rattle.meaning.specs.Arithmetic.{cutTowardZero}
 use Rattle.meaning.specs.Expression.{Expression, integer, name, first, next, negation, binary, conditional, fby, Constraint, always, until, leftSide, rightSide, Sheet}
 use Rattle.meaning.specs.NormalForm.{normalForm}
 use Rattle.meaning.proofs.Lists.{All, All-append}
 use Rattle.meaning.proofs.NormalForm.Names.{streams-length}
-use Rattle.sheet.specs.Refusal.{InBounds}
+use Rattle.text.specs.Bytes.{Token}
+use Rattle.sheet.specs.Form.{threeHeaderLines}
+use Rattle.sheet.specs.Refusal.{InBounds, sheet, AnswerTo}
 use Rattle.sheet.specs.Reading.{allExpressions}
 use Rattle.sheet.specs.Accepted.{Accepted}
-use Rattle.normal.specs.Rows.{Row, nodeCount, inPostfix, rewriting, Line, lineAt, linesOf, ownRows, addedRows, streamsAfter}
-use Rattle.normal.specs.Encoded.{nodeExpressions, entryOf, sourceInterval, rowsOf, encoded}
+use Rattle.scan.specs.declared.Span.{Span}
+use Rattle.spans.specs.Spans.{spansIn}
+use Rattle.spans.specs.Reading.{EachReads}
+use Rattle.spans.specs.Postfix.{inPostfix, nodeCount, nodeExpressions}
+use Rattle.normal.specs.Rows.{Row, rewriting, Line, lineAt, linesOf, ownRows, addedRows, streamsAfter}
+use Rattle.normal.specs.Encoded.{spanBefore, rowsOf, recordOf, encoded}
+use Rattle.normal.specs.Fields.{leftIsNode, rightIsNode, leftBehind, rightBehind}
 use Rattle.normal.specs.declared.Entry.{Entry}
 use Rattle.normal.proofs.Lines.{streams-more}
 use Rattle.normal.proofs.Decoding.{always-line, streams-counted}
 use Rattle.normal.proofs.Places.{stand-self}
+use Rattle.normal.proofs.TextSpans.{text-spans}
 use Rattle.normal.proofs.SheetRows.{lines-few, rows-few, expressions-counted}
 use Rattle.normal.proofs.Sources.{sheet-sound}
 use Rattle.normal.proofs.Ranges.{all-map}
@@ -107,6 +117,10 @@ pub record FieldsFit (e : Entry) : Type 0 where
   pub right : e .right < 65536
   pub rightAdded : e .«right_added» < 65536
 
+small-or-none : (b : Bool) {n : ℕ} → n < 65536 → cond b 0 n < 65536
+small-or-none true h = omega arith
+small-or-none false h = h
+
 module _ {s : Sheet} (ok : Accepted cutTowardZero s) where
   abbrev n : ℕ
   n = length (s .streams)
@@ -118,16 +132,39 @@ module _ {s : Sheet} (ok : Accepted cutTowardZero s) where
   pub streams-bounded : length (normalForm cutTowardZero s .streams) ≤ 8 + 3 * 1024
   streams-bounded = omega (arith, streams-few, streams-counted s 0 n (s .constraints) (stand-self (nodeExpressions (s .constraints))), streams-length cutTowardZero s)
 
-  pub entries-bounded : length (encoded s) ≤ 32 + 4 * 1024
-  entries-bounded = omega (arith, rows-few ok, length-map (rowsOf s) (λ r. entryOf r (sourceInterval cutTowardZero s (r .source))))
+  pub entries-bounded : (text : List ℕ) → length (encoded text s) ≤ 32 + 4 * 1024
+  entries-bounded text = omega (arith, rows-few ok, length-map (rowsOf s) (recordOf text s))
 
-  pub fields-fit : All FieldsFit (encoded s)
-  fields-fit =
+  pub fields-fit : (text : List ℕ) → All FieldsFit (encoded text s)
+  fields-fit text =
       let h = lines-fit 0 n (s .constraints) (omega (arith, ok .expressionCount)) (omega (arith, streams-few)) in
-      all-map FieldsFit (λ r. entryOf r (sourceInterval cutTowardZero s (r .source))) (λ r f. record { left = f .left; leftAdded = f .leftAdded; right = f .right; rightAdded = f .rightAdded }) (rowsOf s)
+      all-map FieldsFit (recordOf text s) (λ r f. record { left = small-or-none (leftIsNode (r .kind)) (f .left); leftAdded = f .leftAdded; right = small-or-none (rightIsNode (r .kind)) (f .right); rightAdded = f .rightAdded }) (rowsOf s)
       (All-append Fits (ownRows n (linesOf 0 (s .constraints))) (addedRows n (linesOf 0 (s .constraints))) .1 h)
 
   -- "Magnitudes to 1,000,000,000."
-  pub ranges-bounded : All (λ e. InBounds (record { low = e .low; high = e .high })) (encoded s)
-  ranges-bounded =
-      all-map (λ e. InBounds (record { low = e .low; high = e .high })) (λ r. entryOf r (sourceInterval cutTowardZero s (r .source))) (λ r k. record { above = k .bounds .above; below = k .bounds .below }) (rowsOf s) (sheet-sound s ok)
+  pub ranges-bounded : (text : List ℕ) → All (λ e. InBounds (record { low = e .low; high = e .high })) (encoded text s)
+  ranges-bounded text =
+      all-map (λ e. InBounds (record { low = e .low; high = e .high })) (recordOf text s) (λ r k. record { above = k .bounds .above; below = k .bounds .below }) (rowsOf s) (sheet-sound s ok)
+
+-- ---- spans
+
+-- The places of a span are places of a text of this length.
+pub record PlacesFit (n : ℕ) (e : Entry) : Type 0 where
+  pub left : (e .«left_begin» ≤ e .«left_end») × (e .«left_end» ≤ n)
+  pub right : (e .«right_begin» ≤ e .«right_end») × (e .«right_end» ≤ n)
+
+each-within : {names : List Token} {text : List ℕ} {ss : List Span} {es : List Expression} → EachReads names text ss es → (e : ℕ) → (spanBefore ss e .start ≤ spanBefore ss e .end) × (spanBefore ss e .end ≤ length text)
+each-within h zero = (omega arith, omega arith)
+each-within EachReads.none (suc i) = (omega arith, omega arith)
+each-within (EachReads.more r h) (suc zero) = (omega (arith, r .ordered), r .within)
+each-within (EachReads.more r h) (suc (suc i)) = each-within h (suc i)
+
+pub places-fit : {text : List ℕ} {s : Sheet} → AnswerTo cutTowardZero threeHeaderLines text (sheet s) → All (PlacesFit (length text)) (encoded text s)
+places-fit {text} {s} r = fit (rowsOf s)
+  where
+    within : (e : ℕ) → (spanBefore (spansIn text) e .start ≤ spanBefore (spansIn text) e .end) × (spanBefore (spansIn text) e .end ≤ length text)
+    within e = each-within (text-spans r) e
+
+    fit : (rows : List Row) → All (PlacesFit (length text)) (map (recordOf text s) rows)
+    fit [] = tt
+    fit (x ∷ rows) = (record { left = within (leftBehind x); right = within (rightBehind x) }, fit rows)

@@ -1,4 +1,5 @@
--- The ranges that the rows of an accepted sheet's entries name are the intervals of the expressions that their streams stand for.
+-- The ranges that the rows of an accepted sheet's entries name are the intervals of the expressions that their streams stand for, and their sides are
+-- nodes of the sheet.
 use Prim.Native.Nat.{ℕ, suc, _+_, _-_, _≤_, _<_}
 use native.Mathlib.Omega.{arith}
 use mathlib.Core.Path.{_≡_, refl, sym, _∙_, ap, subst}
@@ -8,8 +9,7 @@ use lib.IntN.{ℤ}
 use lib.ListN.{length, getD, length-append}
 use lib.Signed.{_≤ℤ_, leZ-yes}
 use Rattle.meaning.specs.Arithmetic.{Interval, cutTowardZero}
-use Rattle.meaning.specs.Value.{less, atMost, equal, atLeast, greater, different}
-use Rattle.meaning.specs.Expression.{Expression, integer, name, first, next, negation, binary, conditional, fby, Sign, comparison, implies, Constraint, always, until, leftSide, rightSide, noStream, rangeOf, Sheet}
+use Rattle.meaning.specs.Expression.{Expression, integer, name, first, next, negation, binary, conditional, fby, Constraint, always, until, leftSide, rightSide, noStream, rangeOf, Sheet}
 use Rattle.meaning.specs.Interval.{interval, subexpressions, NamesBelow}
 use Rattle.meaning.specs.Window.{firsts, sideFirsts}
 use Rattle.meaning.proofs.Arithmetic.{cutTowardZero-lawful}
@@ -17,7 +17,6 @@ use Rattle.meaning.proofs.Facts.{getD-member}
 use Rattle.meaning.proofs.Lists.{All, All-append, member-All}
 use Rattle.sheet.specs.Refusal.{InBounds, onLeft, onRight}
 use Rattle.sheet.specs.Accepted.{Accepted}
-use Rattle.nodes.specs.Code.{signCode}
 use Rattle.nodes.specs.Postfix.{postfix, sideNodes, allNodes}
 use Rattle.nodes.specs.Evaluate.{Nodes, nodesOf}
 use Rattle.meaning.specs.Situation.{all}
@@ -25,12 +24,13 @@ use Rattle.nodes.specs.Bounds.{noRange, endsInBound}
 use Rattle.nodes.specs.declared.Summary.{Summary}
 use Rattle.nodes.proofs.Bounds.{nodeSummary-summaryOf, bounded-inBounds}
 use Rattle.nodes.proofs.Postfix.{StoredAt, storedInteger, storedName, storedFirst, storedNext, storedNegation, storedBinary, storedConditional, storedFby, stored-ends, Holds, Holds-append, postfix-stored}
-use Rattle.normal.specs.Rows.{Row, nodeCount, inPostfix, rewriting, Line, lineAt, linesOf, ownRows, addedRows}
+use Rattle.spans.specs.Postfix.{inPostfix, nodeCount, nodeExpressions}
+use Rattle.normal.specs.Rows.{Row, rewriting, Line, lineAt, linesOf, ownRows, addedRows}
 use Rattle.normal.specs.Table.{endsOf}
-use Rattle.normal.specs.Encoded.{nodeExpressions, expressionAt, sourceInterval, rowsOf}
+use Rattle.normal.specs.Encoded.{expressionAt, sourceInterval, rowsOf}
 use Rattle.normal.specs.Outcome.{sheetRange}
 use Rattle.normal.proofs.Decoding.{always-line}
-use Rattle.normal.proofs.Places.{Stand, Stand-append, stand-self, root-at, nodes-counted, sides-stand}
+use Rattle.normal.proofs.Places.{Stand, Stand-append, stand-self, some-node, root-at, nodes-counted, sides-stand}
 use Rattle.normal.proofs.SheetRows.{stored-end, side-count, sheet-holds, nodes-total}
 
 abbrev pub endsOfInterval : Interval → List ℤ
@@ -42,25 +42,25 @@ known-ends : (b : Bool) (I : Interval) → cond b (record { ok = true; low = I .
 known-ends true I h = refl
 known-ends false I h = let y : _≡_ {A = ℕ} 0 1 = cc in absurd (omega arith)
 
-small-sign : (t : Sign) → signCode t < 256
-small-sign (comparison less) = omega arith
-small-sign (comparison atMost) = omega arith
-small-sign (comparison equal) = omega arith
-small-sign (comparison atLeast) = omega arith
-small-sign (comparison greater) = omega arith
-small-sign (comparison different) = omega arith
-small-sign implies = omega arith
+-- The forms that rows have: sides are nodes, of which there are N, and all else is streams.
+pub data RowForm (N : ℕ) : Row → Type 0 where
+  isConstraint : {relation a m b n : ℕ} → a < N → b < N → RowForm N (record { kind = 1; relation = relation; left = a; leftAdded = m; right = b; rightAdded = n; source = 0 })
+  isUntil : {x y e : ℕ} → RowForm N (record { kind = 2; relation = 7; left = x; leftAdded = 0; right = y; rightAdded = 0; source = e })
+  isEquation : {x b n e : ℕ} → b < N → RowForm N (record { kind = 3; relation = 2; left = x; leftAdded = 0; right = b; rightAdded = n; source = e })
+  isNext : {x y e : ℕ} → RowForm N (record { kind = 4; relation = 2; left = x; leftAdded = 0; right = y; rightAdded = 0; source = e })
+  isFirst : {x y e : ℕ} → RowForm N (record { kind = 5; relation = 2; left = x; leftAdded = 0; right = y; rightAdded = 0; source = e })
 
 module _ (s : Sheet) where
-  -- The range that a row names is the interval of what its stream stands for, and its kind and relation are small.
+  -- The range that a row names is the interval of what its stream stands for, and its nodes are the sheet's.
   pub record Sound (r : Row) : Type 0 where
     pub ends : endsOf (sheetRange s (r .source)) ≡ endsOfInterval (sourceInterval cutTowardZero s (r .source))
-    pub kind : r .kind < 256
-    pub relation : r .relation < 256
+    pub form : RowForm (length (allNodes 0 0 (s .constraints))) r
+    pub source : r .source ≤ length (allNodes 0 0 (s .constraints))
     pub bounds : InBounds (sourceInterval cutTowardZero s (r .source))
 
   -- The range of the part that ends before a place is its expression's interval, which is within the bounds.
   record Good (e : ℕ) : Type 0 where
+    within : e ≤ length (allNodes 0 0 (s .constraints))
     ends : endsOf (sheetRange s e) ≡ endsOfInterval (sourceInterval cutTowardZero s e)
     bounds : InBounds (sourceInterval cutTowardZero s e)
 
@@ -102,15 +102,15 @@ module _ (s : Sheet) where
         ap (λ (x : Summary). endsOf (x .range)) (nodeSummary-summaryOf cutTowardZero (s .streams) (allNodes 0 0 (s .constraints)) t l (g .below) few)
         ∙ known-ends (all (λ f. endsInBound (interval cutTowardZero (s .streams) f)) (subexpressions e)) (interval cutTowardZero (s .streams) e) (bounded-inBounds cutTowardZero-lawful (s .streams) ordered e (g .below) .1 (g .bounds))
         ∙ ap (λ x. endsOfInterval (interval cutTowardZero (s .streams) x)) (sym is) in
-        record { ends = ends; bounds = subst (λ x. InBounds (interval cutTowardZero (s .streams) x)) (sym is) (own-bounds e (g .bounds)) }
+        record { within = l; ends = ends; bounds = subst (λ x. InBounds (interval cutTowardZero (s .streams) x)) (sym is) (own-bounds e (g .bounds)) }
 
     part-good : {p f m : ℕ} {e : Expression} → StoredAt N p f e m → Stand L p (inPostfix e) → Fine e → m ≤ nodes → Good m
     part-good {p} {f} {m} {e} t h g l =
         let q : suc (m - 1) ≡ m = omega (arith, stored-ends t) in
         subst Good q (node-good (m - 1) e (subst (StoredAt N p f e) (sym q) t) h g (omega arith))
 
-    row : {r : Row} → Good (r .source) → r .kind < 256 → r .relation < 256 → Sound r
-    row g k p = record { ends = g .ends; kind = k; relation = p; bounds = g .bounds }
+    row : {r : Row} → Good (r .source) → RowForm nodes r → Sound r
+    row g f = record { ends = g .ends; form = f; source = g .within; bounds = g .bounds }
 
     -- ---- expressions
 
@@ -122,8 +122,8 @@ module _ (s : Sheet) where
     rows-sound {p} (storedNext {e = e} t x) h g l n =
         let k = Stand-append L p (inPostfix e) (next e ∷ []) h .0 in
         let i : Fine e = record { below = g .below; bounds = g .bounds .1 } in (
-          row (subst Good (stored-end t) (part-good t k i (omega arith))) (omega arith) (omega arith),
-          (row (subst (λ j. Good (suc j)) (stored-end t) (part-good (storedNext t x) h g l)) (omega arith) (omega arith), rows-sound t k i (omega arith) (suc (suc n))),
+          row (subst Good (stored-end t) (part-good t k i (omega arith))) (isEquation (omega (arith, stored-end t, some-node e))),
+          (row (subst (λ j. Good (suc j)) (stored-end t) (part-good (storedNext t x) h g l)) isNext, rows-sound t k i (omega arith) (suc (suc n))),
         )
     rows-sound {p} (storedNegation {e = e} t x) h g l n = rows-sound t (Stand-append L p (inPostfix e) (negation e ∷ []) h .0) (record { below = g .below; bounds = g .bounds .1 }) (omega arith) n
     rows-sound {p} (storedBinary {o = o} {a = a} {b = b} t u x) h g l n =
@@ -166,13 +166,13 @@ module _ (s : Sheet) where
         All-append Sound (rewriting p a .rows n) _ .1 (
           rows-sound t (k .0) ia (omega (arith, stored-ends u)) n,
           (
-            row ga (omega arith) (omega arith),
+            row ga (isEquation (omega (arith, ea, stored-ends u, some-node a))),
             (
-              row gb (omega arith) (omega arith),
+              row gb (isEquation (omega (arith, eb, some-node b))),
               (
-                row ge (omega arith) (omega arith),
+                row ge isFirst,
                 (
-                  row gb (omega arith) (omega arith),
+                  row gb isNext,
                   subst (λ q. All Sound (rewriting q b .rows (suc (suc (suc y))))) ea (rows-sound u sb ib (omega arith) (suc (suc (suc y)))),
                 ),
               ),
@@ -196,19 +196,19 @@ module _ (s : Sheet) where
         let lb : p + length left + length right ≤ nodes = omega (arith, stored-end u) in
         let ga = subst Good ea (part-good t ha ia la) in
         let gb = subst Good (stored-end u ∙ ap (λ k. k + nodeCount (rightSide c)) ea) (part-good u sb ib lb) in
-        by-sides c ga gb (rows-sound t ha ia la) (λ m. subst (λ k. All Sound (rewriting k (rightSide c) .rows m)) ea (rows-sound u sb ib lb m))
+        by-sides c l ga gb (rows-sound t ha ia la) (λ m. subst (λ k. All Sound (rewriting k (rightSide c) .rows m)) ea (rows-sound u sb ib lb m))
       where
-        by-sides : (c : Constraint) → Good (p + nodeCount (leftSide c)) → Good (p + nodeCount (leftSide c) + nodeCount (rightSide c)) → ((m : ℕ) → All Sound (rewriting p (leftSide c) .rows m)) → ((m : ℕ) → All Sound (rewriting (p + nodeCount (leftSide c)) (rightSide c) .rows m))
+        by-sides : (c : Constraint) → p + nodeCount (leftSide c) + nodeCount (rightSide c) ≤ nodes → Good (p + nodeCount (leftSide c)) → Good (p + nodeCount (leftSide c) + nodeCount (rightSide c)) → ((m : ℕ) → All Sound (rewriting p (leftSide c) .rows m)) → ((m : ℕ) → All Sound (rewriting (p + nodeCount (leftSide c)) (rightSide c) .rows m))
             → Sound (lineAt p c .own n) × All Sound (lineAt p c .adds .rows n)
-        by-sides (always t a b) ga gb ra rb =
+        by-sides (always t a b) k ga gb ra rb =
             let w = always-line t (p + nodeCount a) (p + nodeCount a + nodeCount b) (rewriting p a) (rewriting (p + nodeCount a) b) in (
-              subst (λ (m : Line). Sound (m .own n)) (sym w) (record { ends = refl; kind = omega arith; relation = small-sign t; bounds = record { above = leZ-yes tt; below = leZ-yes tt } }),
+              subst (λ (m : Line). Sound (m .own n)) (sym w) (record { ends = refl; form = isConstraint (omega (arith, some-node a)) (omega (arith, some-node b)); source = omega arith; bounds = record { above = leZ-yes tt; below = leZ-yes tt } }),
               subst (λ (m : Line). All Sound (m .adds .rows n)) (sym w) (All-append Sound (rewriting p a .rows n) _ .1 (ra n, rb (n + rewriting p a .added))),
             )
-        by-sides (until a b) ga gb ra rb =
+        by-sides (until a b) k ga gb ra rb =
             let x = n + rewriting p a .added in (
-              row ga (omega arith) (omega arith),
-              All-append Sound (rewriting p a .rows n) _ .1 (ra n, (row ga (omega arith) (omega arith), (row gb (omega arith) (omega arith), rb (suc (suc x))))),
+              row ga isUntil,
+              All-append Sound (rewriting p a .rows n) _ .1 (ra n, (row ga (isEquation (omega (arith, some-node a))), (row gb (isEquation (omega (arith, some-node b))), rb (suc (suc x))))),
             )
 
     abbrev AllFine : List Constraint → Type 0

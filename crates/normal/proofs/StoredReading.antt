@@ -24,6 +24,7 @@ use Rattle.nodes.proofs.Postfix.{sides-inside}
 use Rattle.reader.specs.Stored.{padded, relationsOf, leftsOf, rightsOf, storedSheet, readingOf}
 use Rattle.reader.specs.declared.Sheet.{Sheet as StoredSheet}
 use Rattle.reader.specs.declared.Reading.{Reading}
+use Rattle.spans.specs.Stored.{spanTable}
 use Rattle.normal.specs.Rows.{linesOf}
 use Rattle.normal.specs.Stored.{storedLines, rangeBefore}
 use Rattle.normal.specs.Table.{HasLines, LinesHaveRoom, refusedMade, madeOf}
@@ -142,8 +143,8 @@ module _ (s : Sheet) where
   abbrev pub Asked : Lists → Type 0
   Asked l = HasLines (l .kinds) (l .relations) (l .lefts) (l .rights) × LinesHaveRoom (storedLines (l .kinds) (l .starts) (l .relations) (l .lefts) (l .rights)) (length (l .relations)) (length (l .lows))
 
-  abbrev pub madeFrom : Lists → ℕ → Made
-  madeFrom l room = madeOf (storedLines (l .kinds) (l .starts) (l .relations) (l .lefts) (l .rights)) (length (l .lows)) (rangeBefore cutTowardZero (stored (l .kinds) (l .values) (l .starts)) (l .lows) (l .highs)) room
+  abbrev pub madeFrom : Lists → List ℕ → ℕ → Made
+  madeFrom l spans room = madeOf (storedLines (l .kinds) (l .starts) (l .relations) (l .lefts) (l .rights)) (length (l .lows)) (rangeBefore cutTowardZero (stored (l .kinds) (l .values) (l .starts)) (l .lows) (l .highs)) spans room
 
   lines-are : storedLines (kindsOf nodes) (startsOf nodes) (relationsOf constraints) (leftsOf constraints) (rightsOf constraints) ≡ linesOf 0 (s .constraints)
   lines-are = lines-stored (nodesOf nodes) 0 0 (s .constraints) (sheet-holds (s .constraints))
@@ -178,8 +179,8 @@ module _ (s : Sheet) where
             (subst (LinesHaveRoom (linesOf 0 (s .constraints)) (length (s .constraints))) (sym (length-map (s .streams) (λ (x : Stream). x .range .low))) room)),
       )
 
-  sheet-made : (room : ℕ) → madeFrom (sheetLists s) room ≡ entriesFor (sheet s) room
-  sheet-made room = λ i. madeOf (lines-are i) (length-map (s .streams) (λ (x : Stream). x .range .low) i) (sheetRange s) room
+  sheet-made : (text : List ℕ) (room : ℕ) → madeFrom (sheetLists s) (spanTable text) room ≡ entriesFor text (sheet s) room
+  sheet-made text room = λ i. madeOf (lines-are i) (length-map (s .streams) (λ (x : Stream). x .range .low) i) (sheetRange s) (spanTable text) room
 
 -- ---- the reader's answer
 
@@ -194,10 +195,10 @@ module _ (text : List ℕ) {x : Reading} (e : x ≡ readingOf (answerTo cutTowar
   abbrev answer : Answer
   answer = answerTo cutTowardZero threeHeaderLines text
 
-  pub reading-refused : (x .refusal ≡ 0 → ⊥) → (room : ℕ) {m : Made} → m ≡ refusedMade (x .refusal) → m ≡ entriesFor answer room
+  pub reading-refused : (x .refusal ≡ 0 → ⊥) → (room : ℕ) {m : Made} → m ≡ refusedMade (x .refusal) → m ≡ entriesFor text answer room
   reading-refused h room {m} q = q ∙ by answer e
     where
-      by : (a : Answer) → x ≡ readingOf a → refusedMade (x .refusal) ≡ entriesFor a room
+      by : (a : Answer) → x ≡ readingOf a → refusedMade (x .refusal) ≡ entriesFor text a room
       by (refused n) p = ap (λ (y : Reading). refusedMade (y .refusal)) p
       by (sheet s) p = absurd (h (ap (λ (y : Reading). y .refusal) p))
 
@@ -215,6 +216,9 @@ module _ {a : Answer} {x : Reading} (r : SheetRead a x) where
   pub read-asked : Asked (r .source) (listsOf (x .sheet))
   read-asked = subst (Asked (r .source)) (sym (ap listsOf (r .stored) ∙ lists-are (r .source))) (sheet-asked (r .source) (r .accepted))
 
-  pub read-made : (room : ℕ) {m : Made} → m ≡ madeFrom (r .source) (listsOf (x .sheet)) room → m ≡ entriesFor a room
-  read-made room q =
-      q ∙ ap (λ l. madeFrom (r .source) l room) (ap listsOf (r .stored) ∙ lists-are (r .source)) ∙ sheet-made (r .source) room ∙ ap (λ b. entriesFor b room) (sym (r .is))
+  pub read-made : (text : List ℕ) (room : ℕ) {m : Made} {spans : List ℕ} → spans ≡ spanTable text → m ≡ madeFrom (r .source) (listsOf (x .sheet)) spans room → m ≡ entriesFor text a room
+  read-made text room e q =
+      q
+      ∙ (λ i. madeFrom (r .source) ((ap listsOf (r .stored) ∙ lists-are (r .source)) i) (e i) room)
+      ∙ sheet-made (r .source) text room
+      ∙ ap (λ b. entriesFor text b room) (sym (r .is))

@@ -1,34 +1,32 @@
--- The records of the entries of a sheet's normal form, and what each record says (document 01, "Intervals and the normal form": "Each entry of
--- the normal form is one record in a lent list."). A record's fields:
---   kind 1: a rewritten constraint. `relation` is the code of its sign, `left` and `right` the places of the last nodes of its sides among the
---           sheet's nodes, `left_added` and `right_added` the numbers of the first streams that rewriting the sides adds.
+-- The records of the entries of a sheet's normal form (document 01, "Intervals and the normal form": "Each entry of the normal form is one record in a
+-- lent list."). specs/Says has what a record says. A span is a pair of places of the sheet's text, `begin` and `end`: the text of an expression, from the
+-- first byte of its first token to behind the last byte of its last token, without brackets around it. A record's fields:
+--   kind 1: a rewritten constraint. `relation` is the code of its sign; `left_begin` and `left_end`, `right_begin` and `right_end` are the spans of its
+--           sides, `left_added` and `right_added` the numbers of the first streams that rewriting the sides adds.
 --   kind 2: "x₁ until x₂". `left` and `right` are the streams' numbers, `relation` is 7, the code of `until`.
---   kind 3: "x₂ == expr", the expression rewritten. `left` is the stream's number, `right` the place of the expression's last node and
+--   kind 3: "x₂ == expr", the expression rewritten. `left` is the stream's number, `right_begin` and `right_end` are the expression's span and
 --           `right_added` the number of the first stream that rewriting it adds.
 --   kind 4: "x₁ == next x₂", and kind 5: "first x₁ == first x₂". `left` and `right` are the streams' numbers.
--- In kinds 3 to 5 `relation` is 2, the code of ==. In kinds 2 to 5 `low` and `high` are the range of the stream `left`. All else is 0.
+-- In kinds 3 to 5 `relation` is 2, the code of ==. In kinds 2 to 5 `left_begin` and `left_end` are the span of the expression that the stream `left`
+-- stands for, and `low` and `high` its range. `replaces` is 1 where that is a whole `next` or `fby`, whose text the stream's name replaces in the other
+-- entries. `stream_kind` has the place of the kind of the stream `left`; there is one kind today, 0. All else is 0.
 -- "Added streams are numbered as their operators stand in the sheet, those of one operator as 000 numbers them", behind the sheet's own streams.
 use Prim.Native.Nat.{ℕ, zero, suc}
-use mathlib.Core.Bool.{cond}
-use mathlib.Core.List.{List, [], _∷_, _++_, map}
-use lib.Dec.{eqb}
+use mathlib.Core.List.{List, map}
 use lib.IntN.{pos}
 use lib.ListN.{length, getD}
-use Rattle.meaning.specs.Value.{equal}
 use Rattle.meaning.specs.Arithmetic.{Arithmetic, Interval, cutTowardZero}
-use Rattle.meaning.specs.Expression.{Expression, integer, name, first, next, comparison, Constraint, always, until, leftSide, rightSide, Sheet}
+use Rattle.meaning.specs.Expression.{Expression, integer, Sheet}
 use Rattle.meaning.specs.Interval.{interval}
-use Rattle.meaning.specs.NormalForm.{rewritten, equation}
-use Rattle.nodes.specs.Code.{signAt}
+use Rattle.scan.specs.declared.Span.{Span}
+use Rattle.spans.specs.Token.{span}
+use Rattle.spans.specs.Postfix.{nodeExpressions}
+use Rattle.spans.specs.Spans.{spansIn}
 use Rattle.outcome.specs.NormalForm.{NormalAnswer}
-use Rattle.normal.specs.Rows.{Row, inPostfix, linesOf, allRows}
+use Rattle.normal.specs.Rows.{Row, linesOf, allRows}
+use Rattle.normal.specs.Fields.{entryWith}
 use Rattle.normal.specs.declared.Entry.{Entry}
 use Rattle.normal.specs.declared.NormalForm.{NormalForm}
-
--- The expressions of all nodes of the sheet, by their places.
-unfoldable pub nodeExpressions : List Constraint → List Expression
-nodeExpressions [] = []
-nodeExpressions (c ∷ cs) = (inPostfix (leftSide c) ++ inPostfix (rightSide c)) ++ nodeExpressions cs
 
 abbrev pub expressionAt : Sheet → ℕ → Expression
 expressionAt s i = getD (nodeExpressions (s .constraints)) i (integer (pos 0))
@@ -41,39 +39,24 @@ abbrev pub sourceInterval : Arithmetic → Sheet → ℕ → Interval
 sourceInterval A s zero = noInterval
 sourceInterval A s (suc i) = interval A (s .streams) (expressionAt s i)
 
-abbrev pub entryOf : Row → Interval → Entry
-entryOf r I =
-    record {
-      kind = r .kind;
-      relation = r .relation;
-      left = r .left;
-      «left_added» = r .leftAdded;
-      right = r .right;
-      «right_added» = r .rightAdded;
-      low = I .low;
-      high = I .high;
-    }
+-- The span of the expression whose node stands before a place; 0 to 0 where there is none.
+abbrev pub spanBefore : List Span → ℕ → Span
+spanBefore ss zero = span 0 0
+spanBefore ss (suc i) = getD ss i (span 0 0)
+
+abbrev pub entryOf : List Span → Row → Interval → Entry
+entryOf ss r I = entryWith (spanBefore ss) r (I .low) (I .high)
 
 abbrev pub rowsOf : Sheet → List Row
 rowsOf s = allRows (length (s .streams)) (linesOf 0 (s .constraints))
 
--- The entries of the normal form.
-abbrev pub encoded : Sheet → List Entry
-encoded s = map (λ r. entryOf r (sourceInterval cutTowardZero s (r .source))) (rowsOf s)
+-- The record of a row of the sheet that has this text.
+abbrev pub recordOf : List ℕ → Sheet → Row → Entry
+recordOf text s r = entryOf (spansIn text) r (sourceInterval cutTowardZero s (r .source))
 
--- ---- what an entry says
-
-unfoldable pub decoded : Sheet → Entry → Constraint
-decoded s e =
-    cond (eqb (e .kind) 1)
-    (always (signAt (e .relation)) (rewritten (e .«left_added») (expressionAt s (e .left))) (rewritten (e .«right_added») (expressionAt s (e .right))))
-    (cond (eqb (e .kind) 2)
-    (until (name (e .left)) (name (e .right)))
-    (cond (eqb (e .kind) 3)
-    (equation (e .left) (rewritten (e .«right_added») (expressionAt s (e .right))))
-    (cond (eqb (e .kind) 4)
-    (equation (e .left) (next (name (e .right))))
-    (always (comparison equal) (first (name (e .left))) (first (name (e .right)))))))
+-- The entries of the normal form of the sheet that has this text.
+abbrev pub encoded : List ℕ → Sheet → List Entry
+encoded text s = map (recordOf text s) (rowsOf s)
 
 abbrev pub answerOf : NormalForm → NormalAnswer
 answerOf r = record { refusal = r .refusal; entries = r .entries; added = r .added }

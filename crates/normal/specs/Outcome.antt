@@ -1,5 +1,6 @@
--- What stands in the tables for an answer of the reader: the entries of the sheet, or a refusal's number with zeros.
+-- What stands in the tables for the reader's answer to a text: the entries of the sheet, or a refusal's number with zeros.
 use Prim.Native.Nat.{ℕ}
+use mathlib.Core.List.{List}
 use lib.ListN.{length}
 use Rattle.meaning.specs.Arithmetic.{cutTowardZero}
 use Rattle.meaning.specs.Expression.{Sheet}
@@ -8,6 +9,7 @@ use Rattle.nodes.specs.Postfix.{allNodes}
 use Rattle.nodes.specs.Evaluate.{nodesOf}
 use Rattle.nodes.specs.Bounds.{lowsOf, highsOf}
 use Rattle.nodes.specs.declared.Range.{Range}
+use Rattle.spans.specs.Stored.{spanTable}
 use Rattle.normal.specs.Rows.{linesOf}
 use Rattle.normal.specs.Stored.{rangeBefore}
 use Rattle.normal.specs.Table.{refusedMade, madeOf}
@@ -17,6 +19,6 @@ use Rattle.normal.specs.declared.Made.{Made}
 abbrev pub sheetRange : Sheet → ℕ → Range
 sheetRange s = rangeBefore cutTowardZero (nodesOf (allNodes 0 0 (s .constraints))) (lowsOf (s .streams)) (highsOf (s .streams))
 
-abbrev pub entriesFor : Answer → ℕ → Made
-entriesFor (refused n) room = refusedMade n
-entriesFor (sheet s) room = madeOf (linesOf 0 (s .constraints)) (length (s .streams)) (sheetRange s) room
+abbrev pub entriesFor : List ℕ → Answer → ℕ → Made
+entriesFor text (refused n) room = refusedMade n
+entriesFor text (sheet s) room = madeOf (linesOf 0 (s .constraints)) (length (s .streams)) (sheetRange s) (spanTable text) room

@@ -4,9 +4,9 @@ use Prim.Native.Nat.{ℕ, suc, _+_, _-_}
 use mathlib.Core.Bool.{cond}
 use mathlib.Core.List.{List, [], _∷_, _++_}
 use lib.Dec.{eqb}
-use lib.ListN.{length}
 use Rattle.meaning.specs.Expression.{Expression, integer, name, first, next, negation, binary, conditional, fby, Constraint, leftSide, rightSide}
 use Rattle.nodes.specs.Code.{relationCode}
+use Rattle.spans.specs.Postfix.{nodeCount}
 
 -- One entry. `source` is the place behind the node of the expression whose interval the stream `left` ranges over, or 0 where `left` is no stream.
 -- A side of a rewritten constraint or of an equation is named by the place of its last node and by the number of the first stream that its
@@ -77,20 +77,6 @@ fbyRewriting l r a b =
     }
 
 -- ---- expressions
-
--- An expression and every expression inside it, in the order of their nodes: behind those of its parts.
-unfoldable pub inPostfix : Expression → List Expression
-inPostfix (integer z) = integer z ∷ []
-inPostfix (name k) = name k ∷ []
-inPostfix (first e) = inPostfix e ++ (first e ∷ [])
-inPostfix (next e) = inPostfix e ++ (next e ∷ [])
-inPostfix (negation e) = inPostfix e ++ (negation e ∷ [])
-inPostfix (binary o a b) = inPostfix a ++ (inPostfix b ++ (binary o a b ∷ []))
-inPostfix (conditional c a b) = inPostfix c ++ (inPostfix a ++ (inPostfix b ++ (conditional c a b ∷ [])))
-inPostfix (fby a b) = inPostfix a ++ (inPostfix b ++ (fby a b ∷ []))
-
-abbrev pub nodeCount : Expression → ℕ
-nodeCount e = length (inPostfix e)
 
 -- What an expression adds whose nodes stand from the place p on.
 unfoldable pub rewriting : ℕ → Expression → Rewriting

@@ -1,5 +1,5 @@
--- Rows in tables of numbers: seven for each row, and two for each range.
-use Prim.Native.Nat.{ℕ, zero, suc, _+_, _-_, _*_, _%_, _≤_, _<_}
+-- Rows in tables of numbers: seven for each row, behind those of all rows two for the span of each node, and two for each range.
+use Prim.Native.Nat.{ℕ, zero, suc, _+_, _-_, _*_, _≤_, _<_}
 use mathlib.Core.Path.{_≡_}
 use mathlib.Core.Bool.{cond}
 use mathlib.Core.List.{List, [], _∷_, _++_}
@@ -9,12 +9,16 @@ use lib.ListN.{length, getD, replicate}
 use lib.Seq.{sets}
 use Rattle.meaning.specs.Window.{joinOver}
 use Rattle.nodes.specs.declared.Range.{Range}
+use Rattle.scan.specs.declared.Span.{Span}
+use Rattle.spans.specs.Token.{span}
+use Rattle.spans.specs.Stored.{spanBound}
 use Rattle.normal.specs.Rows.{Row, Rewriting, Line, ownRows, addedRows, allRows, streamsAfter}
+use Rattle.normal.specs.Fields.{entryWith}
 use Rattle.normal.specs.declared.Entry.{Entry}
 use Rattle.normal.specs.declared.Made.{Made}
 use Rattle.normal.specs.declared.Written.{Written}
 
--- The largest number of rows, 32 + 4 · 1,024, and of streams, below 4,096.
+-- Bounds that no sheet exceeds, of the numbers of rows, 32 + 4 · 1,024, and of streams. They are not the largest numbers that sheets have.
 abbrev pub rowBound : ℕ
 rowBound = 4128
 
@@ -77,50 +81,83 @@ unfoldable pub endsUpTo : (ℕ → Range) → List ℕ → ℕ → List ℤ
 endsUpTo range numbers zero = []
 endsUpTo range numbers (suc n) = endsUpTo range numbers n ++ endsOf (range (sourceAt numbers n))
 
+-- The first n of what f gives.
+unfoldable pub listed : {X : Type 0} → (ℕ → X) → ℕ → List X
+listed f zero = []
+listed f (suc n) = listed f n ++ (f n ∷ [])
+
+-- ---- spans
+
+-- The spans stand behind the numbers of all rows.
+abbrev pub spansFrom : ℕ
+spansFrom = 28896
+
+unfoldable pub withSpans : List ℕ → List ℕ → List ℕ
+withSpans numbers spans = sets numbers spansFrom (listed (λ k. getD spans k 0) 2048)
+
 -- ---- entries
 
 abbrev pub blank : Entry
 blank =
-    record { kind = 0; relation = 0; left = 0; «left_added» = 0; right = 0; «right_added» = 0; low = pos 0; high = pos 0 }
+    record {
+      kind = 0;
+      relation = 0;
+      «stream_kind» = 0;
+      replaces = 0;
+      left = 0;
+      «left_added» = 0;
+      «left_begin» = 0;
+      «left_end» = 0;
+      right = 0;
+      «right_added» = 0;
+      «right_begin» = 0;
+      «right_end» = 0;
+      low = pos 0;
+      high = pos 0;
+    }
 
--- The entry with the number i; kind and relation are kept in the numbers' low bytes.
-unfoldable pub entryAt : List ℕ → List ℤ → ℕ → Entry
-entryAt numbers ends i =
-    cond (ltb i rowBound)
-    (record {
-      kind = getD numbers (i * 7) 0 % 256;
-      relation = getD numbers (i * 7 + 1) 0 % 256;
+-- The row with the number i.
+abbrev pub rowAt : List ℕ → ℕ → Row
+rowAt numbers i =
+    record {
+      kind = getD numbers (i * 7) 0;
+      relation = getD numbers (i * 7 + 1) 0;
       left = getD numbers (i * 7 + 2) 0;
-      «left_added» = getD numbers (i * 7 + 3) 0;
+      leftAdded = getD numbers (i * 7 + 3) 0;
       right = getD numbers (i * 7 + 4) 0;
-      «right_added» = getD numbers (i * 7 + 5) 0;
-      low = getD ends (i * 2) (pos 0);
-      high = getD ends (i * 2 + 1) (pos 0);
-    })
-    blank
+      rightAdded = getD numbers (i * 7 + 5) 0;
+      source = getD numbers (i * 7 + 6) 0;
+    }
+
+-- A place of the stored span of the node that stands before a place among the nodes: the first for 0, the second for 1.
+unfoldable pub storedPlace : List ℕ → ℕ → ℕ → ℕ
+storedPlace numbers which zero = 0
+storedPlace numbers which (suc node) = cond (ltb node spanBound) (getD numbers (spansFrom + node * 2 + which) 0) 0
+
+abbrev pub storedSpan : List ℕ → ℕ → Span
+storedSpan numbers e = span (storedPlace numbers 0 e) (storedPlace numbers 1 e)
+
+-- The entry with the number i.
+unfoldable pub entryAt : List ℕ → List ℤ → ℕ → Entry
+entryAt numbers ends i = cond (ltb i rowBound) (entryWith (storedSpan numbers) (rowAt numbers i) (getD ends (i * 2) (pos 0)) (getD ends (i * 2 + 1) (pos 0))) blank
 
 -- The tables with the entries of lines in them, or a refusal with tables of zeros.
 abbrev pub refusedMade : ℕ → Made
-refusedMade n = record { answer = record { refusal = n; entries = 0; added = 0 }; numbers = replicate 28896 0; ends = replicate 8256 (pos 0) }
+refusedMade n = record { answer = record { refusal = n; entries = 0; added = 0 }; numbers = replicate 30944 0; ends = replicate 8256 (pos 0) }
 
 abbrev pub numbersWith : List Row → List ℕ
-numbersWith rows = putRows (replicate 28896 0) 0 rows
+numbersWith rows = putRows (replicate 30944 0) 0 rows
 
 abbrev pub endsWith : (ℕ → Range) → List Row → List ℤ
 endsWith range rows = sets (replicate 8256 (pos 0)) 0 (endsUpTo range (numbersWith rows) (length rows))
 
-unfoldable pub madeOf : List Line → ℕ → (ℕ → Range) → ℕ → Made
-madeOf ls streams range room =
+unfoldable pub madeOf : List Line → ℕ → (ℕ → Range) → List ℕ → ℕ → Made
+madeOf ls streams range spans room =
     let rows = allRows streams ls in
     cond (ltb room (length rows))
     (refusedMade 10)
     (record {
       answer = record { refusal = 0; entries = length rows; added = streamsAfter streams ls - streams };
-      numbers = numbersWith rows;
+      numbers = withSpans (numbersWith rows) spans;
       ends = endsWith range rows;
     })
-
--- The first n of what f gives.
-unfoldable pub listed : {X : Type 0} → (ℕ → X) → ℕ → List X
-listed f zero = []
-listed f (suc n) = listed f n ++ (f n ∷ [])

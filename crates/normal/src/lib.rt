@@ -2,8 +2,9 @@
 use nodes::Range;
 use nodes::left_end;
 ghost use mathlib.Core.Path.{_≡_};
+ghost use mathlib.Core.Bool.{cond};
 ghost use mathlib.Core.List.{[], _∷_};
-ghost use Prim.Native.Nat.{_+_, _*_, _-_, _%_, _≤_, _<_};
+ghost use Prim.Native.Nat.{suc, _+_, _*_, _-_, _≤_, _<_};
 ghost use lib.ListN.{length};
 ghost use lib.Seq.{sets};
 ghost use Rattle.meaning.specs.Arithmetic.{cutTowardZero};
@@ -13,19 +14,27 @@ ghost use Rattle.sheet.specs.Reading.{answerTo};
 ghost use Rattle.outcome.specs.NormalForm.{NormalOutcome};
 ghost use Rattle.normal.specs.Encoded.{encoded, answerOf};
 ghost use Rattle.normal.specs.Outcome.{entriesFor};
+ghost use Rattle.normal.specs.Fields.{leftIsNode, rightIsNode, replacesIn};
 ghost use Rattle.normal.specs.Rows.{untilRow, equationRow, nextEntries, fbyEntries, untilEntries};
 ghost use Rattle.normal.specs.Stored.{rewritingBefore, storedLine, storedLines, rangeBefore};
-ghost use Rattle.normal.specs.Table.{rowBound, streamLimit, putRows, HasRoom, Wrote, WroteLine, WroteLines, LinesHaveRoom, HasLines, endsUpTo, refusedMade, madeOf, blank, entryAt, listed};
+ghost use Rattle.normal.specs.Table.{rowBound, streamLimit, putRows, HasRoom, Wrote, WroteLine, WroteLines, LinesHaveRoom, HasLines, endsUpTo, refusedMade, madeOf, withSpans, blank, storedPlace, entryAt, listed};
 
-// One entry of the normal form (specs/Encoded says what its fields are). Laid out as in C, so that an exported function can be lent a list of them.
+// One entry of the normal form (specs/Encoded says what its fields are). Laid out as in C, so that an exported function can be lent a list of them;
+// twelve numbers of two bytes and two of eight, with no bytes between them.
 #[repr(C)]
 pub struct Entry {
-    pub kind: u8,
-    pub relation: u8,
+    pub kind: u16,
+    pub relation: u16,
+    pub stream_kind: u16,
+    pub replaces: u16,
     pub left: u16,
     pub left_added: u16,
+    pub left_begin: u16,
+    pub left_end: u16,
     pub right: u16,
     pub right_added: u16,
+    pub right_begin: u16,
+    pub right_end: u16,
     pub low: i64,
     pub high: i64,
 }
@@ -44,10 +53,10 @@ struct Written {
     stream: usize,
 }
 
-// The answer, seven numbers for each entry, and the ends of the ranges.
+// The answer; seven numbers for each entry, and behind those of all entries two for the span of each node; and the ends of the ranges.
 pub struct Made {
     pub answer: NormalForm,
-    pub numbers: [u16; 28896],
+    pub numbers: [u16; 30944],
     pub ends: [i64; 8256],
 }
 
@@ -62,7 +71,7 @@ fn last_node(end: usize) -> usize
 }
 
 fn put_row(
-    table: &mut [u16; 28896],
+    table: &mut [u16; 30944],
     row: usize,
     kind: u16,
     relation: u16,
@@ -86,7 +95,7 @@ fn put_row(
 }
 
 // "x₂ == expr", of the expression that ends before `end` and adds streams from `added` on
-fn put_equation(table: &mut [u16; 28896], row: usize, stream: usize, end: usize, added: usize)
+fn put_equation(table: &mut [u16; 30944], row: usize, stream: usize, end: usize, added: usize)
     requires { ⌜ (row < rowBound) × (stream < 65536) × (end < 65536) × (added < 65536) ⌝ }
     ensures { λ r. ⌜ now (table .exit) ≡ putRows (now (table .entry)) row (equationRow stream end added ∷ []) ⌝ }
 {
@@ -94,7 +103,7 @@ fn put_equation(table: &mut [u16; 28896], row: usize, stream: usize, end: usize,
 }
 
 // The two entries of a `next` whose part ends before `end`.
-fn put_next(table: &mut [u16; 28896], row: usize, stream: usize, end: usize)
+fn put_next(table: &mut [u16; 30944], row: usize, stream: usize, end: usize)
     requires { ⌜ (row + 2 ≤ rowBound) × (stream + 2 ≤ streamLimit) × (end ≤ 1024) ⌝ }
     ensures { λ r. ⌜ now (table .exit) ≡ putRows (now (table .entry)) row (nextEntries end stream) ⌝ }
 {
@@ -104,7 +113,7 @@ fn put_next(table: &mut [u16; 28896], row: usize, stream: usize, end: usize)
 
 // The four entries of an `fby` whose parts end before `left` and `right`, where the left part adds streams from `added` on.
 fn put_fby(
-    table: &mut [u16; 28896],
+    table: &mut [u16; 30944],
     row: usize,
     stream: usize,
     left: usize,
@@ -127,7 +136,7 @@ fn write_rows(
     end: usize,
     row: usize,
     stream: usize,
-    table: &mut [u16; 28896],
+    table: &mut [u16; 30944],
 ) -> Written
     requires { ⌜ (end ≤ length (now kinds)) × (end ≤ 1024) × HasRoom (rewritingBefore (now kinds) (now starts) end) row stream ⌝ }
     ensures { λ r. ⌜ Wrote (rewritingBefore (now (kinds .entry)) (now (starts .entry)) end) row stream (now (table .entry)) (now (table .exit)) r ⌝ }
@@ -171,7 +180,7 @@ fn write_rows(
 // The own entry and the two added entries of an `until` whose sides end before `left` and `right`, where the left side adds streams from
 // `added` on.
 fn put_until(
-    table: &mut [u16; 28896],
+    table: &mut [u16; 30944],
     own: usize,
     row: usize,
     stream: usize,
@@ -197,7 +206,7 @@ fn write_line(
     own: usize,
     row: usize,
     stream: usize,
-    table: &mut [u16; 28896],
+    table: &mut [u16; 30944],
 ) -> Written
     requires { ⌜ (left < length (now kinds)) × (right < length (now kinds)) × (length (now kinds) ≤ 1024) × (own < row) × HasRoom (storedLine (now kinds) (now starts) relation left right .adds) row stream ⌝ }
     ensures { λ r. ⌜ WroteLine (storedLine (now (kinds .entry)) (now (starts .entry)) relation left right) own row stream (now (table .entry)) (now (table .exit)) r ⌝ }
@@ -229,7 +238,7 @@ fn write_lines(
     lefts: &[u16],
     rights: &[u16],
     streams: usize,
-    table: &mut [u16; 28896],
+    table: &mut [u16; 30944],
 ) -> Written
     requires { ⌜ HasLines (now kinds) (now relations) (now lefts) (now rights) ⌝ }
     requires { ⌜ LinesHaveRoom (storedLines (now kinds) (now starts) (now relations) (now lefts) (now rights)) (length (now relations)) streams ⌝ }
@@ -305,7 +314,7 @@ fn write_ends(
     starts: &[u16],
     lows: &[i64],
     highs: &[i64],
-    numbers: &[u16; 28896],
+    numbers: &[u16; 30944],
     rows: usize,
     ends: &mut [i64; 8256],
 )
@@ -332,8 +341,19 @@ fn refused(number: u32) -> Made
     };
     Made {
         answer: answer,
-        numbers: [0; 28896],
+        numbers: [0; 30944],
         ends: [0; 8256],
+    }
+}
+
+// Stores the spans of the nodes behind the numbers of the entries.
+fn put_spans(numbers: &mut [u16; 30944], spans: &[u16; 2048])
+    ensures { λ r. ⌜ now (numbers .exit) ≡ withSpans (now (numbers .entry)) (now (spans .entry)) ⌝ }
+{
+    let mut i = 0;
+    while i < 2048 {
+        numbers[28896 + i] = spans[i];
+        i += 1;
     }
 }
 
@@ -347,14 +367,15 @@ fn make(
     relations: &[u8],
     lefts: &[u16],
     rights: &[u16],
+    spans: &[u16; 2048],
     room: usize,
 ) -> Made
     requires { ⌜ HasLines (now kinds) (now relations) (now lefts) (now rights) ⌝ }
     requires { ⌜ LinesHaveRoom (storedLines (now kinds) (now starts) (now relations) (now lefts) (now rights)) (length (now relations)) (length (now lows)) ⌝ }
-    ensures { λ r. ⌜ r ≡ madeOf (storedLines (now (kinds .entry)) (now (starts .entry)) (now (relations .entry)) (now (lefts .entry)) (now (rights .entry))) (length (now (lows .entry))) (rangeBefore cutTowardZero (stored (now (kinds .entry)) (now (values .entry)) (now (starts .entry))) (now (lows .entry)) (now (highs .entry))) room ⌝ }
+    ensures { λ r. ⌜ r ≡ madeOf (storedLines (now (kinds .entry)) (now (starts .entry)) (now (relations .entry)) (now (lefts .entry)) (now (rights .entry))) (length (now (lows .entry))) (rangeBefore cutTowardZero (stored (now (kinds .entry)) (now (values .entry)) (now (starts .entry))) (now (lows .entry)) (now (highs .entry))) (now (spans .entry)) room ⌝ }
 {
     let streams = lows.len();
-    let mut numbers: [u16; 28896] = [0; 28896];
+    let mut numbers: [u16; 30944] = [0; 30944];
     let written = write_lines(
         kinds,
         starts,
@@ -379,6 +400,7 @@ fn make(
         rows,
         &mut ends,
     );
+    put_spans(&mut numbers, spans);
     let answer = NormalForm {
         refusal: 0,
         entries: rows as u32,
@@ -391,44 +413,122 @@ fn make(
     }
 }
 
-// The low byte.
-fn low_byte(x: u16) -> u8
-    ensures { λ r. ⌜ r ≡ x % 256 ⌝ }
+// Whether the left of an entry of this kind is a node.
+fn left_is_node(kind: u16) -> bool
+    ensures { λ r. ⌜ r ≡ leftIsNode kind ⌝ }
 {
-    (x % 256) as u8
+    kind == 1
+}
+
+// Whether the right of an entry of this kind is a node.
+fn right_is_node(kind: u16) -> bool
+    ensures { λ r. ⌜ r ≡ rightIsNode kind ⌝ }
+{
+    if kind == 1 {
+        return true;
+    }
+    kind == 3
+}
+
+// A stream's number, and 0 for a node.
+fn stream_of(is_node: bool, number: u16) -> u16
+    ensures { λ r. ⌜ r ≡ cond «is_node» 0 number ⌝ }
+{
+    if is_node { 0 } else { number }
+}
+
+// The place behind a node, or the other place where there is none.
+fn behind_node(is_node: bool, node: u16, other: usize) -> usize
+    ensures { λ r. ⌜ r ≡ cond «is_node» (suc node) other ⌝ }
+{
+    if is_node { wide(node) + 1 } else { other }
+}
+
+// 1 where the left stream of an entry stands for a whole `next` or `fby`, else 0.
+fn replaces(kind: u16, left: u16, right: u16) -> u16
+    ensures { λ r. ⌜ r ≡ replacesIn kind left right ⌝ }
+{
+    if kind == 5 {
+        return 1;
+    }
+    if kind != 4 {
+        return 0;
+    }
+    if left < right { 1 } else { 0 }
+}
+
+// A place of the span of the node that stands before `end`: its begin, or its end where `which` is 1. 0 where there is no node.
+fn stored_place(numbers: &[u16; 30944], end: usize, which: usize) -> u16
+    requires { ⌜ which < 2 ⌝ }
+    ensures { λ r. ⌜ r ≡ storedPlace (now (numbers .entry)) which end ⌝ }
+{
+    if end == 0 {
+        return 0;
+    }
+    let node = end - 1;
+    if 1024 <= node {
+        return 0;
+    }
+    numbers[28896 + node * 2 + which]
+}
+
+// An entry of zeros.
+fn blank_entry() -> Entry
+    ensures { λ r. ⌜ r ≡ blank ⌝ }
+{
+    Entry {
+        kind: 0,
+        relation: 0,
+        stream_kind: 0,
+        replaces: 0,
+        left: 0,
+        left_added: 0,
+        left_begin: 0,
+        left_end: 0,
+        right: 0,
+        right_added: 0,
+        right_begin: 0,
+        right_end: 0,
+        low: 0,
+        high: 0,
+    }
 }
 
 // The entry with the number i; all fields are 0 where there is none.
-pub fn entry_at(numbers: &[u16; 28896], ends: &[i64; 8256], i: usize) -> Entry
+pub fn entry_at(numbers: &[u16; 30944], ends: &[i64; 8256], i: usize) -> Entry
     ensures { λ r. ⌜ r ≡ entryAt (now (numbers .entry)) (now (ends .entry)) i ⌝ }
 {
     if 4128 <= i {
-        return Entry {
-            kind: 0,
-            relation: 0,
-            left: 0,
-            left_added: 0,
-            right: 0,
-            right_added: 0,
-            low: 0,
-            high: 0,
-        };
+        return blank_entry();
     }
     let at = i * 7;
+    let kind = numbers[at];
+    let left = numbers[at + 2];
+    let right = numbers[at + 4];
+    let is_left = left_is_node(kind);
+    let is_right = right_is_node(kind);
+    let before_left = behind_node(is_left, left, wide(numbers[at + 6]));
+    let before_right = behind_node(is_right, right, 0);
     Entry {
-        kind: low_byte(numbers[at]),
-        relation: low_byte(numbers[at + 1]),
-        left: numbers[at + 2],
+        kind: kind,
+        relation: numbers[at + 1],
+        stream_kind: 0,
+        replaces: replaces(kind, left, right),
+        left: stream_of(is_left, left),
         left_added: numbers[at + 3],
-        right: numbers[at + 4],
+        left_begin: stored_place(numbers, before_left, 0),
+        left_end: stored_place(numbers, before_left, 1),
+        right: stream_of(is_right, right),
         right_added: numbers[at + 5],
+        right_begin: stored_place(numbers, before_right, 0),
+        right_end: stored_place(numbers, before_right, 1),
         low: ends[i * 2],
         high: ends[i * 2 + 1],
     }
 }
 
 // Stores the entries that the numbers give, and entries of zeros behind them.
-fn fill(list: &mut [Entry], numbers: &[u16; 28896], ends: &[i64; 8256])
+fn fill(list: &mut [Entry], numbers: &[u16; 30944], ends: &[i64; 8256])
     ensures { λ r. ⌜ now (list .exit) ≡ listed (entryAt (now (numbers .entry)) (now (ends .entry))) (length (now (list .entry))) ⌝ }
 {
     let mut i = 0;
@@ -440,7 +540,7 @@ fn fill(list: &mut [Entry], numbers: &[u16; 28896], ends: &[i64; 8256])
 
 // The entries of the sheet that the bytes give in tables, or the refusal's number with tables of zeros.
 pub fn read_entries(text: &[u8], room: usize) -> Made
-    ensures { λ r. ⌜ r ≡ entriesFor (answerTo cutTowardZero threeHeaderLines (now (text .entry))) room ⌝ }
+    ensures { λ r. ⌜ r ≡ entriesFor (now (text .entry)) (answerTo cutTowardZero threeHeaderLines (now (text .entry))) room ⌝ }
 {
     let reading = reader::read(text);
     if reading.refusal != 0 {
@@ -458,6 +558,7 @@ pub fn read_entries(text: &[u8], room: usize) -> Made
     let relations = sheet.relations;
     let lefts = sheet.lefts;
     let rights = sheet.rights;
+    let spans = spans::spans(text);
     make(
         &kinds[..nodes],
         &values[..nodes],
@@ -467,6 +568,7 @@ pub fn read_entries(text: &[u8], room: usize) -> Made
         &relations[..count],
         &lefts[..count],
         &rights[..count],
+        &spans,
         room,
     )
 }
@@ -474,7 +576,7 @@ pub fn read_entries(text: &[u8], room: usize) -> Made
 // Gives the entries of the normal form of the sheet's bytes in the lent list, with zeros behind them; in a refusal 1 to 7, or 10 where the list
 // is shorter than the entries, the list is zero.
 pub fn normal_form(text: &[u8], list: &mut [Entry]) -> NormalForm
-    ensures { λ r. ⌜ NormalOutcome blank encoded cutTowardZero threeHeaderLines (now (text .entry)) (length (now (list .entry))) (answerOf r) (now (list .exit)) ⌝ }
+    ensures { λ r. ⌜ NormalOutcome blank (encoded (now (text .entry))) cutTowardZero threeHeaderLines (now (text .entry)) (length (now (list .entry))) (answerOf r) (now (list .exit)) ⌝ }
 {
     let made = read_entries(text, list.len());
     let numbers = made.numbers;

@@ -10,7 +10,7 @@ use normal::NormalForm;
 
 #[no_mangle]
 pub extern "C" fn normal_form_c(text: &[u8], list: &mut [Entry]) -> NormalForm
-    ensures { λ r. ⌜ NormalOutcome blank encoded cutTowardZero threeHeaderLines (now (text .entry)) (length (now (list .entry))) (answerOf r) (now (list .exit)) ⌝ }
+    ensures { λ r. ⌜ NormalOutcome blank (encoded (now (text .entry))) cutTowardZero threeHeaderLines (now (text .entry)) (length (now (list .entry))) (answerOf r) (now (list .exit)) ⌝ }
 {
     normal::normal_form(text, list)
 }

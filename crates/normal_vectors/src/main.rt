@@ -50,15 +50,21 @@ fn print_signed(value: i64, end: &[u8]) {
 fn print_entry(entry: Entry) {
     print(entry.kind as u64, b" ");
     print(entry.relation as u64, b" ");
+    print(entry.stream_kind as u64, b" ");
+    print(entry.replaces as u64, b" ");
     print(entry.left as u64, b" ");
     print(entry.left_added as u64, b" ");
+    print(entry.left_begin as u64, b" ");
+    print(entry.left_end as u64, b" ");
     print(entry.right as u64, b" ");
     print(entry.right_added as u64, b" ");
+    print(entry.right_begin as u64, b" ");
+    print(entry.right_end as u64, b" ");
     print_signed(entry.low, b" ");
     print_signed(entry.high, b"\n");
 }
 
-fn print_entries(numbers: &[u16; 28896], ends: &[i64; 8256], count: usize) {
+fn print_entries(numbers: &[u16; 30944], ends: &[i64; 8256], count: usize) {
     let mut i = 0;
     while i < count {
         let entry = normal::entry_at(numbers, ends, i);

@@ -77,7 +77,7 @@ fails false _ = refl
 
 -- the tables' types, and the values passed: the list, the numbers and the ends of the ranges
 abbrev numbers-slot : Slot 3
-numbers-slot = ArrayOf (plain (λ _. u16)) (λ _. tt) 28896
+numbers-slot = ArrayOf (plain (λ _. u16)) (λ _. tt) 30944
 
 abbrev ends-slot : Slot 3
 ends-slot = ArrayOf (plain (λ _. i64)) (λ _. tt) 8256
@@ -125,7 +125,7 @@ module _ {M : Type 1} (𝓤 : URA M) (H : Heap 𝓤) (A : Atoms 𝓤) (W : Given
 
   -- what the tables own, and their tokens
   abbrev Numbers : Fml
-  Numbers = ShrRef (named 1) κ₁ (Array u16 28896) .own numbers (numbers-value ∷ [])
+  Numbers = ShrRef (named 1) κ₁ (Array u16 30944) .own numbers (numbers-value ∷ [])
 
   abbrev Ends : Fml
   Ends = ShrRef (named 2) κ₂ (Array i64 8256) .own ends (ends-value ∷ [])
@@ -188,7 +188,7 @@ module _ {M : Type 1} (𝓤 : URA M) (H : Heap 𝓤) (A : Atoms 𝓤) (W : Given
       list-type = sliceTy (tyRef (named 0) mut (pointee (T₀.the-row .written)))
 
       abbrev numbers-type : Ty
-      numbers-type = tyRef (named 1) imm (pointee (Array u16 28896 .written))
+      numbers-type = tyRef (named 1) imm (pointee (Array u16 30944 .written))
 
       abbrev ends-type : Ty
       ends-type = tyRef (named 2) imm (pointee (Array i64 8256 .written))
@@ -232,7 +232,7 @@ module _ {M : Type 1} (𝓤 : URA M) (H : Heap 𝓤) (A : Atoms 𝓤) (W : Given
           rewrite ! 3 (λ (t : Bool). ‵ (fat fullShare tyBool l₆ 0 (vbool t))) (holds (ltb i n) (lt→ltb i n small)) refl $
           stays ! (load ! (from ! (stop !)) (look ! 3 refl)) $
           -- copies of the references go to the callee
-          move ! (13 ∷ []) $ use1 W (‵ Numbers ⊛ ‵ Numbers) (shr-copy 𝓤 H A W (named 1) κ₁ (Array u16 28896) .twice numbers (numbers-value ∷ [])) $ split ! $
+          move ! (13 ∷ []) $ use1 W (‵ Numbers ⊛ ‵ Numbers) (shr-copy 𝓤 H A W (named 1) κ₁ (Array u16 30944) .twice numbers (numbers-value ∷ [])) $ split ! $
           move ! (15 ∷ []) $ use1 W (‵ Ends ⊛ ‵ Ends) (shr-copy 𝓤 H A W (named 2) κ₂ (Array i64 8256) .twice ends (ends-value ∷ [])) $ split ! $
           move ! (2 ∷ 0 ∷ 17 ∷ []) $ use3 W (raw (EntryAt 𝓤 H A at-mem run .pre (to-callee i))) (asked i fits) $
           -- [what the callee asks; Ends; Numbers; the row; _4; _5; _6; _7; _8; _1; _2; _3; room for _0; the open borrow; obs; auth; ..]
@@ -246,12 +246,12 @@ module _ {M : Type 1} (𝓤 : URA M) (H : Heap 𝓤) (A : Atoms 𝓤) (W : Given
           rewrite ! 8 (λ (u : Val). ‵ (fat fullShare T′.mir l₇ 0 u)) (spelled r v is) refl $
           assigns ! (bin ! (load ! (from ! (stop !)) (look ! 5 refl)) (lit ! tt) (record { fits = bytes-fit })) (from ! (stop !)) (store ! 6 refl (tt, record { fits = bytes-fit })) $
           assigns ! (bin ! (load ! (from ! (fld ! refl (stop !))) (look-in ! 10 (sub ! 0 refl (whole !)))) (load ! (from ! (stop !)) (look ! 6 refl)) tt) (from ! (stop !)) (init ! 9 refl (tt, tt)) $
-          rewrite ! 9 (λ (p : ℕ). ‵ (fat fullShare tyPtr l₈ 0 (vptr b p))) (sym (place-is 32 o i)) refl $
+          rewrite ! 9 (λ (p : ℕ). ‵ (fat fullShare tyPtr l₈ 0 (vptr b p))) (sym (place-is 40 o i)) refl $
           -- the element is taken out of the row, stored to, and put back
           move ! (4 ∷ []) $ elem-out ! T₀.the-row (Is T₀.the-row) (shows 𝓤 H A T₀.the-row) (LL.vals T₀.the-type T′.the-laws) (LL.tells T₀.the-type T′.the-laws) fullShare ys i blank b o within (λ was.
-          use1 W (‵ (fat fullShare T′.mir b (place 32 o i) (entry-value (getD ys i blank)))) (W .laws .raw-at fullShare T′.mir b (place 32 o i) (entry-value (getD ys i blank))) $
+          use1 W (‵ (fat fullShare T′.mir b (place 40 o i) (entry-value (getD ys i blank)))) (W .laws .raw-at fullShare T′.mir b (place 40 o i) (entry-value (getD ys i blank))) $
           assigns ! (of-opd ! (load ! (from ! (stop !)) (look ! 10 refl))) (from ! (hop ! (look ! 11 refl) (stop !))) (store ! 0 refl (LL.lawful T₀.the-type T′.the-laws 𝓤 H A W .typed r _ (spelled-is r v is) .0)) $
-          use1 W (‵ (cellAt fullShare (T₀.the-row .mir) (entry-value r ∷ []) b (place 32 o i))) (W .laws .at-raw fullShare T′.mir b (place 32 o i) (entry-value r)) $
+          use1 W (‵ (cellAt fullShare (T₀.the-row .mir) (entry-value r ∷ []) b (place 40 o i))) (W .laws .at-raw fullShare T′.mir b (place 40 o i) (entry-value r)) $
           move ! (1 ∷ []) $ drop ! $ move ! (2 ∷ []) $ drop ! $
           owned ! T₀.the-row (Is T₀.the-row) (LL.makes T₀.the-type T′.the-plain 𝓤 H A) r _ (spelled-is r v is) $ move ! (1 ∷ 0 ∷ 2 ∷ []) $
           elem-put ! T₀.the-row fullShare ys i r (entry-value r ∷ []) b o within $
@@ -267,7 +267,7 @@ module _ {M : Type 1} (𝓤 : URA M) (H : Heap 𝓤) (A : Atoms 𝓤) (W : Given
           next-fits : i + 1 < 2 ^ 64
           next-fits = omega (arith, room .0)
 
-          bytes-fit : i * 32 < 2 ^ 64
+          bytes-fit : i * 40 < 2 ^ 64
           bytes-fit = omega (arith, room .1)
 
           one-more : i + 1 ≡ suc i
@@ -322,7 +322,7 @@ module _ {M : Type 1} (𝓤 : URA M) (H : Heap 𝓤) (A : Atoms 𝓤) (W : Given
     -- the MIR, up to the loop
     walk : ent 𝓤 (onEntry 𝓤 H A fill.signature κs (q, (q₁, (q₂, tt))) args at) (WpFn 𝓤 H C Λ code.function (list-value ∷ numbers-value ∷ ends-value ∷ []) Post)
     walk =
-        qed W ((‵ (flft κ q) ⊛ Tokens) ∷ ‵ (owns (MutSlice (named 0) κ T₀.the-row ∷ ShrRef (named 1) κ₁ (Array u16 28896) ∷ ShrRef (named 2) κ₂ (Array i64 8256) ∷ []) args at) ∷ []) ∵
+        qed W ((‵ (flft κ q) ⊛ Tokens) ∷ ‵ (owns (MutSlice (named 0) κ T₀.the-row ∷ ShrRef (named 1) κ₁ (Array u16 30944) ∷ ShrRef (named 2) κ₂ (Array i64 8256) ∷ []) args at) ∷ []) ∵
         split ! $ move ! (2 ∷ []) $ fsplit ! $ fsplit ! $ drop ! $ fsplit ! $ move ! (2 ∷ []) $ fsplit ! $ move ! (1 ∷ []) $ fsplit ! $ move ! (1 ∷ []) $ drop ! $ move ! (2 ∷ 3 ∷ 4 ∷ []) $
         -- [obs; the borrow; the list's token; Ends; Numbers; the tokens]
         enter ! C Λ code.function (list-value ∷ numbers-value ∷ ends-value ∷ []) _ $
@@ -338,7 +338,7 @@ module _ {M : Type 1} (𝓤 : URA M) (H : Heap 𝓤) (A : Atoms 𝓤) (W : Given
       → Walks 𝓤 H A fill.ended stayed (WpFn 𝓤 H (𝓣 .C) (𝓣 .Λ) code.function) (fill.clauses 𝓤 H A at-mem run)
   fill-walks 𝓣 fm known =
       walked 𝓤 H A fill.ended stayed (fill.clauses 𝓤 H A at-mem run) (WpFn 𝓤 H (𝓣 .C) (𝓣 .Λ) code.function) (λ κs. (slice-vals, (ptr-vals, (ptr-vals, tt))))
-      (λ κs. (mut-slice-tells (named 0) (κs .0) T₀.the-row, (shr-tells (named 1) (κs .1 .0) (Array u16 28896), (shr-tells (named 2) (κs .1 .1 .0) (Array i64 8256), tt))))
+      (λ κs. (mut-slice-tells (named 0) (κs .0) T₀.the-row, (shr-tells (named 1) (κs .1 .0) (Array u16 30944), (shr-tells (named 2) (κs .1 .1 .0) (Array i64 8256), tt))))
       (λ κs qs bounds a _ are. via 𝓤 _ (fst∗ 𝓤 _ (emp 𝓤)) (walk 𝓤 H A W at-mem run (κs .0) (κs .1 .0) (κs .1 .1 .0) (qs .0) (qs .1 .0) (qs .1 .1 .0)
       (a .0 .ptr .0) (a .0 .ptr .1) (a .0 .name) (a .0 .now) (a .1 .0) (a .1 .1 .0) 𝓣 fm known (are .0 .0 .1)))
 

@@ -20,32 +20,35 @@ returns c =
     let a = s .args in
     let ls = storedLines (a .kinds .now) (a .starts .now) (a .relations .now) (a .lefts .now) (a .rights .now) in
     let count = stored-count (a .kinds .now) (a .starts .now) (a .relations .now) (a .lefts .now) (a .rights .now) (s .pre .0 .leftCount) (s .pre .0 .rightCount) in
-    made-short ls (length (a .lows .now)) count (c .before .before .write-lines .ensures) (rangeBefore cutTowardZero (stored (a .kinds .now) (a .values .now) (a .starts .now)) (a .lows .now) (a .highs .now)) (a .room) (c .before .if1 .taken) (c .refused .ensures)
+    made-short ls (length (a .lows .now)) count (c .before .before .write-lines .ensures) (rangeBefore cutTowardZero (stored (a .kinds .now) (a .values .now) (a .starts .now)) (a .lows .now) (a .highs .now)) (a .spans .now) (a .room) (c .before .if1 .taken) (c .refused .ensures)
 
 write-ends-requires : tie.Need-write-ends-requires
 write-ends-requires c κs = search needs
 
-cast-t21 : tie.Need-cast-t21
-cast-t21 c = search needs
-
-sub-t22 : tie.Need-sub-t22
-sub-t22 c =
-    let s = c .before .before .before .before .before .before .before .before .before .before .before .before in
-    let a = s .args in
-    let ls = storedLines (a .kinds .now) (a .starts .now) (a .relations .now) (a .lefts .now) (a .rights .now) in
-    let count = stored-count (a .kinds .now) (a .starts .now) (a .relations .now) (a .lefts .now) (a .rights .now) (s .pre .0 .leftCount) (s .pre .0 .rightCount) in
-    streams-added ls (length (a .lows .now)) count (c .before .before .before .before .before .write-lines .ensures)
+put-spans-requires : tie.Need-put-spans-requires
+put-spans-requires c κs = search needs
 
 cast-t23 : tie.Need-cast-t23
 cast-t23 c = search needs
 
-returns-2 : tie.Need-returns-2
-returns-2 c =
-    let s = c .before .before .before .before .before .before .before .before .before .before .before .before in
+sub-t24 : tie.Need-sub-t24
+sub-t24 c =
+    let s = c .before .before .before .before .before .before .before .before .before .before .before .before .before .before in
     let a = s .args in
     let ls = storedLines (a .kinds .now) (a .starts .now) (a .relations .now) (a .lefts .now) (a .rights .now) in
     let count = stored-count (a .kinds .now) (a .starts .now) (a .relations .now) (a .lefts .now) (a .rights .now) (s .pre .0 .leftCount) (s .pre .0 .rightCount) in
-    made-whole ls (length (a .lows .now)) count (c .before .before .before .before .before .write-lines .ensures) (rangeBefore cutTowardZero (stored (a .kinds .now) (a .values .now) (a .starts .now)) (a .lows .now) (a .highs .now)) (a .room) (c .before .before .before .before .if1 .left) (c .before .write-ends .ensures)
+    streams-added ls (length (a .lows .now)) count (c .before .before .before .before .before .before .before .write-lines .ensures)
+
+cast-t25 : tie.Need-cast-t25
+cast-t25 c = search needs
+
+returns-2 : tie.Need-returns-2
+returns-2 c =
+    let s = c .before .before .before .before .before .before .before .before .before .before .before .before .before .before in
+    let a = s .args in
+    let ls = storedLines (a .kinds .now) (a .starts .now) (a .relations .now) (a .lefts .now) (a .rights .now) in
+    let count = stored-count (a .kinds .now) (a .starts .now) (a .relations .now) (a .lefts .now) (a .rights .now) (s .pre .0 .leftCount) (s .pre .0 .rightCount) in
+    made-whole ls (length (a .lows .now)) count (c .before .before .before .before .before .before .before .write-lines .ensures) (rangeBefore cutTowardZero (stored (a .kinds .now) (a .values .now) (a .starts .now)) (a .lows .now) (a .highs .now)) (a .spans .now) (a .room) (c .before .before .before .before .before .before .if1 .left) (c .before .put-spans .ensures) (c .before .before .before .write-ends .ensures)
 
 pub make-spec : {M : Type 1} → statement M
 make-spec =
@@ -55,7 +58,8 @@ make-spec =
     refused-requires
     returns
     write-ends-requires
-    cast-t21
-    sub-t22
+    put-spans-requires
     cast-t23
+    sub-t24
+    cast-t25
     returns-2)

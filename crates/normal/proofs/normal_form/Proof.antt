@@ -138,7 +138,7 @@ module _ {M : Type 1} (𝓤 : URA M) (H : Heap 𝓤) (A : Atoms 𝓤) (W : Given
   Listed = MutSlice (named 1) κ₁ T₀.the-row .own x (list-value ∷ [])
 
   abbrev wanted : Made
-  wanted = entriesFor (answerTo cutTowardZero threeHeaderLines (now text)) n
+  wanted = entriesFor (now text) (answerTo cutTowardZero threeHeaderLines (now text)) n
 
   -- `read_entries`
   abbrev to-read : ReadEntries 𝓤 H A at-mem run .Ghost
@@ -167,8 +167,8 @@ module _ {M : Type 1} (𝓤 : URA M) (H : Heap 𝓤) (A : Atoms 𝓤) (W : Given
     answer-is : Is F₀.the-row (r .answer) (F′.lowered (r .answer) ∷ [])
     answer-is = LL.owed D₀.the-type D′.the-laws r (v ∷ []) is .0
 
-    numbers-is : Is (Array u16 28896) (r .numbers) (numbers-value r ∷ [])
-    numbers-is = subst (λ (l : List ℕ). Is (Array u16 28896) l (arrayVal (map (λ v. vint w16 v) l) ∷ [])) (map-same (r .numbers)) (LL.owed D₀.the-type D′.the-laws r (v ∷ []) is .1 .0)
+    numbers-is : Is (Array u16 30944) (r .numbers) (numbers-value r ∷ [])
+    numbers-is = subst (λ (l : List ℕ). Is (Array u16 30944) l (arrayVal (map (λ v. vint w16 v) l) ∷ [])) (map-same (r .numbers)) (LL.owed D₀.the-type D′.the-laws r (v ∷ []) is .1 .0)
 
     ends-is : Is (Array i64 8256) (r .ends) (ends-value r ∷ [])
     ends-is = subst (λ (l : List ℤ). Is (Array i64 8256) l (arrayVal (map (λ z. vint w64 (ofZ w64 z)) l) ∷ [])) (map-same (r .ends)) (LL.owed D₀.the-type D′.the-laws r (v ∷ []) is .1 .1 .0)
@@ -197,7 +197,7 @@ module _ {M : Type 1} (𝓤 : URA M) (H : Heap 𝓤) (A : Atoms 𝓤) (W : Given
     Tokens = ‵ (flft κ₁ q₁) ⊛ ‵ (flft (α ∷ []) fullShare) ⊛ ‵ (flft (β ∷ []) fullShare) ⊛ ‵ ftrue
 
     abbrev Owned : Fml
-    Owned = owns (MutSlice (named 0) κ₁ T₀.the-row ∷ ShrRef (named 1) (α ∷ []) (Array u16 28896) ∷ ShrRef (named 2) (β ∷ []) (Array i64 8256) ∷ []) given′ (list-value ∷ [], (vptr l₄ 0 ∷ [], (vptr l₅ 0 ∷ [], tt)))
+    Owned = owns (MutSlice (named 0) κ₁ T₀.the-row ∷ ShrRef (named 1) (α ∷ []) (Array u16 30944) ∷ ShrRef (named 2) (β ∷ []) (Array i64 8256) ∷ []) given′ (list-value ∷ [], (vptr l₄ 0 ∷ [], (vptr l₅ 0 ∷ [], tt)))
 
     asked-fill : ent 𝓤 (⋆ 𝓤 H A (Tokens ∷ ‵ Owned ∷ [])) (Fill 𝓤 H A at-mem run .pre to-fill)
     asked-fill = qed W (Tokens ∷ ‵ Owned ∷ []) ∵ join ! $ frame ! $ done !
@@ -214,8 +214,8 @@ module _ {M : Type 1} (𝓤 : URA M) (H : Heap 𝓤) (A : Atoms 𝓤) (W : Given
       owned ! F₀.the-row (Is F₀.the-row) (LL.makes F₀.the-type F′.the-plain 𝓤 H A) (r .answer) _ is $ move ! (1 ∷ 0 ∷ []) $ done !
 
   module _ (C : Calls 𝓤 H) (Λ : Loops 𝓤 H) (fm : FmC 𝓤 H (W .laws) C) (known-read : Triple 𝓤 (C #normal·read-entries) (ReadEntries 𝓤 H A at-mem run)) (known-fill : Triple 𝓤 (C #normal·fill) (Fill 𝓤 H A at-mem run)) where
-    abbrev numbers-makes : Makes 𝓤 H A (Array u16 28896) (Is (Array u16 28896))
-    numbers-makes = array-makes 𝓤 H A W u16 (uint-makes 𝓤 H A W w16) 28896
+    abbrev numbers-makes : Makes 𝓤 H A (Array u16 30944) (Is (Array u16 30944))
+    numbers-makes = array-makes 𝓤 H A W u16 (uint-makes 𝓤 H A W w16) 30944
 
     abbrev ends-makes : Makes 𝓤 H A (Array i64 8256) (Is (Array i64 8256))
     ends-makes = array-makes 𝓤 H A W i64 (sint-makes 𝓤 H A W w64) 8256
@@ -239,17 +239,17 @@ module _ {M : Type 1} (𝓤 : URA M) (H : Heap 𝓤) (A : Atoms 𝓤) (W : Given
         land ! (from ! (stop !)) (init ! 18 refl (LL.lawful D₀.the-type D′.the-laws 𝓤 H A W .typed r _ is .0)) $
         rewrite ! 18 (λ (u : Val). ‵ (fat fullShare D′.mir l₃ 0 u)) (spelled r v is) refl $ drop ! $
         -- [the text's token; _11; …; _10; …; .. _1; …; room for _0; …; what the text owns; the list's token; what the list owns]
-        assigns ! (of-opd ! (load ! (from ! (fld ! refl (stop !))) (look-in ! 17 (sub ! 1 refl (whole !))))) (from ! (stop !)) (init ! 15 refl (array-lawful 𝓤 H A W u16 (uint-lawful 𝓤 H A W w16) 28896 .typed (r .numbers) _ (numbers-is r v is) .0)) $
+        assigns ! (of-opd ! (load ! (from ! (fld ! refl (stop !))) (look-in ! 17 (sub ! 1 refl (whole !))))) (from ! (stop !)) (init ! 15 refl (array-lawful 𝓤 H A W u16 (uint-lawful 𝓤 H A W w16) 30944 .typed (r .numbers) _ (numbers-is r v is) .0)) $
         assigns ! (of-opd ! (load ! (from ! (fld ! refl (stop !))) (look-in ! 17 (sub ! 2 refl (whole !))))) (from ! (stop !)) (init ! 13 refl (array-lawful 𝓤 H A W i64 (sint-lawful 𝓤 H A W w64) 8256 .typed (r .ends) _ (ends-is r v is) .0)) $
         assigns ! (addr ! (from ! (fld ! refl (hop ! (look-in ! 19 (sub ! 0 refl (whole !))) (stop !))))) (from ! (stop !)) (init ! 7 refl (tt, tt)) $
         assigns ! (agg ! (and-then ! (load ! (from ! (stop !)) (look ! 7 refl)) (and-then ! (load ! (from ! (fld ! refl (stop !))) (look-in ! 19 (sub ! 1 refl (whole !)))) (no-more !)))) (from ! (stop !)) (init ! 5 refl (tt, (tt, (record { fits = room .0 }, tt)))) $
         assigns ! (addr ! (from ! (stop !))) (from ! (stop !)) (init ! 3 refl (tt, tt)) $
         assigns ! (addr ! (from ! (stop !))) (from ! (stop !)) (init ! 1 refl (tt, tt)) $
         -- the tables are lent, each for a lifetime of its own
-        move ! (15 ∷ []) $ use1 W (‵ (partAt (Array u16 28896) fullShare (r .numbers) l₄ 0)) (part-in 𝓤 H A W u16 28896 numbers-makes (r .numbers) (numbers-value r) (numbers-is r v is) l₄) $
+        move ! (15 ∷ []) $ use1 W (‵ (partAt (Array u16 30944) fullShare (r .numbers) l₄ 0)) (part-in 𝓤 H A W u16 30944 numbers-makes (r .numbers) (numbers-value r) (numbers-is r v is) l₄) $
         lft-new ! tt (λ α. move ! (1 ∷ []) $
-        use1 W (later (some (λ (γ₁ : GName). ‵ (ShrRef (named 1) (α ∷ []) (Array u16 28896) .own (record { ptr = (l₄, 0); name = γ₁; now = r .numbers }) (vptr l₄ 0 ∷ [])) ⊛ ‵ (flent (α ∷ []) (partAt (Array u16 28896) fullShare (r .numbers) l₄ 0)))))
-        (lends-shr 𝓤 H A W (Array u16 28896) (named 1) (α ∷ []) fullShare (r .numbers) l₄ 0) $ await ! tt $ pick ! (λ γ₁. split ! $
+        use1 W (later (some (λ (γ₁ : GName). ‵ (ShrRef (named 1) (α ∷ []) (Array u16 30944) .own (record { ptr = (l₄, 0); name = γ₁; now = r .numbers }) (vptr l₄ 0 ∷ [])) ⊛ ‵ (flent (α ∷ []) (partAt (Array u16 30944) fullShare (r .numbers) l₄ 0)))))
+        (lends-shr 𝓤 H A W (Array u16 30944) (named 1) (α ∷ []) fullShare (r .numbers) l₄ 0) $ await ! tt $ pick ! (λ γ₁. split ! $
         move ! (16 ∷ []) $ use1 W (‵ (partAt (Array i64 8256) fullShare (r .ends) l₅ 0)) (part-in 𝓤 H A W i64 8256 ends-makes (r .ends) (ends-value r) (ends-is r v is) l₅) $
         lft-new ! tt (λ β. move ! (1 ∷ []) $
         use1 W (later (some (λ (γ₂ : GName). ‵ (ShrRef (named 2) (β ∷ []) (Array i64 8256) .own (record { ptr = (l₅, 0); name = γ₂; now = r .ends }) (vptr l₅ 0 ∷ [])) ⊛ ‵ (flent (β ∷ []) (partAt (Array i64 8256) fullShare (r .ends) l₅ 0)))))
@@ -269,7 +269,7 @@ module _ {M : Type 1} (𝓤 : URA M) (H : Heap 𝓤) (A : Atoms 𝓤) (W : Given
         move ! (2 ∷ []) $ split ! $ move ! (1 ∷ []) $ peeks ! unit (Is unit) (shows 𝓤 H A unit) u (w ∷ []) (λ unit-is.
         land ! (from ! (stop !)) (init ! 15 refl (nothing-lawful 𝓤 H A W .typed u _ unit-is .0)) $ drop ! $
         -- the lifetimes are ended, and the tables' room comes back
-        split ! $ move ! (1 ∷ []) $ split ! $ lft-end ! tt $ move ! (0 ∷ 6 ∷ []) $ lent-back ! tt $ use1 W (‵ (froom (tyArray (tyInt w16) 28896) l₄ 0)) (part-room 𝓤 H A W (Array u16 28896) (r .numbers) l₄ 0) $
+        split ! $ move ! (1 ∷ []) $ split ! $ lft-end ! tt $ move ! (0 ∷ 6 ∷ []) $ lent-back ! tt $ use1 W (‵ (froom (tyArray (tyInt w16) 30944) l₄ 0)) (part-room 𝓤 H A W (Array u16 30944) (r .numbers) l₄ 0) $
         move ! (1 ∷ []) $ split ! $ lft-end ! tt $ move ! (0 ∷ 6 ∷ []) $ lent-back ! tt $ use1 W (‵ (froom (tyArray (tyInt w64) 8256) l₅ 0)) (part-room 𝓤 H A W (Array i64 8256) (r .ends) l₅ 0) $
         -- [room for _5; …; room for _4; the list's token; what says the list's last value; …; the text's token; _11; …; _10; …; _9; …; _8; …; _7; …; _6; …; …; …; _3; …; _2; …; _1; …; room for _0; …; what the text owns]
         assigns ! (of-opd ! (load ! (from ! (fld ! refl (stop !))) (look-in ! 21 (sub ! 0 refl (whole !))))) (from ! (stop !)) (init ! 27 refl (LL.lawful F₀.the-type F′.the-laws 𝓤 H A W .typed (r .answer) _ (answer-is r v is) .0)) $

@@ -103,7 +103,7 @@ module _ {M : Type 1} (𝓤 : URA M) (H : Heap 𝓤) (A : Atoms 𝓤) (W : Given
 
   -- what `normal_form` says of its result and of the list's last value
   abbrev Outcome : NormalForm → List Entry → Type 0
-  Outcome r zs = NormalOutcome blank encoded cutTowardZero threeHeaderLines (now text) (length xs) (answerOf r) zs
+  Outcome r zs = NormalOutcome blank (encoded (now text)) cutTowardZero threeHeaderLines (now text) (length xs) (answerOf r) zs
 
   abbrev to-call : Callee 𝓤 H A at-mem run .Ghost
   to-call = ((κs, (q, (q₁, tt)), tt, args, at), tt)

@@ -1,0 +1,9 @@
+pub mod Token
+pub mod Tables
+pub mod Steps
+pub mod Phrases
+pub mod Lines
+pub mod Loop
+pub mod Words
+pub mod Reading
+pub mod Sheets

@@ -1,0 +1,263 @@
+-- What the functions over parts and expressions store: each way that they go gives what their contracts say. From Steps and Tables.
+use Prim.Native.Nat.{ℕ, zero, suc, _+_, _≤_, _<_}
+use native.Mathlib.Omega.{arith}
+use mathlib.Core.Path.{_≡_, refl, sym, ap, subst, _∙_}
+use mathlib.Core.Bool.{true, false, true≢false}
+use mathlib.Core.List.{List, [], _∷_, _++_}
+use mathlib.Core.Option.{some, none, Option·none-ne-some}
+use lib.ListN.{length, length-append}
+use Rattle.text.specs.Bytes.{Token, bytesOf}
+use Rattle.text.specs.Token.{sameBytes}
+use Rattle.meaning.specs.Value.{Comparison, less, atMost, equal, atLeast, greater, different}
+use Rattle.meaning.specs.Arithmetic.{add, subtract, multiply, divide, remainder, compare, and, or}
+use Rattle.nodes.specs.Code.{comparisonCode}
+use Rattle.sheet.specs.Vocabulary.{Infix, pointwise, followedBy, operators, operatorOf, Prefix, firstPrefix, nextPrefix, notPrefix, prefixOf}
+use Rattle.scan.specs.declared.Span.{Span}
+use Rattle.scan.specs.Place.{TokenAt, noToken, aToken}
+use Rattle.scan.specs.Word.{codeOr255, infixCode, prefixCode}
+use Rattle.scan.proofs.Tokens.{between-none}
+use Rattle.scan.proofs.Words.{code-none, code-some}
+use Rattle.spans.specs.Token.{span, tokenFrom}
+use Rattle.spans.specs.Spans.{Spanned, spanned, closed, wordOf, branchesBy, afterPart, expressionBy, partTo, constraintFrom}
+use Rattle.spans.specs.Stored.{spanBound, putSpans, PlaceIn, Stores}
+use Rattle.spans.specs.declared.Reached.{Reached}
+use Rattle.spans.proofs.Token.{token-from, token-is, token-ordered}
+use Rattle.spans.proofs.Tables.{put-append}
+use Rattle.spans.proofs.Steps.{step-none, step-prefix, step-bracket, step-leaf, step-conditional, step-operation, step-alone, step-joined, step-branches}
+
+-- What a function reached stands no earlier than what it began with.
+pub reached-on : {S : ℕ → Spanned} {text : List ℕ} {at count : ℕ} {old new : List ℕ} {r : Reached} → Stores S text at count old new r → at ≤ length text → at ≤ r .next
+reached-on {text = text} {at = at} h l = let o = token-ordered l (token-from text at l) in omega (arith, h .past, o .forward, o .ordered)
+
+-- A token that is a word stands behind the place from which it was sought.
+pub word-after : {text : List ℕ} {at : ℕ} {t : Span} → TokenAt text at t → (wordOf text t ≡ [] → ⊥) → at < t .end
+word-after {text} {t = t} (noToken s e m) n = absurd (n (ap (λ k. wordOf text (span k (t .end))) (s ∙ sym e) ∙ between-none text (t .end)))
+word-after (aToken f s w all) n = omega arith
+
+if-some : {w : Token} → sameBytes (bytesOf "if") w ≡ true → w ≡ [] → ⊥
+if-some {w} h e = true≢false (sym h ∙ ap (sameBytes (bytesOf "if")) e)
+
+operator-some : {w : Token} {o : Infix} → operatorOf w ≡ some o → w ≡ [] → ⊥
+unfolding operatorOf operators
+operator-some {w} {o} h e = Option·none-ne-some o (sym (ap operatorOf e) ∙ h)
+
+module _ {text : List ℕ} {at count : ℕ} (place : PlaceIn text at count) {t : Span} (token : TokenAt text at t) where
+  is : tokenFrom text at ≡ t
+  is = token-is text (place .inside) token
+
+  past-end : (n : ℕ) → t .end ≤ n → tokenFrom text at .end ≤ n
+  past-end n h = subst (λ (u : Span). u .end ≤ n) (sym is) h
+
+  -- Where there is a token, the bound for what stands behind it is one less.
+  bounds : (S : ℕ → Spanned) (r : Spanned) → ((n : ℕ) → length text < suc (at + n) → S (suc n) ≡ r) → (d : ℕ) → length text < at + d → S d ≡ r
+  bounds S r f zero l = absurd (omega (arith, place .inside))
+  bounds S r f (suc n) l = f n (omega arith)
+
+  -- ---- parts
+
+  pub part-none : (old : List ℕ) → t .start ≡ t .end → Stores (λ d. partTo text d at) text at count old old (record { next = t .end; count = count })
+  part-none old h =
+      let o = token-ordered (place .inside) token in
+      record {
+        spans = [];
+        gives = bounds (λ d. partTo text d at) (spanned [] (t .end)) (λ n l. step-none text at is n h);
+        counted = omega arith;
+        table = λ l. refl;
+        past = past-end (t .end) (omega arith);
+        within = o .within;
+        few = omega (arith, o .forward, o .ordered);
+      }
+
+  module _ (stands : t .start ≡ t .end → ⊥) where
+    pub part-prefix : {f : Prefix} {old mid new : List ℕ} {r : Reached} → prefixOf (wordOf text t) ≡ some f → Stores (λ d. partTo text d (t .end)) text (t .end) count old mid r → (r .count < spanBound → new ≡ putSpans mid (r .count) (span (t .start) (r .next) ∷ []))
+        → Stores (λ d. partTo text d at) text at count old new (record { next = r .next; count = r .count + 1 })
+    part-prefix {old = old} {r = r} e h q =
+        let o = token-ordered (place .inside) token in
+        let k : t .end ≤ r .next = reached-on h (o .within) in
+        record {
+          spans = h .spans ++ (span (t .start) (r .next) ∷ []);
+          gives = bounds (λ d. partTo text d at) (closed (h .spans) (t .start) (r .next)) (λ n l. step-prefix text at is n stands e ∙ ap (λ a. closed (a .spans) (t .start) (a .next)) (h .gives n (omega (arith, o .forward, o .ordered))));
+          counted = omega (arith, h .counted, length-append (h .spans) (span (t .start) (r .next) ∷ []));
+          table = λ l. let z = length-append (h .spans) (span (t .start) (r .next) ∷ []) in put-append old count (h .spans) (span (t .start) (r .next) ∷ []) (h .table (omega arith)) (h .counted) (q (omega (arith, h .counted)));
+          past = past-end (r .next) k;
+          within = h .within;
+          few = omega (arith, h .few, o .forward, o .ordered);
+        }
+
+    module _ (e : prefixOf (wordOf text t) ≡ none) where
+      pub part-bracket : {u : Span} {old new : List ℕ} {r : Reached} → sameBytes (bytesOf "(") (wordOf text t) ≡ true → Stores (λ d. expressionBy text (partTo text d) (t .end)) text (t .end) count old new r → TokenAt text (r .next) u
+          → Stores (λ d. partTo text d at) text at count old new (record { next = u .end; count = r .count })
+      part-bracket {u} {r = r} b h close =
+          let o = token-ordered (place .inside) token in
+          let v = token-ordered (h .within) close in
+          let k : t .end ≤ r .next = reached-on h (o .within) in
+          record {
+            spans = h .spans;
+            gives = bounds (λ d. partTo text d at) (spanned (h .spans) (u .end)) (λ n l. step-bracket text at is n stands e b
+                ∙ ap (λ a. spanned (a .spans) (tokenFrom text (a .next) .end)) (h .gives n (omega (arith, o .forward, o .ordered)))
+                ∙ ap (λ c. spanned (h .spans) (c .end)) (token-is text (h .within) close));
+            counted = h .counted;
+            table = h .table;
+            past = past-end (u .end) (omega (arith, v .forward, v .ordered));
+            within = v .within;
+            few = omega (arith, h .few, o .forward, o .ordered, v .forward, v .ordered);
+          }
+
+      pub part-leaf : {old new : List ℕ} → sameBytes (bytesOf "(") (wordOf text t) ≡ false → (count < spanBound → new ≡ putSpans old count (span (t .start) (t .end) ∷ [])) → Stores (λ d. partTo text d at) text at count old new (record { next = t .end; count = count + 1 })
+      part-leaf b q =
+          let o = token-ordered (place .inside) token in
+          record {
+            spans = span (t .start) (t .end) ∷ [];
+            gives = bounds (λ d. partTo text d at) (closed [] (t .start) (t .end)) (λ n l. step-leaf text at is n stands e b);
+            counted = omega arith;
+            table = λ l. q (omega arith);
+            past = past-end (t .end) (omega arith);
+            within = o .within;
+            few = omega (arith, o .forward, o .ordered, stands);
+          }
+
+  -- ---- expressions
+
+  pub expression-conditional : {old mid new : List ℕ} {r : Reached} → sameBytes (bytesOf "if") (wordOf text t) ≡ true → Stores (λ d. branchesBy text (partTo text d) (t .end)) text (t .end) count old mid r → (r .count < spanBound → new ≡ putSpans mid (r .count) (span (t .start) (r .next) ∷ []))
+      → Stores (λ d. expressionBy text (partTo text d) at) text at count old new (record { next = r .next; count = r .count + 1 })
+  expression-conditional {old} {r = r} e h q =
+      let o = token-ordered (place .inside) token in
+      let k : t .end ≤ r .next = reached-on h (o .within) in
+      let further : at < t .end = word-after token (if-some e) in
+      record {
+        spans = h .spans ++ (span (t .start) (r .next) ∷ []);
+        gives = λ d l. step-conditional text at is (partTo text d) e ∙ ap (λ a. closed (a .spans) (t .start) (a .next)) (h .gives d (omega arith));
+        counted = omega (arith, h .counted, length-append (h .spans) (span (t .start) (r .next) ∷ []));
+        table = λ l. let z = length-append (h .spans) (span (t .start) (r .next) ∷ []) in put-append old count (h .spans) (span (t .start) (r .next) ∷ []) (h .table (omega arith)) (h .counted) (q (omega (arith, h .counted)));
+        past = past-end (r .next) k;
+        within = h .within;
+        few = omega (arith, h .few);
+      }
+
+  module _ (e : sameBytes (bytesOf "if") (wordOf text t) ≡ false) {old mid : List ℕ} {r : Reached} (h : Stores (λ d. partTo text d at) text at count old mid r) {u : Span} (sign : TokenAt text (r .next) u) where
+    left-given : (d : ℕ) → length text < at + d → expressionBy text (partTo text d) at ≡ afterPart text (partTo text d) (t .start) (spanned (h .spans) (r .next))
+    left-given d l = step-operation text at is (partTo text d) e ∙ ap (afterPart text (partTo text d) (t .start)) (h .gives d l)
+
+    pub expression-alone : operatorOf (wordOf text u) ≡ none → Stores (λ d. expressionBy text (partTo text d) at) text at count old mid r
+    expression-alone n =
+        record {
+          spans = h .spans;
+          gives = λ d l. left-given d l ∙ step-alone text (partTo text d) (t .start) (spanned (h .spans) (r .next)) (token-is text (h .within) sign) n;
+          counted = h .counted;
+          table = h .table;
+          past = h .past;
+          within = h .within;
+          few = h .few;
+        }
+
+    pub expression-operation : {f : Infix} {late new : List ℕ} {b : Reached} → operatorOf (wordOf text u) ≡ some f → Stores (λ d. partTo text d (u .end)) text (u .end) (r .count) mid late b → (b .count < spanBound → new ≡ putSpans late (b .count) (span (t .start) (b .next) ∷ []))
+        → Stores (λ d. expressionBy text (partTo text d) at) text at count old new (record { next = b .next; count = b .count + 1 })
+    expression-operation {b = b} f k q =
+        let v = token-ordered (h .within) sign in
+        let further : r .next < u .end = word-after sign (operator-some f) in
+        let on : u .end ≤ b .next = reached-on k (v .within) in
+        let from : at ≤ r .next = reached-on h (place .inside) in
+        let all = length-append (h .spans) (k .spans) in
+        let own = span (t .start) (b .next) ∷ [] in
+        record {
+          spans = (h .spans ++ k .spans) ++ own;
+          gives = λ d l. left-given d l
+              ∙ step-joined text (partTo text d) (t .start) (spanned (h .spans) (r .next)) (token-is text (h .within) sign) f
+              ∙ ap (λ a. closed (h .spans ++ a .spans) (t .start) (a .next)) (k .gives d (omega arith));
+          counted = omega (arith, h .counted, k .counted, all, length-append (h .spans ++ k .spans) own);
+          table = λ l. let z = length-append (h .spans ++ k .spans) own in put-append old count (h .spans ++ k .spans) own (put-append old count (h .spans) (k .spans) (h .table (omega arith)) (h .counted) (k .table (omega (arith, h .counted)))) (omega (arith, h .counted, k .counted, all)) (q (omega (arith, h .counted, k .counted)));
+          past = omega (arith, h .past);
+          within = k .within;
+          few = omega (arith, h .few, k .few);
+        }
+
+-- What is behind the word after a phrase stands at a place of the text, with room for its spans.
+pub behind-word : {S : ℕ → Spanned} {text : List ℕ} {at count : ℕ} {old mid : List ℕ} {a : Reached} {u : Span} → PlaceIn text at count → Stores S text at count old mid a → TokenAt text (a .next) u → PlaceIn text (u .end) (a .count)
+behind-word place h sign =
+    let v = token-ordered (h .within) sign in
+    record { short = place .short; inside = v .within; few = omega (arith, place .few, h .few, v .forward, v .ordered) }
+
+pub place-behind : {text : List ℕ} {at count : ℕ} {t : Span} → PlaceIn text at count → TokenAt text at t → PlaceIn text (t .end) count
+place-behind p token = let o = token-ordered (p .inside) token in record { short = p .short; inside = o .within; few = omega (arith, p .few, o .forward, o .ordered) }
+
+-- ---- the parts after `if`, and the sides of a constraint
+
+module _ {text : List ℕ} {at count : ℕ} (place : PlaceIn text at count) {S T : ℕ → Spanned} {old mid new : List ℕ} {a b : Reached} {u : Span}
+    (h : Stores S text at count old mid a) (sign : TokenAt text (a .next) u) (k : Stores T text (u .end) (a .count) mid new b) where
+  -- Two phrases with a word between them.
+  pub both : (R : ℕ → Spanned) → ((d : ℕ) → length text < at + d → R d ≡ spanned (h .spans ++ k .spans) (b .next)) → Stores R text at count old new b
+  both R gives =
+      let v = token-ordered (h .within) sign in
+      let on : u .end ≤ b .next = reached-on k (v .within) in
+      record {
+        spans = h .spans ++ k .spans;
+        gives = gives;
+        counted = omega (arith, h .counted, k .counted, length-append (h .spans) (k .spans));
+        table = λ l. let z = length-append (h .spans) (k .spans) in put-append old count (h .spans) (k .spans) (h .table (omega arith)) (h .counted) (k .table (omega (arith, h .counted)));
+        past = omega (arith, h .past, v .forward, v .ordered);
+        within = k .within;
+        few = omega (arith, h .few, k .few, v .forward, v .ordered);
+      }
+
+-- The parts after `if`.
+pub branches-found : {text : List ℕ} {at count : ℕ} {old mid late new : List ℕ} {x y z : Reached} {u v : Span} → PlaceIn text at count → Stores (λ d. partTo text d at) text at count old mid x → TokenAt text (x .next) u
+    → Stores (λ d. partTo text d (u .end)) text (u .end) (x .count) mid late y → TokenAt text (y .next) v → Stores (λ d. partTo text d (v .end)) text (v .end) (y .count) late new z
+    → Stores (λ d. branchesBy text (partTo text d) at) text at count old new z
+unfolding both
+branches-found {text} {at} {z = z} {u} {v} place c then a other b =
+    let o = token-ordered (c .within) then in
+    let i = token-ordered (a .within) other in
+    let after : at ≤ u .end = let k = reached-on c (place .inside) in omega (arith, o .forward, o .ordered) in
+    let later : u .end ≤ v .end = let k = reached-on a (o .within) in omega (arith, i .forward, i .ordered) in
+    both place c then (both (behind-word place c then) a other b (λ d. spanned (a .spans ++ b .spans) (z .next)) (λ d l. refl)) (λ d. branchesBy text (partTo text d) at)
+    (λ d l. step-branches text (partTo text d) at (c .gives d l)
+    (ap (λ (t : Span). partTo text d (t .end)) (token-is text (c .within) then) ∙ a .gives d (omega arith))
+    (ap (λ (t : Span). partTo text d (t .end)) (token-is text (a .within) other) ∙ b .gives d (omega arith)))
+
+-- The two sides of a constraint.
+pub constraint-found : {text : List ℕ} {at count : ℕ} {old mid new : List ℕ} {x y : Reached} {u : Span} → PlaceIn text at count → Stores (λ d. expressionBy text (partTo text d) at) text at count old mid x → TokenAt text (x .next) u
+    → Stores (λ d. expressionBy text (partTo text d) (u .end)) text (u .end) (x .count) mid new y → Stores (λ d. constraintFrom text at) text at count old new y
+constraint-found {text} {at} {x = x} {u = u} place a sign b =
+    let whole = suc (length text) in
+    both place a sign b (λ d. constraintFrom text at)
+    (λ d l. ap (λ e. let f = expressionBy text (partTo text whole) (tokenFrom text (e .next) .end) in spanned (e .spans ++ f .spans) (f .next)) (a .gives whole (omega arith))
+    ∙ ap (λ (t : Span). let f = expressionBy text (partTo text whole) (t .end) in spanned (a .spans ++ f .spans) (f .next)) (token-is text (a .within) sign)
+    ∙ ap (λ f. spanned (a .spans ++ f .spans) (f .next)) (b .gives whole (omega arith)))
+
+-- ---- what the number of a word says of it
+
+prefix-small : (p : Prefix) → prefixCode p < 255
+prefix-small firstPrefix = omega arith
+prefix-small nextPrefix = omega arith
+prefix-small notPrefix = omega arith
+
+comparison-small : (c : Comparison) → comparisonCode c < 6
+comparison-small less = omega arith
+comparison-small atMost = omega arith
+comparison-small equal = omega arith
+comparison-small atLeast = omega arith
+comparison-small greater = omega arith
+comparison-small different = omega arith
+
+infix-small : (o : Infix) → infixCode o < 255
+infix-small (pointwise add) = omega arith
+infix-small (pointwise subtract) = omega arith
+infix-small (pointwise multiply) = omega arith
+infix-small (pointwise divide) = omega arith
+infix-small (pointwise remainder) = omega arith
+infix-small (pointwise (compare c)) = let z = comparison-small c in omega arith
+infix-small (pointwise and) = omega arith
+infix-small (pointwise or) = omega arith
+infix-small followedBy = omega arith
+
+pub no-prefix : (w : Token) {k : ℕ} → k ≡ codeOr255 prefixCode (prefixOf w) → k ≡ 255 → prefixOf w ≡ none
+no-prefix w e h = code-none prefixCode prefix-small (prefixOf w) (sym e ∙ h)
+
+pub a-prefix : (w : Token) {k : ℕ} → k ≡ codeOr255 prefixCode (prefixOf w) → (k ≡ 255 → ⊥) → (p : Prefix) × (prefixOf w ≡ some p)
+a-prefix w e n = let (p, is, code) = code-some prefixCode (prefixOf w) (λ h. n (e ∙ h)) in (p, is)
+
+pub no-operator : (w : Token) {k : ℕ} → k ≡ codeOr255 infixCode (operatorOf w) → k ≡ 255 → operatorOf w ≡ none
+no-operator w e h = code-none infixCode infix-small (operatorOf w) (sym e ∙ h)
+
+pub an-operator : (w : Token) {k : ℕ} → k ≡ codeOr255 infixCode (operatorOf w) → (k ≡ 255 → ⊥) → (o : Infix) × (operatorOf w ≡ some o)
+an-operator w e n = let (o, is, code) = code-some infixCode (operatorOf w) (λ h. n (e ∙ h)) in (o, is)

@@ -1,0 +1,5 @@
+pub mod Token
+pub mod Postfix
+pub mod Spans
+pub mod Stored
+pub mod Reading
