@@ -1,12 +1,16 @@
 /* normal_form.h: the normal form of a rule sheet from a C program.
  *
- * Link with the archive that `rt staticlib normal_c` writes, target/staticlib/libnormal_c.a. It is for x86-64 Linux,
- * allocates nothing, keeps no state of its own, and always returns.
+ * Link with the archive that `rt staticlib normal_c` writes, target/staticlib/libnormal_c.a. It is for x86-64 Linux and
+ * needs `memcpy` and `memset` of the C library, no mathematics library and no threads. It allocates nothing, keeps no
+ * state of its own, and always returns. A call takes at most NORMAL_FORM_STACK bytes of the caller's stack, whatever the
+ * sheet and the list are; on less the caller crashes.
  *
- * The sheet's bytes and the list are each a pointer, which is not null, and the number of elements there. With refusal 0
- * the first `entries` records of the list hold the normal form, `added` streams are added to the sheet's, and the records
- * behind them are zero. With a refusal 1 to 7, or 10 where the list is shorter than the entries, the other numbers are 0
- * and the whole list is zero, byte for byte: a record has no bytes between its fields.
+ * The sheet's bytes and the list are each a pointer, which is not null, and the number of elements there; the two do not
+ * overlap.
+ *
+ * With refusal 0 the first `entries` records of the list hold the normal form, `added` streams are added to the sheet's,
+ * and the records behind them are zero. With a refusal 1 to 7, or 10 where the list is shorter than the entries, the other
+ * numbers are 0 and the whole list is zero, byte for byte: a record has no bytes between its fields.
  *
  * A record's fields, by its kind. Streams are numbered from 0, the sheet's own first, in the order of line 1. A span is a
  * pair of places in the sheet's bytes, from 0: an expression's text from `begin` to before `end`, without brackets around it.
@@ -30,6 +34,13 @@
 #include <stddef.h>
 #include <stdint.h>
 
+#ifdef __cplusplus
+extern "C" {
+#endif
+
+/* the most bytes of stack that a call takes */
+enum { NORMAL_FORM_STACK = 524288 };
+
 struct normal_form_entry {
     uint16_t kind, relation, stream_kind, replaces;
     uint16_t left, left_added, left_begin, left_end;
@@ -44,5 +55,9 @@ struct normal_form_answer {
 };
 
 struct normal_form_answer normal_form_c(const uint8_t *text, size_t length, struct normal_form_entry *list, size_t count);
+
+#ifdef __cplusplus
+}
+#endif
 
 #endif

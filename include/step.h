@@ -1,7 +1,8 @@
 /* step.h: follow a table of states, letter by letter, from a C program.
  *
  * Link with the archive that `rt staticlib step` writes, target/staticlib/libstep.a. It is for x86-64 Linux, needs no
- * other library, allocates nothing, keeps no state of its own, and always returns.
+ * other library, allocates nothing, keeps no state of its own, and always returns. A call takes at most STEP_STACK bytes
+ * of the caller's stack.
  *
  *
  * The table
@@ -58,6 +59,9 @@ extern "C" {
 
 /* the most rows that a table may have */
 #define STEP_MOST_ROWS UINT32_C(4096)
+
+/* the most bytes of stack that a call takes */
+#define STEP_STACK UINT32_C(256)
 
 /* the count of steps stays at this number */
 #define STEP_MOST_STEPS UINT32_C(4294967295)

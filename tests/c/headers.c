@@ -1,7 +1,13 @@
-/* The structs of the headers are laid out as in the archives. */
+/* The structs of the headers are laid out as in the archives. Compiled as C99, as C11 and as C++. */
 #include "compile.h"
 #include "normal_form.h"
 #include "step.h"
+
+#if defined(__cplusplus)
+#define _Static_assert static_assert
+#elif __STDC_VERSION__ < 201112L && !defined(_Static_assert)
+#define _Static_assert(condition, why) extern char laid_out[(condition) ? 1 : -1]
+#endif
 
 _Static_assert(sizeof(struct compile_answer) == 12, "three numbers of four bytes");
 _Static_assert(sizeof(struct normal_form_answer) == 12, "three numbers of four bytes");

@@ -12,7 +12,7 @@ use mir.Val.{SFits}
 use mir.ValLaws.{toZ-ofZ}
 use Rattle.meaning.specs.Arithmetic.{cutTowardZero}
 use Rattle.nodes.specs.Evaluate.{Nodes, Kind, operatorNode, kindOf, leftEnd}
-use Rattle.nodes.specs.Bounds.{rangeWithin, streamRange, noSummary, leafSummary, firstSummary, nextSummary, negationSummary, operatorSummary, conditionalSummary, fbySummary, summaryByKind, summaryBefore, nodeSummary}
+use Rattle.nodes.specs.Bounds.{rangeWithin, streamRange, noSummary, leafSummary, operatorSummary, conditionalSummary, fbySummary, summaryByKind, summaryBefore, nodeSummary}
 use Rattle.nodes.specs.declared.Range.{Range}
 use Rattle.nodes.specs.declared.Summary.{Summary}
 use Rattle.nodes.proofs.Parts.{kindOf-operator}
@@ -42,16 +42,6 @@ module _ (N : Nodes) (lows highs : List ℤ) where
 
       pub name-arm : getD (N .kinds) (e - 1) 0 ≡ 1 → r ≡ streamRange lows highs (held (getD (N .values) (e - 1) (pos 0))) → leafSummary r ≡ before e
       name-arm q t = by-number 1 q (ap leafSummary (t ∙ ap (streamRange lows highs) (toZ-ofZ w64 _ f)))
-
-    module _ {a : Summary} (r : a ≡ before (e - 1)) where
-      pub first-arm : getD (N .kinds) (e - 1) 0 ≡ 2 → firstSummary a ≡ before e
-      first-arm q = by-number 2 q (ap firstSummary r)
-
-      pub next-arm : getD (N .kinds) (e - 1) 0 ≡ 3 → nextSummary a ≡ before e
-      next-arm q = by-number 3 q (ap nextSummary r)
-
-      pub negation-arm : getD (N .kinds) (e - 1) 0 ≡ 4 → negationSummary a ≡ before e
-      negation-arm q = by-number 4 q (ap negationSummary r)
 
     pub conditional-arm : getD (N .kinds) (e - 1) 0 ≡ 5 → {m l : ℕ} → m ≡ leftEnd (N .starts) (e - 1) → l ≡ leftEnd (N .starts) m
         → {c a b : Summary} → c ≡ before l → a ≡ before m → b ≡ before (e - 1) → conditionalSummary c a b ≡ before e

@@ -9,10 +9,12 @@ ghost use mathlib.Core.Path.{_≡_};
 ghost use mathlib.Core.Bool.{true};
 ghost use Prim.Native.Nat.{suc, _+_, _-_, _≤_, _<_, max};
 ghost use lib.IntN.{ℤ, pos, natAbs};
+ghost use lib.ListN.{length};
 ghost use Rattle.meaning.specs.Arithmetic.{least, greatest, hull, overEnds, around, magnitude, cutTowardZero, apply};
 ghost use Rattle.nodes.specs.Bounded.{inBound, operatorAt};
 ghost use Rattle.nodes.specs.Evaluate.{stored, Stores};
 ghost use Rattle.nodes.specs.Bounds.{noRange, rangeWithin, intervalOf, usable, joined, truthRange, operatorRange, branchRange, streamRange, limited, noSummary, leafSummary, firstSummary, nextSummary, negationSummary, operatorSummary, conditionalSummary, fbySummary, summaryBefore, nodeSummary};
+ghost use Rattle.bounds.specs.Prefix.{isPrefix, prefixSummary, Prefixes, Leads};
 ghost use Rattle.bounds.specs.Span.{span, spanValues};
 
 fn no_range() -> Range
@@ -352,6 +354,59 @@ fn no_summary() -> Summary
     leaf(no_range())
 }
 
+// Whether a node of this kind is that of a `first`, a `next` or a `not`.
+fn is_prefix(kind: u8) -> bool
+    ensures { λ r. ⌜ r ≡ isPrefix kind ⌝ }
+{
+    if kind < 2 {
+        return false;
+    }
+    kind < 5
+}
+
+// What a `first`, a `next` or a `not` makes of the summary of what it stands before.
+fn after_prefix(kind: u8, a: Summary) -> Summary
+    ensures { λ r. ⌜ r ≡ prefixSummary kind a ⌝ }
+{
+    if kind == 2 {
+        return after_first(a);
+    }
+    if kind == 3 {
+        return after_next(a);
+    }
+    after_not(a)
+}
+
+// Where the part ends that the `first`s, `next`s and `not`s whose nodes end before `end` stand before, one before the other.
+fn inner_end(kinds: &[u8], end: usize) -> usize
+    requires { ⌜ end ≤ length (now kinds) ⌝ }
+    ensures { λ r. ⌜ Prefixes (now (kinds .entry)) r end ⌝ }
+{
+    let mut at = end;
+    while at != 0 {
+        if !is_prefix(kinds[at - 1]) {
+            return at;
+        }
+        at -= 1;
+    }
+    at
+}
+
+// The summary of the part that ends before `end`, from that of the part that ends before `from`, where prefixes stand between: a loop, since a
+// line may have a thousand of them, and each call of the recursion takes room of the caller's stack.
+fn after_prefixes(kinds: &[u8], from: usize, end: usize, inner: Summary) -> Summary
+    requires { ⌜ (end ≤ length (now kinds)) × Prefixes (now kinds) from end ⌝ }
+    ensures { λ r. ⌜ Leads (now (kinds .entry)) from inner end r ⌝ }
+{
+    let mut summary = inner;
+    let mut at = from;
+    while at < end {
+        summary = after_prefix(kinds[at], summary);
+        at += 1;
+    }
+    summary
+}
+
 // The summary of the part that ends before `end`, by recursion into its parts, which end earlier.
 fn summary_before(
     kinds: &[u8],
@@ -369,12 +424,14 @@ fn summary_before(
     }
     let i = end - 1;
     let kind = kinds[i];
+    if is_prefix(kind) {
+        let from = inner_end(kinds, i);
+        let inner = summary_before(kinds, values, starts, lows, highs, from);
+        return after_prefixes(kinds, from, end, inner);
+    }
     match kind {
         0 => leaf(range_within(values[i], values[i])),
         1 => leaf(stream_range(lows, highs, values[i])),
-        2 => after_first(summary_before(kinds, values, starts, lows, highs, i)),
-        3 => after_next(summary_before(kinds, values, starts, lows, highs, i)),
-        4 => after_not(summary_before(kinds, values, starts, lows, highs, i)),
         5 => {
             let middle = left_end(starts, i);
             let left = left_end(starts, middle);

@@ -1,3 +1,4 @@
 pub mod Leaf
+pub mod Negation
 pub mod Ready
 pub mod Shift

@@ -16,6 +16,7 @@ ghost use Rattle.nodes.specs.Bounded.{bounded};
 ghost use Rattle.nodes.specs.Evaluate.{stored, view, places, numbered, streamAt, negated, valueBefore, nodeValue};
 ghost use Rattle.arithmetic.specs.Coded.{coded};
 ghost use Rattle.evaluate.specs.Leaf.{isLeaf, leafValue};
+ghost use Rattle.evaluate.specs.Negation.{negatedBy, Negates};
 ghost use Rattle.evaluate.specs.Ready.{Ready};
 ghost use Rattle.evaluate.specs.Shift.{Shifts};
 
@@ -70,6 +71,14 @@ fn negated(a: i64) -> i64
     } else {
         absent()
     }
+}
+
+// The same, negated a second time where `again` says so.
+fn negated_by(again: bool, a: i64) -> i64
+    ensures { λ r. ⌜ r ≡ coded (negatedBy again (bounded a)) ⌝ }
+{
+    let once = negated(a);
+    if again { negated(once) } else { once }
 }
 
 // Whether the part that ends before `end` has no parts of its own.
@@ -153,6 +162,36 @@ fn shifted(kinds: &[u8; 1024], count: usize, end: usize, place: usize) -> Part
     }
 }
 
+// Where the part ends that `not`s stand before, and whether a `not` before them negates it a second time.
+struct NegatedPart {
+    end: usize,
+    again: bool,
+}
+
+// The part that is reached over the `not`s that end before `end`, one before the other: a loop, since a line may have a thousand of them, and
+// each call of the recursion takes room of the caller's stack.
+fn negations(kinds: &[u8; 1024], end: usize) -> NegatedPart
+    requires { ⌜ end ≤ 1024 ⌝ }
+    ensures { λ r. ⌜ Negates (now (kinds .entry)) end (r .end) (r .again) ⌝ }
+{
+    let mut inner = end;
+    let mut again = false;
+    while inner != 0 {
+        if kinds[inner - 1] != 4 {
+            return NegatedPart {
+                end: inner,
+                again: again,
+            };
+        }
+        again = !again;
+        inner -= 1;
+    }
+    NegatedPart {
+        end: inner,
+        again: again,
+    }
+}
+
 // The value of the part that ends before `end`, by recursion into its parts, which end earlier. The part of a `first`, an operand, a condition
 // or a branch that is a leaf is read here, since a call takes longer than reading it.
 fn value_before(
@@ -204,6 +243,7 @@ fn value_before(
         // A `next` is left only where the window has no next letter, and a `fby` only at place 0.
         3 => absent(),
         4 => {
+            let inside = negations(kinds, i);
             let a = value_before(
                 kinds,
                 values,
@@ -213,10 +253,10 @@ fn value_before(
                 firsts,
                 whole,
                 count,
-                i,
+                inside.end,
                 at,
             );
-            negated(a)
+            negated_by(inside.again, a)
         }
         5 => {
             let middle = left_end(starts, i);

@@ -4,6 +4,7 @@ pub mod Filled
 pub mod Numbers
 pub mod Readers
 pub mod Parts
+pub mod Prefixes
 pub mod Expressions
 pub mod Leaves
 pub mod Constraints

@@ -1,4 +1,5 @@
 pub mod Stored
 pub mod Bounded
 pub mod Numbered
+pub mod Prefixes
 pub mod Reading

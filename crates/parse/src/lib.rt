@@ -14,6 +14,7 @@ ghost use Rattle.nodes.specs.Postfix.{node};
 ghost use Rattle.sheet.specs.Parser.{partTo, conditionalBy, expressionBy};
 ghost use Rattle.parse.specs.Stored.{arrays, store};
 ghost use Rattle.parse.specs.Numbered.{tokensFrom, Placed, TokenNumbered};
+ghost use Rattle.parse.specs.Prefixes.{firstsBefore, readUpTo, Passes, Leads};
 ghost use Rattle.parse.specs.Reading.{Room, Reading, LeafReading, firstsInside, prefixValue, unread, Fits, StartsOutcome, ConstraintOutcome};
 
 // What reading a part or an expression gives: whether there is one, the number of the token after it, the numbers of nodes and of `first`s
@@ -32,6 +33,12 @@ struct NumberedToken {
     start: usize,
     end: usize,
     next: usize,
+}
+
+// The number of the token that stands behind prefixes, and that of the first `first` behind them.
+struct Passed {
+    at: usize,
+    firsts: usize,
 }
 
 // What reading a constraint line gives: whether the arrays have room for it, whether it is a constraint, and then its relation, the places
@@ -188,6 +195,93 @@ fn token_at(text: &[u8], origin: usize, token_starts: &[usize], at: usize) -> Nu
     }
 }
 
+// The number of the first `first` from the node of this kind on, where `firsts` is that of the first `first` inside it.
+fn firsts_before(kind: u8, firsts: usize) -> usize
+    ensures { λ r. ⌜ r ≡ firstsBefore kind firsts ⌝ }
+{
+    if kind != 2 {
+        return firsts;
+    }
+    if firsts == 0 {
+        return 0;
+    }
+    firsts - 1
+}
+
+// Passes over `first`, `next` and `not` from the token with the number `at` on: a loop, since a line may have a thousand of them, and each call
+// of the readers takes room of the caller's stack.
+fn pass_prefixes(
+    text: &[u8],
+    origin: usize,
+    token_starts: &[usize],
+    at: usize,
+    firsts: usize,
+) -> Passed
+    requires { ⌜ Placed (now text) origin (now «token_starts») at ⌝ }
+    requires { ⌜ firsts + length (tokensFrom (now text) origin (now «token_starts») at) ≤ 2048 ⌝ }
+    ensures { λ r. ⌜ Passes (tokensFrom (now (text .entry)) origin (now («token_starts» .entry))) at firsts (r .at) (r .firsts) ⌝ }
+{
+    let mut number = at;
+    let mut inside = firsts;
+    loop {
+        let token = token_at(text, origin, token_starts, number);
+        let start = token.start;
+        let end = token.end;
+        let kind = scan::prefix_code(&text[start..end]);
+        if kind == 255 {
+            return Passed {
+                at: number,
+                firsts: inside,
+            };
+        }
+        inside = firsts_inside(kind, inside);
+        number = token.next;
+    }
+}
+
+// Stores the nodes of the prefixes from the token with the number `at` on, the innermost first, behind what was read of the part that they stand
+// before.
+fn put_prefixes(
+    text: &[u8],
+    origin: usize,
+    token_starts: &[usize],
+    at: usize,
+    kinds: &mut [u8; 1024],
+    values: &mut [i64; 1024],
+    starts: &mut [u16; 1024],
+    nodes: usize,
+    firsts: usize,
+    passed: Passed,
+    inner: Read,
+) -> Read
+    requires { ⌜ Placed (now text) origin (now «token_starts») at ⌝ }
+    requires { ⌜ Passes (tokensFrom (now text) origin (now «token_starts»)) at firsts (passed .at) (passed .firsts) ⌝ }
+    requires { ⌜ (nodes ≤ inner .nodes) × (inner .nodes + passed .at ≤ 1024 + at) × (firsts + length (tokensFrom (now text) origin (now «token_starts») at) ≤ 2048) ⌝ }
+    ensures { λ r. ⌜ Leads (tokensFrom (now (text .entry)) origin (now («token_starts» .entry))) nodes (passed .at) (passed .firsts) (arrays (now (kinds .entry)) (now (values .entry)) (now (starts .entry))) inner at firsts (arrays (now (kinds .exit)) (now (values .exit)) (now (starts .exit))) r ⌝ }
+{
+    let mut number = passed.at;
+    let mut inside = passed.firsts;
+    let mut last = inner.nodes;
+    while at < number {
+        number -= 1;
+        let token = token_at(text, origin, token_starts, number);
+        let start = token.start;
+        let end = token.end;
+        let kind = scan::prefix_code(&text[start..end]);
+        inside = firsts_before(kind, inside);
+        let value = prefix_value(kind, inside);
+        put(kinds, values, starts, last, kind, value, nodes);
+        last += 1;
+    }
+    Read {
+        ok: true,
+        next: inner.next,
+        nodes: last,
+        firsts: inner.firsts,
+        beyond: inner.beyond,
+    }
+}
+
 // The part that begins with the token with the number `at`. The readers of parts and of expressions call each other, and what they call has
 // fewer tokens left to read, or as many where an expression begins with a part. The text between two brackets is passed on as a part of the
 // bytes and read as an expression by itself; its tokens keep their numbers.
@@ -217,31 +311,35 @@ fn part(
     let kind = scan::prefix_code(word);
     if kind != 255 {
         let inside = firsts_inside(kind, firsts);
+        let passed = pass_prefixes(text, origin, token_starts, token.next, inside);
         let inner = part(
             names,
             text,
             origin,
             token_starts,
-            token.next,
+            passed.at,
             kinds,
             values,
             starts,
             nodes,
-            inside,
+            passed.firsts,
         );
         if !inner.ok {
             return nothing();
         }
-        let last = inner.nodes;
-        let value = prefix_value(kind, firsts);
-        put(kinds, values, starts, last, kind, value, nodes);
-        return Read {
-            ok: true,
-            next: inner.next,
-            nodes: last + 1,
-            firsts: inner.firsts,
-            beyond: inner.beyond,
-        };
+        return put_prefixes(
+            text,
+            origin,
+            token_starts,
+            at,
+            kinds,
+            values,
+            starts,
+            nodes,
+            firsts,
+            passed,
+            inner,
+        );
     }
     if !scan::is_opening(word) {
         return leaf(

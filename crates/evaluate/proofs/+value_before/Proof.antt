@@ -21,9 +21,11 @@ use Rattle.arithmetic.proofs.in_bound.Reads as in-bound-reads
 use Rattle.arithmetic.proofs.truth.Reads as truth-reads
 use Rattle.arithmetic.proofs.Operators.{later}
 use Rattle.arithmetic.proofs.Coded.{held-result}
+use Rattle.evaluate.specs.Negation.{negatedBy}
 use Rattle.evaluate.proofs.is_leaf.Reads as is-leaf-reads
 use Rattle.evaluate.proofs.leaf.Reads as leaf-reads
-use Rattle.evaluate.proofs.negated.Reads as negated-reads
+use Rattle.evaluate.proofs.negated_by.Reads as negated-by-reads
+use Rattle.evaluate.proofs.negations.Reads as negations-reads
 use Rattle.evaluate.proofs.numbered.Reads as numbered-reads
 use Rattle.evaluate.proofs.shifted.Reads as shifted-reads
 use Rattle.evaluate.proofs.Decoding.{held-before, read-before, value-there, value-absent}
@@ -60,8 +62,10 @@ claims t = (
   numbered-reads.Learnt,
   absent-reads.Asked,
   absent-reads.Learnt,
-  negated-reads.Asked,
-  negated-reads.Learnt,
+  negations-reads.Asked,
+  negations-reads.Learnt,
+  negated-by-reads.Asked,
+  negated-by-reads.Learnt,
   left-end-reads.Asked,
   left-end-reads.Learnt,
   in-bound-reads.Asked,
@@ -184,18 +188,25 @@ numbered-requires t c κs = search needs
 absent-requires : Each lts.Need-absent-requires
 absent-requires t c κs = search needs
 
-value-before-requires-2 : Each lts.Need-value-before-requires-2
-value-before-requires-2 t c κs =
+negations-requires : Each lts.Need-negations-requires
+negations-requires t c κs =
     let s = c .before .before .before .before .before in
     let m = c .before .before .before .before .shifted .ensures in
-    let d = c .before .before .before .before .shifted .result .end in
-    let q = c .before .before .before .before .shifted .result .place in
-    let r = ready-part d q (s .pre .1) (m .moved .ends-within) (m .moved .place-within) in
-    let n = not-leaf (s .args .kinds .now) d (sym (c .before .before .before .is-leaf .ensures) ∙ c .before .before .if1 .left) in
-    (omega (arith, s .pre .0, n .0, m .moved .ends-within), ready-part (d - 1) (q) r (omega arith) (r .place-within))
+    omega (arith, s .pre .1 .end-within, m .moved .ends-within)
 
-negated-requires : Each lts.Need-negated-requires
-negated-requires t c κs = search needs
+value-before-requires-2 : Each lts.Need-value-before-requires-2
+value-before-requires-2 t c κs =
+    let s = c .before .before .before .before .before .before in
+    let m = c .before .before .before .before .before .shifted .ensures in
+    let d = c .before .before .before .before .before .shifted .result .end in
+    let q = c .before .before .before .before .before .shifted .result .place in
+    let r = ready-part d q (s .pre .1) (m .moved .ends-within) (m .moved .place-within) in
+    let n = not-leaf (s .args .kinds .now) d (sym (c .before .before .before .before .is-leaf .ensures) ∙ c .before .before .before .if1 .left) in
+    let l = c .negations .ensures .ends-within in
+    (omega (arith, s .pre .0, n .0, m .moved .ends-within), ready-part (c .negations .result .end) (q) r (omega arith) (r .place-within))
+
+negated-by-requires : Each lts.Need-negated-by-requires
+negated-by-requires t c κs = search needs
 
 left-end-requires : Each lts.Need-left-end-requires
 left-end-requires t c κs = search needs
@@ -401,13 +412,19 @@ returns-5 t c =
 
 returns-6 : Each lts.Need-returns-6
 returns-6 t c =
-    let s = c .before .before .before .before .before .before .before in
-    let m = c .before .before .before .before .before .before .shifted .ensures in
-    let d = c .before .before .before .before .before .before .shifted .result .end in
-    let q = c .before .before .before .before .before .before .shifted .result .place in
-    let n = not-leaf (s .args .kinds .now) d (sym (c .before .before .before .before .before .is-leaf .ensures) ∙ c .before .before .before .before .if1 .left) in
-    held-result (record { sfits = c .negated .ok })
-    (c .negated .ensures ∙ ap coded (negation-arm (nodes t s) (seen t s) q d (n .0) (c .before .before .match .keys3) (held-before (nodes t s) (seen t s) (d - 1) q (record { sfits = c .before .value-before2 .ok }) (c .before .value-before2 .ensures)) ∙ m .moved .same-value (nodes t s) (seen t s) refl (s .pre .1 .count-places)))
+    let s = c .before .before .before .before .before .before .before .before in
+    let m = c .before .before .before .before .before .before .before .shifted .ensures in
+    let d = c .before .before .before .before .before .before .before .shifted .result .end in
+    let q = c .before .before .before .before .before .before .before .shifted .result .place in
+    let n = not-leaf (s .args .kinds .now) d (sym (c .before .before .before .before .before .before .is-leaf .ensures) ∙ c .before .before .before .before .before .if1 .left) in
+    let negations = c .before .before .negations in
+    held-result (record { sfits = c .negated-by .ok })
+    (c .negated-by .ensures
+    ∙ ap coded
+    (ap (negatedBy (negations .result .again)) (held-before (nodes t s) (seen t s) (negations .result .end) q (record { sfits = c .before .value-before2 .ok }) (c .before .value-before2 .ensures))
+    ∙ negations .ensures .same-value (nodes t s) (seen t s) q refl
+    ∙ negation-arm (nodes t s) (seen t s) q d (n .0) (c .before .before .before .match .keys3) refl
+    ∙ m .moved .same-value (nodes t s) (seen t s) refl (s .pre .1 .count-places)))
 
 returns-7 : Each lts.Need-returns-7
 returns-7 t c =
@@ -515,8 +532,9 @@ pub +value-before-spec : {M : Type 1} → statement M
     (element-copy-out-numbered t)
     (numbered-requires t)
     (absent-requires t)
+    (negations-requires t)
     (value-before-requires-2 t)
-    (negated-requires t)
+    (negated-by-requires t)
     (left-end-requires t)
     (left-end-requires-2 t)
     (is-leaf-requires-3 t)

@@ -6,16 +6,15 @@ use mathlib.Core.Bool.{_||_}
 use mathlib.Core.List.{cons≢nil}
 use native.Mathlib.Omega.{arith}
 use lib.ListN.{length}
-use mir.Syntax.{w64}
-use mir.ValLaws.{toZ-ofZ}
 use borrow.Author.Needs.{needs}
 use borrow.Author.Tests.{not-true, not-false}
 use Rattle.text.specs.Bytes.{bytesOf, tokens}
 use Rattle.parse.specs.Numbered.{tokensFrom}
-use Rattle.parse.proofs.Numbers.{token-within, token-empty, token-tokens, token-number}
+use Rattle.parse.proofs.Numbers.{token-within, token-empty, token-tokens, token-number, placed-later}
 use Rattle.parse.proofs.Store.{below-refl, below-trans}
 use Rattle.parse.proofs.Readers.{part-empty, word-is, word-number, operator-at}
-use Rattle.parse.proofs.Parts.{reading-missing, reading-found, found-placed, number-placed, firsts-inside-most, no-prefix, a-prefix, prefix-found, prefix-missing, leaf-reading, open-missing, partner-forward, inside-placed, inside-length, bracket-missing, bracket-longer, closing-stored, bracket-found}
+use Rattle.parse.proofs.Parts.{reading-missing, reading-found, found-placed, number-placed, firsts-inside-most, no-prefix, leaf-reading, open-missing, partner-forward, inside-placed, inside-length, bracket-missing, bracket-longer, closing-stored, bracket-found}
+use Rattle.parse.proofs.Prefixes.{passes-later, passes-length, passes-room, passes-missing, passes-front}
 use Rattle.parse.proofs.Expressions.{if-reading, part-missing, part-alone, second-missing, second-found, condition-missing, then-missing, then-number, then-fewer, branch-missing, else-missing, else-number, else-fewer, last-missing, last-found}
 use borrow.Fn.Kinds.{In}
 use borrow.Fn.PlainCycle.{Measures, is, falls, and}
@@ -32,8 +31,9 @@ use Rattle.parse.proofs.either.Reads as either-reads
 use Rattle.parse.proofs.firsts_inside.Reads as firsts-inside-reads
 use Rattle.parse.proofs.leaf.Reads as leaf-reads
 use Rattle.parse.proofs.nothing.Reads as nothing-reads
-use Rattle.parse.proofs.prefix_value.Reads as prefix-value-reads
+use Rattle.parse.proofs.pass_prefixes.Reads as pass-prefixes-reads
 use Rattle.parse.proofs.put.Reads as put-reads
+use Rattle.parse.proofs.put_prefixes.Reads as put-prefixes-reads
 use Rattle.parse.proofs.token_at.Reads as token-at-reads
 use Rattle.scan.proofs.is_else.Reads as is-else-reads
 use Rattle.scan.proofs.is_if.Reads as is-if-reads
@@ -86,7 +86,7 @@ expression-claims t = (token-at-reads.Asked, token-at-reads.Learnt, is-if-reads.
 
 -- What the functions that `part` calls ask and give.
 abbrev part-claims : ℕ → part-lts.Claims
-part-claims t = (token-at-reads.Asked, token-at-reads.Learnt, nothing-reads.Asked, nothing-reads.Learnt, prefix-code-reads.Asked, prefix-code-reads.Learnt, firsts-inside-reads.Asked, firsts-inside-reads.Learnt, part-below t, part.Post, prefix-value-reads.Asked, prefix-value-reads.Learnt, put-reads.Asked, put-reads.Learnt, is-opening-reads.Asked, is-opening-reads.Learnt, leaf-reads.Asked, leaf-reads.Learnt, partner-reads.Asked, partner-reads.Learnt, expression-below t, expression.Post)
+part-claims t = (token-at-reads.Asked, token-at-reads.Learnt, nothing-reads.Asked, nothing-reads.Learnt, prefix-code-reads.Asked, prefix-code-reads.Learnt, firsts-inside-reads.Asked, firsts-inside-reads.Learnt, pass-prefixes-reads.Asked, pass-prefixes-reads.Learnt, part-below t, part.Post, put-prefixes-reads.Asked, put-prefixes-reads.Learnt, is-opening-reads.Asked, is-opening-reads.Learnt, leaf-reads.Asked, leaf-reads.Learnt, partner-reads.Asked, partner-reads.Learnt, expression-below t, expression.Post)
 
 conditional-part-requires : (t : ℕ) → conditional-lts.Need-part-requires (conditional-claims t) (conditional-at t) conditional.Post
 conditional-part-requires t c κs =
@@ -560,76 +560,75 @@ part-firsts-inside-requires t c κs =
     let at-if1 = c .before .before .before .if1 in
     let first = ap length (token-tokens (at-token-at .ensures) (at-if1 .left)) in omega (arith, at-start .pre .1 .1)
 
-part-part-requires : (t : ℕ) → part-lts.Need-part-requires (part-claims t) (part-at t) part.Post
-part-part-requires t c κs =
-    let at-start = c .before .before .before .before .before .before .before .before .before .before .before .before in
-    let at-token-at = c .before .before .before .before .before .before .before .before .token-at in
-    let at-if1 = c .before .before .before .before .before .before .before .if1 in
-    let at-prefix-code = c .before .before .before .before .before .prefix-code in
-    let at-firsts-inside = c .before .before .before .firsts-inside in
+part-pass-prefixes-requires : (t : ℕ) → part-lts.Need-pass-prefixes-requires (part-claims t) (part-at t) part.Post
+part-pass-prefixes-requires t c κs =
+    let at-start = c .before .before .before .before .before .before .before .before .before in
+    let at-token-at = c .before .before .before .before .before .token-at in
+    let at-if1 = c .before .before .before .before .if1 in
+    let at-prefix-code = c .before .before .prefix-code in
+    let at-firsts-inside = c .firsts-inside in
     let first = ap length (token-tokens (at-token-at .ensures) (at-if1 .left)) in
     let most = firsts-inside-most (at-prefix-code .result) (at-start .args .firsts) in
-    (omega (arith, at-start .pre .0), (number-placed (at-start .pre .1 .0) (token-number (at-token-at .ensures) (at-if1 .left)), record { nodes = omega (arith, at-start .pre .1 .1); firsts = omega (arith, at-start .pre .1 .1, at-firsts-inside .ensures) }))
+    (number-placed (at-start .pre .1 .0) (token-number (at-token-at .ensures) (at-if1 .left)), omega (arith, at-start .pre .1 .1, at-firsts-inside .ensures))
+
+part-part-requires : (t : ℕ) → part-lts.Need-part-requires (part-claims t) (part-at t) part.Post
+part-part-requires t c κs =
+    let at-start = c .before .before .before .before .before .before .before .before .before .before .before .before .before in
+    let at-token-at = c .before .before .before .before .before .before .before .before .before .token-at in
+    let at-if1 = c .before .before .before .before .before .before .before .before .if1 in
+    let at-prefix-code = c .before .before .before .before .before .before .prefix-code in
+    let at-firsts-inside = c .before .before .before .before .firsts-inside in
+    let at-pass-prefixes = c .before .before .before .pass-prefixes in
+    let first = ap length (token-tokens (at-token-at .ensures) (at-if1 .left)) in
+    let most = firsts-inside-most (at-prefix-code .result) (at-start .args .firsts) in
+    let later = passes-later (at-pass-prefixes .ensures) in
+    let left = passes-length (at-pass-prefixes .ensures) in
+    let room = passes-room (at-pass-prefixes .ensures) in
+    let placed = placed-later (number-placed (at-start .pre .1 .0) (token-number (at-token-at .ensures) (at-if1 .left))) later in
+    (omega (arith, at-start .pre .0), (placed, record { nodes = omega (arith, at-start .pre .1 .1); firsts = omega (arith, at-start .pre .1 .1, at-firsts-inside .ensures) }))
 
 part-nothing-requires-2 : (t : ℕ) → part-lts.Need-nothing-requires-2 (part-claims t) (part-at t) part.Post
 part-nothing-requires-2 t c κs = search needs
 
 part-returns-2 : (t : ℕ) → part-lts.Need-returns-2 (part-claims t) (part-at t) part.Post
 part-returns-2 t c =
-    let at-start = c .before .before .before .before .before .before .before .before .before .before .before .before .before .before .before .before in
-    let at-token-at = c .before .before .before .before .before .before .before .before .before .before .before .before .token-at in
-    let at-if1 = c .before .before .before .before .before .before .before .before .before .before .before .if1 in
-    let at-prefix-code = c .before .before .before .before .before .before .before .before .before .prefix-code in
-    let at-if2 = c .before .before .before .before .before .before .before .before .if2 in
+    let at-start = c .before .before .before .before .before .before .before .before .before .before .before .before .before .before .before .before .before in
+    let at-token-at = c .before .before .before .before .before .before .before .before .before .before .before .before .before .token-at in
+    let at-if1 = c .before .before .before .before .before .before .before .before .before .before .before .before .if1 in
+    let at-prefix-code = c .before .before .before .before .before .before .before .before .before .before .prefix-code in
+    let at-if2 = c .before .before .before .before .before .before .before .before .before .if2 in
+    let at-firsts-inside = c .before .before .before .before .before .before .before .before .firsts-inside in
+    let at-pass-prefixes = c .before .before .before .before .before .before .before .pass-prefixes in
     let at-part = c .before .before .before .part in
     let at-if3 = c .before .if3 in
     let at-nothing2 = c .nothing2 in
-    reading-missing (at-nothing2 .ensures) (prefix-missing (tokens (at-start .args .names .now)) (tokensFrom (at-start .args .text .now) (at-start .args .origin) (at-start .args .token-starts .now)) (token-number (at-token-at .ensures) (at-if1 .left)) (token-tokens (at-token-at .ensures) (at-if1 .left)) (a-prefix (at-prefix-code .ensures) (at-if2 .taken)) (at-part .ensures .missing (not-true (at-part .result .ok) (at-if3 .taken)))) (at-part .ensures .kept)
+    let passes = passes-front (token-number (at-token-at .ensures) (at-if1 .left)) (token-tokens (at-token-at .ensures) (at-if1 .left)) (at-prefix-code .ensures) (at-if2 .taken) (at-firsts-inside .ensures) (at-pass-prefixes .ensures) in
+    reading-missing (at-nothing2 .ensures) (passes-missing (tokens (at-start .args .names .now)) passes (at-part .ensures .missing (not-true (at-part .result .ok) (at-if3 .taken)))) (at-part .ensures .kept)
 
-part-prefix-value-requires : (t : ℕ) → part-lts.Need-prefix-value-requires (part-claims t) (part-at t) part.Post
-part-prefix-value-requires t c κs =
-    let at-start = c .before .before .before .before .before .before .before .before .before .before .before .before .before .before .before in
-    let at-token-at = c .before .before .before .before .before .before .before .before .before .before .before .token-at in
-    let at-if1 = c .before .before .before .before .before .before .before .before .before .before .if1 in
-    let first = ap length (token-tokens (at-token-at .ensures) (at-if1 .left)) in omega (arith, at-start .pre .1 .1)
-
-part-put-requires : (t : ℕ) → part-lts.Need-put-requires (part-claims t) (part-at t) part.Post
-part-put-requires t c κs =
+part-put-prefixes-requires : (t : ℕ) → part-lts.Need-put-prefixes-requires (part-claims t) (part-at t) part.Post
+part-put-prefixes-requires t c κs =
     let at-start = c .before .before .before .before .before .before .before .before .before .before .before .before .before .before .before .before .before .before .before in
     let at-token-at = c .before .before .before .before .before .before .before .before .before .before .before .before .before .before .before .token-at in
     let at-if1 = c .before .before .before .before .before .before .before .before .before .before .before .before .before .before .if1 in
-    let at-part = c .before .before .before .before .before .before .part in
-    let at-if3 = c .before .before .before .before .if3 in
-    let first = ap length (token-tokens (at-token-at .ensures) (at-if1 .left)) in
+    let at-prefix-code = c .before .before .before .before .before .before .before .before .before .before .before .before .prefix-code in
+    let at-if2 = c .before .before .before .before .before .before .before .before .before .before .before .if2 in
+    let at-firsts-inside = c .before .before .before .before .before .before .before .before .before .before .firsts-inside in
+    let at-pass-prefixes = c .before .before .before .before .before .before .before .before .before .pass-prefixes in
+    let at-part = c .before .before .before .before .before .part in
+    let at-if3 = c .before .before .before .if3 in
+    let passes = passes-front (token-number (at-token-at .ensures) (at-if1 .left)) (token-tokens (at-token-at .ensures) (at-if1 .left)) (at-prefix-code .ensures) (at-if2 .taken) (at-firsts-inside .ensures) (at-pass-prefixes .ensures) in
     let inner = at-part .ensures .found (not-false (at-part .result .ok) (at-if3 .left)) in
-    (omega (arith, at-start .pre .1 .1, inner .room), omega (arith, inner .stores .nodes))
-
-part-add-t38 : (t : ℕ) → part-lts.Need-add-t38 (part-claims t) (part-at t) part.Post
-part-add-t38 t c =
-    let at-start = c .before .before .before .before .before .before .before .before .before .before .before .before .before .before .before .before .before .before .before .before in
-    let at-token-at = c .before .before .before .before .before .before .before .before .before .before .before .before .before .before .before .before .token-at in
-    let at-if1 = c .before .before .before .before .before .before .before .before .before .before .before .before .before .before .before .if1 in
-    let at-part = c .before .before .before .before .before .before .before .part in
-    let at-if3 = c .before .before .before .before .before .if3 in
-    let first = ap length (token-tokens (at-token-at .ensures) (at-if1 .left)) in
-    let inner = at-part .ensures .found (not-false (at-part .result .ok) (at-if3 .left)) in
-    omega (arith, at-start .pre .1 .1, inner .room)
+    let left = passes-length passes in
+    (at-start .pre .1 .0, (passes, (omega (arith, inner .stores .nodes), omega (arith, at-start .pre .1 .1, inner .room), omega (arith, at-start .pre .1 .1))))
 
 part-returns-3 : (t : ℕ) → part-lts.Need-returns-3 (part-claims t) (part-at t) part.Post
 part-returns-3 t c =
     let at-start = c .before .before .before .before .before .before .before .before .before .before .before .before .before .before .before .before .before .before .before .before in
-    let at-token-at = c .before .before .before .before .before .before .before .before .before .before .before .before .before .before .before .before .token-at in
-    let at-if1 = c .before .before .before .before .before .before .before .before .before .before .before .before .before .before .before .if1 in
-    let at-prefix-code = c .before .before .before .before .before .before .before .before .before .before .before .before .before .prefix-code in
-    let at-if2 = c .before .before .before .before .before .before .before .before .before .before .before .before .if2 in
-    let at-firsts-inside = c .before .before .before .before .before .before .before .before .before .before .before .firsts-inside in
-    let at-part = c .before .before .before .before .before .before .before .part in
-    let at-if3 = c .before .before .before .before .before .if3 in
-    let at-prefix-value = c .before .before .before .before .prefix-value in
-    let at-put = c .put in
+    let at-part = c .before .before .before .before .before .before .part in
+    let at-if3 = c .before .before .before .before .if3 in
+    let at-put-prefixes = c .put-prefixes in
     let inner = at-part .ensures .found (not-false (at-part .result .ok) (at-if3 .left)) in
-    let value = toZ-ofZ w64 (at-prefix-value .result) (record { sfits = at-prefix-value .ok }) ∙ at-prefix-value .ensures in
-    reading-found refl (prefix-found (tokens (at-start .args .names .now)) _ (token-number (at-token-at .ensures) (at-if1 .left)) (token-tokens (at-token-at .ensures) (at-if1 .left)) (a-prefix (at-prefix-code .ensures) (at-if2 .taken)) (at-firsts-inside .ensures) value inner (at-put .ensures))
+    reading-found (at-put-prefixes .ensures .read) (at-put-prefixes .ensures .found (tokens (at-start .args .names .now)) _ inner)
 
 part-is-opening-requires : (t : ℕ) → part-lts.Need-is-opening-requires (part-claims t) (part-at t) part.Post
 part-is-opening-requires t c κs = search needs
@@ -776,8 +775,8 @@ part-returns-7 t c =
     let opening = sym (at-is-opening .ensures) ∙ not-false (at-is-opening .result) (at-if4 .left) in
     reading-missing (at-nothing5 .ensures) (bracket-longer (tokens (at-start .args .names .now)) (at-start .pre .1 .0) (at-token-at .ensures) (at-if1 .left) opening (at-partner .ensures) (at-if5 .left) (at-expression .ensures .found (not-false (at-expression .result .ok) (at-if6 .left))) (token-tokens (at-token-at2 .ensures) (at-if7 .taken))) (at-expression .ensures .kept)
 
-part-add-t28 : (t : ℕ) → part-lts.Need-add-t28 (part-claims t) (part-at t) part.Post
-part-add-t28 t c =
+part-add-t27 : (t : ℕ) → part-lts.Need-add-t27 (part-claims t) (part-at t) part.Post
+part-add-t27 t c =
     let at-start = c .before .before .before .before .before .before .before .before .before .before .before .before .before .before .before .before .before .before .before .before .before .before .before in
     let at-token-at = c .before .before .before .before .before .before .before .before .before .before .before .before .before .before .before .before .before .before .before .token-at in
     let at-if1 = c .before .before .before .before .before .before .before .before .before .before .before .before .before .before .before .before .before .before .if1 in
@@ -877,12 +876,11 @@ pub +conditional+expression+part-spec : {M : Type 1} → statement M
     (part-part-word-end t)
     (part-prefix-code-requires t)
     (part-firsts-inside-requires t)
+    (part-pass-prefixes-requires t)
     (part-part-requires t)
     (part-nothing-requires-2 t)
     (part-returns-2 t)
-    (part-prefix-value-requires t)
-    (part-put-requires t)
-    (part-add-t38 t)
+    (part-put-prefixes-requires t)
     (part-returns-3 t)
     (part-is-opening-requires t)
     (part-leaf-requires t)
@@ -901,5 +899,5 @@ pub +conditional+expression+part-spec : {M : Type 1} → statement M
     (part-token-at-requires-2 t)
     (part-nothing-requires-5 t)
     (part-returns-7 t)
-    (part-add-t28 t)
+    (part-add-t27 t)
     (part-returns-8 t))

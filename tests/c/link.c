@@ -1,0 +1,38 @@
+/* A program that calls the function of one archive and needs no other library. Compiled as C and as C++; CALL is 1 for the step, 2 for the compile
+ * and 3 for the normal form. */
+#include "compile.h"
+#include "normal_form.h"
+#include "step.h"
+
+static const uint8_t sheet[] = {'x', '\n', '0', '\n', '1', '\n', 'x', ' ', '=', '=', ' ', '1'};
+
+#if CALL == 1
+static int called(void)
+{
+    static const uint8_t table[] = {0, 0};
+    struct step_place place = {0, 0};
+    return step(sheet, 0, 0, 0, 0) == STEP_REFUSED_11 && advance(&place, table, sizeof table, 1, 0) == 0 && place.steps == 1;
+}
+#elif CALL == 2
+static int called(void)
+{
+    uint16_t entries[8];
+    uint8_t finals[4];
+    uint32_t keys[4 * COMPILE_KEY], live[4], class_names[4], next[4], heads[4], links[4], shared[4];
+    struct compile_answer answer =
+        compile_c(sheet, sizeof sheet, entries, 8, finals, 4, keys, 4 * COMPILE_KEY, live, 4, class_names, 4, next, 4, heads, 4, links, 4, shared, 4);
+    return answer.refusal == 0 && answer.states == 1 && entries[0] == 65535 && entries[1] == 0 && finals[0] == 1;
+}
+#else
+static int called(void)
+{
+    struct normal_form_entry list[1];
+    struct normal_form_answer answer = normal_form_c(sheet, sizeof sheet, list, 1);
+    return answer.refusal == 0 && answer.entries == 1 && answer.added == 0;
+}
+#endif
+
+int main(void)
+{
+    return called() ? 0 : 1;
+}
