@@ -1,1 +1,1 @@
-mod Failed
+pub mod Reading

@@ -24,31 +24,31 @@ use Rattle.print.proofs.Places.{getD-inside, nothing-beyond}
 use Rattle.print.proofs.Lengths.{heading-length, refusal-length, place-length}
 use Rattle.print.proofs.Table.{printed-whole}
 use Rattle.pages.specs.Lines.{lineRoom}
-use Rattle.pages.specs.Output.{Printout, tableLine, refusedLine, lineOf, lineCount, textOf}
+use Rattle.pages.specs.Output.{Printout, tableLine, refusedLine, outputAt, placeCount, outputText}
 
 -- ---- one line
 
 module _ (p : Printout) where
   module _ (refused : p .refusal ≡ 0 → ⊥) where
-    pub refused-line : (k : ℕ) → refusedLine (p .refusal) k ≡ lineOf p k
-    unfolding lineOf
+    pub refused-line : (k : ℕ) → refusedLine (p .refusal) k ≡ outputAt p k
+    unfolding outputAt
     refused-line k = sym (ap (λ t. cond t (tableLine p k) (refusedLine (p .refusal) k)) (ne-eqb (p .refusal) 0 refused))
 
-    pub refusal-first : {k : ℕ} → k ≡ 0 → refusalLine (p .refusal) ≡ lineOf p k
+    pub refusal-first : {k : ℕ} → k ≡ 0 → refusalLine (p .refusal) ≡ outputAt p k
     refusal-first {k} z = ap (refusedLine (p .refusal)) (sym z) ∙ refused-line k
 
-    pub nothing-after : {k : ℕ} → (k ≡ 0 → ⊥) → [] ≡ lineOf p k
+    pub nothing-after : {k : ℕ} → (k ≡ 0 → ⊥) → [] ≡ outputAt p k
     nothing-after {k} s = let e : suc (k - 1) ≡ k = omega arith in ap (refusedLine (p .refusal)) e ∙ refused-line k
 
   module _ (given : p .refusal ≡ 0) where
-    pub table-line : (k : ℕ) → tableLine p k ≡ lineOf p k
-    unfolding lineOf
+    pub table-line : (k : ℕ) → tableLine p k ≡ outputAt p k
+    unfolding outputAt
     table-line k = sym (ap (λ t. cond t (tableLine p k) (refusedLine (p .refusal) k)) (eq-eqb (p .refusal) 0 given))
 
-    pub heading-first : {k : ℕ} → k ≡ 0 → headingLine (storedNames (p .names) (p .lengths) (min (length (p .lows)) 8)) ≡ lineOf p k
+    pub heading-first : {k : ℕ} → k ≡ 0 → headingLine (storedNames (p .names) (p .lengths) (min (length (p .lows)) 8)) ≡ outputAt p k
     heading-first {k} z = ap (tableLine p) (sym z) ∙ table-line k
 
-    pub entry-after : {k : ℕ} → (k ≡ 0 → ⊥) → placeText (p .lows) (p .highs) (p .entries) (p .finals) (k - 1) ≡ lineOf p k
+    pub entry-after : {k : ℕ} → (k ≡ 0 → ⊥) → placeText (p .lows) (p .highs) (p .entries) (p .finals) (k - 1) ≡ outputAt p k
     entry-after {k} s = let e : suc (k - 1) ≡ k = omega arith in ap (tableLine p) e ∙ table-line k
 
 -- ---- the whole text
@@ -69,10 +69,10 @@ same-lines f g e from (suc n) = ap₂ _++_ (same-lines f g e from n) (e (from + 
 
 module _ (p : Printout) where
   -- "printed as the one line `refused 9`"
-  pub refused-text : (p .refusal ≡ 0 → ⊥) → textOf p ≡ refusalLine (p .refusal)
-  unfolding lineCount linesFrom
+  pub refused-text : (p .refusal ≡ 0 → ⊥) → outputText p ≡ refusalLine (p .refusal)
+  unfolding placeCount linesFrom
   refused-text h =
-      ap (λ t. linesFrom (lineOf p) 0 (cond t (suc (min (p .states * cutCount (letterCount (described (p .lows) (p .highs)))) (length (p .entries)))) 1)) (ne-eqb (p .refusal) 0 h)
+      ap (λ t. linesFrom (outputAt p) 0 (cond t (suc (min (p .states * cutCount (letterCount (described (p .lows) (p .highs)))) (length (p .entries)))) 1)) (ne-eqb (p .refusal) 0 h)
       ∙ sym (refusal-first p h refl)
 
   module _ (given : p .refusal ≡ 0) {ss : List Stream} (few : length ss ≤ 8) (bounded : letterCount ss ≤ letterBound) (short : Short ss) (moreNames moreLengths : List ℕ)
@@ -90,12 +90,12 @@ module _ (p : Printout) where
         ap headingLine (ap₂ (λ a b. storedNames a b (min (length (p .lows)) 8)) names lengths ∙ ap (storedNames (joinOver eightBytes ss ++ moreNames) (map (λ x. length (x .name)) ss ++ moreLengths)) n)
 
     -- "a heading with the names, then a line for each entry that is not 65,535, by state and letter"
-    pub table-text : textOf p ≡ printed ss (p .states) (p .entries) (p .finals)
-    unfolding lineCount
+    pub table-text : outputText p ≡ printed ss (p .states) (p .entries) (p .finals)
+    unfolding placeCount
     table-text =
-        ap (λ t. linesFrom (lineOf p) 0 (cond t (suc (min (p .states * cutCount (letterCount (described (p .lows) (p .highs)))) (length (p .entries)))) 1)) (eq-eqb (p .refusal) 0 given)
-        ∙ ap (λ n. linesFrom (lineOf p) 0 (suc n)) used
-        ∙ same-lines (lineOf p) (tableLine p) (λ k. sym (table-line p given k)) 0 (suc (p .states * letterCount ss))
+        ap (λ t. linesFrom (outputAt p) 0 (cond t (suc (min (p .states * cutCount (letterCount (described (p .lows) (p .highs)))) (length (p .entries)))) 1)) (eq-eqb (p .refusal) 0 given)
+        ∙ ap (λ n. linesFrom (outputAt p) 0 (suc n)) used
+        ∙ same-lines (outputAt p) (tableLine p) (λ k. sym (table-line p given k)) 0 (suc (p .states * letterCount ss))
         ∙ first-line (tableLine p) (p .states * letterCount ss)
         ∙ ap₂ _++_ heading (ap₂ (λ l h. linesFrom (placeText l h (p .entries) (p .finals)) 0 (p .states * letterCount ss)) lows highs)
         ∙ printed-whole ss (p .entries) (p .finals) few bounded short moreNames moreLengths (p .states)
@@ -121,6 +121,6 @@ module _ (p : Printout) (refusal : p .refusal < 4294967296) (lows : AllFit (p .l
   refused-short zero = omega (arith, refusal-length (p .refusal) refusal)
   refused-short (suc k) = omega arith
 
-  pub line-short : (k : ℕ) → length (lineOf p k) ≤ lineRoom
-  unfolding lineOf
+  pub line-short : (k : ℕ) → length (outputAt p k) ≤ lineRoom
+  unfolding outputAt
   line-short k = cond-cases (λ (l : List ℕ). length l ≤ lineRoom) (eqb (p .refusal) 0) {x = tableLine p k} {y = refusedLine (p .refusal) k} (λ t. table-short k) (λ t. refused-short k)

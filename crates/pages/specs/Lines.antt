@@ -1,4 +1,4 @@
--- Lines by their numbers, and a page of them: lent bytes that hold whole lines from a number on.
+-- Texts by their places, each a line or nothing, and a page of them: lent bytes that hold whole lines from a place on.
 use Prim.Native.Nat.{ℕ, _-_, _≤_, _<_, min}
 use mathlib.Core.Path.{_≡_}
 use mathlib.Core.Logic.{_⊎_}
@@ -17,7 +17,7 @@ pub record HoldsLine (line out : List ℕ) (size : ℕ) : Type 0 where
   pub held : length line ≤ lineRoom → (size ≡ length line) × (take size out ≡ line)
   pub long : lineRoom < length line → lineRoom < size
 
--- The lines from `from` to before `next` stand at the front of the lent bytes, and what stood behind them stays.
+-- The texts of the places from `from` to before `next` stand at the front of the lent bytes, and what stood behind them stays.
 pub record HoldsLines (line : ℕ → List ℕ) (count from : ℕ) (out out′ : List ℕ) (size next : ℕ) : Type 0 where
   pub onward : from ≤ next
   pub inside : from ≤ count → next ≤ count
@@ -27,7 +27,7 @@ pub record HoldsLines (line : ℕ → List ℕ) (count from : ℕ) (out out′ :
   pub room : size ≤ length out
   pub bytes : out′ ≡ sets out 0 (linesFrom line from (next - from))
 
--- A page ends with the last line, or before the first one for which there is no room.
+-- A page ends with the last place, or before the first one for whose line there is no room.
 pub record IsPage (line : ℕ → List ℕ) (count from : ℕ) (out out′ : List ℕ) (r : Page) : Type 0 where
   pub holds : HoldsLines line count from out out′ (r .size) (r .next)
   pub ends : (count ≤ r .next) ⊎ (min (length out - r .size) lineRoom < length (line (r .next)))

@@ -1,4 +1,5 @@
--- The lines that `sluice` prints, by their numbers (document 01, "Sheets with their answers", P1 and P2).
+-- What `sluice` prints, place by place (document 01, "Sheets with their answers", P1 and P2). A place has a line, or no text: the heading or the line of
+-- a refusal stands at place 0, and the entries, by state and letter, at those after it.
 use Prim.Native.Nat.{ℕ, zero, suc, _*_, min}
 use mathlib.Core.Bool.{cond}
 use mathlib.Core.List.{List, []}
@@ -31,16 +32,17 @@ abbrev pub refusedLine : ℕ → ℕ → List ℕ
 refusedLine number zero = refusalLine number
 refusedLine number (suc k) = []
 
-unfoldable pub lineOf : Printout → ℕ → List ℕ
-lineOf p k = cond (eqb (p .refusal) 0) (tableLine p k) (refusedLine (p .refusal) k)
+-- The text at a place.
+unfoldable pub outputAt : Printout → ℕ → List ℕ
+outputAt p k = cond (eqb (p .refusal) 0) (tableLine p k) (refusedLine (p .refusal) k)
 
--- How many lines there are: one for a refusal; else the heading, and one for each entry of the states.
-unfoldable pub lineCount : (refusal states : ℕ) (lows highs : List ℤ) (entries : List ℕ) → ℕ
-lineCount refusal states lows highs entries = cond (eqb refusal 0) (suc (min (states * cutCount (letterCount (described lows highs))) (length entries))) 1
+-- How many places there are: one for a refusal; else that of the heading, and one for each entry of the states.
+unfoldable pub placeCount : (refusal states : ℕ) (lows highs : List ℤ) (entries : List ℕ) → ℕ
+placeCount refusal states lows highs entries = cond (eqb refusal 0) (suc (min (states * cutCount (letterCount (described lows highs))) (length entries))) 1
 
-abbrev pub linesOf : Printout → ℕ
-linesOf p = lineCount (p .refusal) (p .states) (p .lows) (p .highs) (p .entries)
+abbrev pub placesOf : Printout → ℕ
+placesOf p = placeCount (p .refusal) (p .states) (p .lows) (p .highs) (p .entries)
 
 -- All that is printed.
-abbrev pub textOf : Printout → List ℕ
-textOf p = linesFrom (lineOf p) 0 (linesOf p)
+abbrev pub outputText : Printout → List ℕ
+outputText p = linesFrom (outputAt p) 0 (placesOf p)

@@ -34,7 +34,7 @@ use Rattle.outcome.proofs.AcceptedCompile.{refusal-positive, accepted-compile}
 use Rattle.outcome.proofs.CompileUnique.{compile-unique}
 use Rattle.outcome.proofs.CompileTotal.{compile-total}
 use Rattle.compile.proofs.Stored.{part-held, lows-part, highs-part, sheet-slices}
-use Rattle.pages.specs.Output.{Printout, textOf}
+use Rattle.pages.specs.Output.{Printout, outputText}
 use Rattle.pages.proofs.Output.{refused-text, table-text}
 use Rattle.print.specs.Text.{refusalLine}
 use Rattle.print.specs.Table.{printed, AllFit}
@@ -149,7 +149,7 @@ module _ (text : List ℕ) {reading : Reading} (read-as : reading ≡ readingOf 
 
   -- The text of a table is that of the sheet's streams.
   table-bytes : {s : Sheet} (a : CompileAnswer) (t : Tables) → AnswerTo cutTowardZero threeHeaderLines text (sheet s) → a .refusal ≡ 0 → a .states * letterCount (s .streams) ≤ length (t .entries)
-      → textOf (shownAs a t) ≡ printed (s .streams) (a .states) (t .entries) (t .finals)
+      → outputText (shownAs a t) ≡ printed (s .streams) (a .states) (t .entries) (t .finals)
   unfolding storedSheet
   table-bytes {s} a t x z fits =
       let f = accepted-facts x in

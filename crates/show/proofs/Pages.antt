@@ -11,7 +11,7 @@ use Rattle.meaning.proofs.Lists.{cond-cases}
 use Rattle.letters.specs.Described.{described, cutCount}
 use Rattle.print.specs.Table.{AllFit}
 use Rattle.pages.specs.Lines.{lineRoom}
-use Rattle.pages.specs.Output.{Printout, lineOf, lineCount, linesOf}
+use Rattle.pages.specs.Output.{Printout, outputAt, placeCount, placesOf}
 use Rattle.pages.proofs.Output.{line-short}
 use Rattle.show.specs.Answer.{printoutOf, HasRanges}
 
@@ -22,10 +22,10 @@ fit-take (suc n) [] h = tt
 fit-take (suc n) (v ∷ l) h = (h .0, fit-take n l (h .1))
 
 pub lines-short : {stored : StoredSheet} {refusal : ℕ} (states : ℕ) (entries finals : List ℕ) → HasRanges stored → refusal < 4294967296 → ((i : ℕ) → getD entries i 0 < 65536) → ((i : ℕ) → getD finals i 0 < 256)
-    → length entries ≤ 32768 → (k : ℕ) → length (lineOf (printoutOf stored refusal states entries finals) k) ≤ lineRoom
+    → length entries ≤ 32768 → (k : ℕ) → length (outputAt (printoutOf stored refusal states entries finals) k) ≤ lineRoom
 lines-short {stored} {refusal} states entries finals h r e f n =
     line-short (printoutOf stored refusal states entries finals) r (fit-take (min (stored .streams) 8) (stored .lows) (h .lows)) (fit-take (min (stored .streams) 8) (stored .highs) (h .highs)) e f (omega arith)
 
-pub few-lines : (p : Printout) → length (p .entries) ≤ 32768 → linesOf p ≤ 32769
-unfolding lineCount
+pub few-lines : (p : Printout) → length (p .entries) ≤ 32768 → placesOf p ≤ 32769
+unfolding placeCount
 few-lines p h = cond-cases (λ n. n ≤ 32769) (eqb (p .refusal) 0) {x = suc (min (p .states * cutCount (letterCount (described (p .lows) (p .highs)))) (length (p .entries)))} {y = 1} (λ t. omega arith) (λ t. omega arith)

@@ -15,7 +15,7 @@ use Rattle.outcome.specs.Room.{Lent}
 use Rattle.outcome.specs.Compile.{CompileAnswer, Room, Tables, CompileOutcome}
 use Rattle.print.specs.Text.{refusalLine}
 use Rattle.print.specs.Table.{printed, rowsLent, AllFit}
-use Rattle.pages.specs.Output.{Printout, textOf}
+use Rattle.pages.specs.Output.{Printout, outputText}
 use Rattle.show.specs.declared.Printed.{Printed}
 
 -- "`sluice` lends 256 rows, or 32,768 divided by the letters, cut to a whole number, if that is fewer." Of the work tables the keys take 16 numbers
@@ -74,7 +74,7 @@ pub record HasRanges (stored : StoredSheet) : Type 0 where
 -- The number given back, and how many bytes were handed over where every write took them.
 pub record PrintsAll (p : Printout) (r : Printed) : Type 0 where
   pub number : r .refusal ≡ p .refusal
-  pub handed : r .whole ≡ true → r .size ≡ length (textOf p)
+  pub handed : r .whole ≡ true → r .size ≡ length (outputText p)
 
 -- The compile of the text in the room is printed, with the stored sheet's names and ranges.
 pub record CompiledWith (text : List ℕ) (room : Room) (stored : StoredSheet) (r : Printed) : Type 0 where

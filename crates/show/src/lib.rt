@@ -6,7 +6,7 @@ ghost use Prim.Native.Nat.{_*_, _≤_};
 ghost use lib.ListN.{length};
 ghost use Rattle.compile.specs.Lent.{roomOf};
 ghost use Rattle.pages.specs.Lines.{IsPage};
-ghost use Rattle.pages.specs.Output.{lineOf, linesOf};
+ghost use Rattle.pages.specs.Output.{outputAt, placesOf};
 ghost use Rattle.show.specs.Answer.{HasRanges, lentRoom, printoutOf, PrintsAll, CompiledWith, Shown};
 use libc::STDOUT_FILENO;
 use pages::Page;
@@ -29,7 +29,7 @@ fn next_page(
     out: &mut [u8],
 ) -> Page
     requires { ⌜ HasRanges sheet ⌝ }
-    ensures { λ r. ⌜ IsPage (lineOf (printoutOf sheet refusal states (now (entries .entry)) (now (finals .entry)))) (linesOf (printoutOf sheet refusal states (now (entries .entry)) (now (finals .entry)))) from (now (out .entry)) (now (out .exit)) r ⌝ }
+    ensures { λ r. ⌜ IsPage (outputAt (printoutOf sheet refusal states (now (entries .entry)) (now (finals .entry)))) (placesOf (printoutOf sheet refusal states (now (entries .entry)) (now (finals .entry)))) from (now (out .entry)) (now (out .exit)) r ⌝ }
 {
     let names = sheet.names;
     let lengths = sheet.lengths;

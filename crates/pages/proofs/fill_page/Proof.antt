@@ -1,24 +1,24 @@
--- `pages::fill_page` meets its contract: before each turn the bytes hold the lines from `from` to before the number (Lines).
+-- `pages::fill_page` meets its contract: before each turn the bytes hold the lines from `from` to before the place (Lines).
 use Prim.Native.Nat.{_-_}
 use native.Mathlib.Omega.{arith}
 use mathlib.Core.Path.{_≡_, refl, sym, _∙_}
 use lib.ListN.{length}
 use Rattle.pages.specs.Lines.{HoldsLines}
-use Rattle.pages.specs.Output.{lineOf}
+use Rattle.pages.specs.Output.{outputAt}
 use Rattle.pages.proofs.Lines.{no-lines, same-room, copied-line, page-full, page-last}
 use Rattle.pages.proofs.fill_page.Statement.{statement}
 use Rattle.pages.proofs.fill_page.Tie as tie
 
 abbrev Inv-loop : tie.InvT-loop
-Inv-loop refusal states names lengths lows highs entries finals from out₀ count line₀ size₀ number₀ out line size number =
-    HoldsLines (lineOf (record { refusal = refusal; states = states; names = names; lengths = lengths; lows = lows; highs = highs; entries = entries; finals = finals })) count from out₀ out size number
+Inv-loop refusal states names lengths lows highs entries finals from out₀ count line₀ size₀ place₀ out line size place =
+    HoldsLines (outputAt (record { refusal = refusal; states = states; names = names; lengths = lengths; lows = lows; highs = highs; entries = entries; finals = finals })) count from out₀ out size place
     × (length line ≡ 256)
 
 abbrev μ-loop : tie.MeasureT-loop
-μ-loop refusal states names lengths lows highs entries finals from out₀ count line₀ size₀ number₀ out line size number = count - number
+μ-loop refusal states names lengths lows highs entries finals from out₀ count line₀ size₀ place₀ out line size place = count - place
 
-line-count-requires : tie.Need-line-count-requires Inv-loop μ-loop
-line-count-requires c κs = tt
+place-count-requires : tie.Need-place-count-requires Inv-loop μ-loop
+place-count-requires c κs = tt
 
 loop-holds : tie.Need-loop-holds Inv-loop μ-loop
 loop-holds c = (no-lines _, refl)
@@ -48,8 +48,8 @@ add-size c =
     let t = c .before .before .before .before .before .before .before .before .before .before .before .loop .inv in
     omega (arith, same-room _ (t .0), t .0 .room, c .before .before .before .before .before .before .fewer .ensures, c .before .before .before .before .before .if1 .left, c .before .before .before .before .before .before .before .before .before .before .before .before .before .before .before .before .before .before .good)
 
-add-number : tie.Need-add-number Inv-loop μ-loop
-add-number c = omega (arith, c .before .before .before .before .before .before .before .before .before .before .loop-test .taken)
+add-place : tie.Need-add-place Inv-loop μ-loop
+add-place c = omega (arith, c .before .before .before .before .before .before .before .before .before .before .loop-test .taken)
 
 loop-less : tie.Need-loop-less Inv-loop μ-loop
 loop-less c = omega (arith, c .before .before .before .before .before .before .before .before .before .before .loop-test .taken)
@@ -63,13 +63,13 @@ same-length : tie.Need-same-length Inv-loop μ-loop
 same-length c = same-room _ (c .before .loop .inv .0)
 
 returns : tie.Need-returns Inv-loop μ-loop
-returns c = page-last _ (c .before .loop .inv .0) (c .before .before .line-count .ensures) (c .loop-test .left)
+returns c = page-last _ (c .before .loop .inv .0) (c .before .before .place-count .ensures) (c .loop-test .left)
 
 same-length-2 : tie.Need-same-length-2 Inv-loop μ-loop
 same-length-2 c = same-room _ (c .before .before .before .before .before .before .loop .inv .0)
 
 returns-2 : tie.Need-returns-2 Inv-loop μ-loop
-returns-2 c = page-full _ (c .before .before .before .before .before .before .loop .inv .0) (c .before .before .before .line-at .ensures (c .before .before .before .before .before .before .before .before .before .before .before .before .before .args .states)) (c .before .fewer .ensures) (c .before .before .before .before .before .before .before .line-count .ensures) (c .if1 .taken)
+returns-2 c = page-full _ (c .before .before .before .before .before .before .loop .inv .0) (c .before .before .before .line-at .ensures (c .before .before .before .before .before .before .before .before .before .before .before .before .before .args .states)) (c .before .fewer .ensures) (c .before .before .before .before .before .before .before .place-count .ensures) (c .if1 .taken)
 
 pub fill-page-spec : {M : Type 1} → statement M
 fill-page-spec =
@@ -77,7 +77,7 @@ fill-page-spec =
     (tie.spec
     Inv-loop
     μ-loop
-    line-count-requires
+    place-count-requires
     loop-holds
     slice-aggregate-line-at
     line-at-requires
@@ -86,7 +86,7 @@ fill-page-spec =
     slice-aggregate-copy
     copy-requires
     add-size
-    add-number
+    add-place
     loop-less
     loop-again
     same-length

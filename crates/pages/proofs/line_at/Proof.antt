@@ -1,4 +1,4 @@
--- `pages::line_at` meets its contract, by the cases of a refusal's number and of the line's number (Output).
+-- `pages::line_at` meets its contract, by the cases of a refusal's number and of the place (Output).
 use borrow.Author.Needs.{needs}
 use Rattle.print.proofs.Append.{appends-same}
 use Rattle.pages.proofs.Lines.{appended-line, empty-line}

@@ -5,7 +5,7 @@ use lib.ListN.{take}
 use lib.Seq.{length-take-le}
 use borrow.Author.Needs.{needs}
 use Rattle.pages.specs.Lines.{IsPage}
-use Rattle.pages.specs.Output.{lineOf, linesOf}
+use Rattle.pages.specs.Output.{outputAt, placesOf}
 use Rattle.show.proofs.next_page.Statement.{statement}
 use Rattle.show.proofs.next_page.Tie as tie
 
@@ -41,8 +41,8 @@ returns c =
     let a = c .before .before .before .before .before .before .before .before .before .before .before .before .before .before .before .before .args in
     subst
     (λ n. IsPage
-    (lineOf (record { refusal = a .refusal; states = a .states; names = a .sheet .names; lengths = a .sheet .lengths; lows = take n (a .sheet .lows); highs = take n (a .sheet .highs); entries = a .entries .now; finals = a .finals .now }))
-    (linesOf (record { refusal = a .refusal; states = a .states; names = a .sheet .names; lengths = a .sheet .lengths; lows = take n (a .sheet .lows); highs = take n (a .sheet .highs); entries = a .entries .now; finals = a .finals .now }))
+    (outputAt (record { refusal = a .refusal; states = a .states; names = a .sheet .names; lengths = a .sheet .lengths; lows = take n (a .sheet .lows); highs = take n (a .sheet .highs); entries = a .entries .now; finals = a .finals .now }))
+    (placesOf (record { refusal = a .refusal; states = a .states; names = a .sheet .names; lengths = a .sheet .lengths; lows = take n (a .sheet .lows); highs = take n (a .sheet .highs); entries = a .entries .now; finals = a .finals .now }))
     (a .from) (a .out .now) (c .before .before .fill-page .last .1 .1 .1 .1 .1 .1 .1 .1 .1 .0) (c .before .before .fill-page .result))
     (c .before .before .before .before .before .before .before .before .fewer .ensures) (c .before .before .fill-page .ensures)
 

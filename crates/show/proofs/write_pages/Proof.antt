@@ -7,7 +7,7 @@ use lib.ListN.{length}
 use lib.Seq.{length-take-le}
 use Rattle.print.specs.Table.{linesFrom}
 use Rattle.pages.specs.Lines.{lineRoom}
-use Rattle.pages.specs.Output.{Printout, lineOf, linesOf}
+use Rattle.pages.specs.Output.{Printout, outputAt, placesOf}
 use Rattle.pages.proofs.Lines.{page-continues, page-advances, page-empty, text-short}
 use Rattle.show.specs.Answer.{printoutOf}
 use Rattle.show.proofs.Pages.{lines-short, few-lines}
@@ -16,17 +16,17 @@ use Rattle.show.proofs.write_pages.Tie as tie
 
 abbrev Inv-loop : tie.InvT-loop
 Inv-loop sheet refusal states entries finals page₀ size₀ from₀ page size from =
-    (length page ≡ 65536) × (from ≤ linesOf (printoutOf sheet refusal states entries finals)) × (size ≡ length (linesFrom (lineOf (printoutOf sheet refusal states entries finals)) 0 from))
+    (length page ≡ 65536) × (from ≤ placesOf (printoutOf sheet refusal states entries finals)) × (size ≡ length (linesFrom (outputAt (printoutOf sheet refusal states entries finals)) 0 from))
 
 abbrev μ-loop : tie.MeasureT-loop
-μ-loop sheet refusal states entries finals page₀ size₀ from₀ page size from = linesOf (printoutOf sheet refusal states entries finals) - from
+μ-loop sheet refusal states entries finals page₀ size₀ from₀ page size from = placesOf (printoutOf sheet refusal states entries finals) - from
 
 -- What is printed.
 abbrev shown : (c : tie.At-loop Inv-loop μ-loop) → Printout
 shown c = printoutOf (c .before .before .before .before .args .sheet) (c .before .before .before .before .args .refusal) (c .before .before .before .before .args .states) (c .before .before .before .before .args .entries .now) (c .before .before .before .before .args .finals .now)
 
 -- No line is longer than there is room for.
-short : (c : tie.At-loop Inv-loop μ-loop) (k : ℕ) → length (lineOf (shown c) k) ≤ lineRoom
+short : (c : tie.At-loop Inv-loop μ-loop) (k : ℕ) → length (outputAt (shown c) k) ≤ lineRoom
 short c =
     let s = c .before .before .before .before in
     lines-short (s .args .states) (s .args .entries .now) (s .args .finals .now) (s .pre .0) (omega (arith, s .fits .refusal)) (λ i. omega (arith, c .before .before .before .shared-slice-known .given i)) (λ i. omega (arith, c .before .before .shared-slice-known2 .given i)) (s .pre .1)
@@ -45,7 +45,7 @@ next-page-requires : tie.Need-next-page-requires Inv-loop μ-loop
 next-page-requires c κs = c .before .before .before .before .before .pre .0
 
 returns : tie.Need-returns Inv-loop μ-loop
-returns c = record { number = refl; handed = λ e. c .before .before .before .before .loop .inv .2 ∙ page-empty (lineOf (shown (c .before .before .before .before))) (c .before .before .next-page .ensures) (short (c .before .before .before .before)) (omega (arith, c .before .before .before .before .loop .inv .0)) (c .if1 .taken) (c .before .before .before .before .loop .inv .1) }
+returns c = record { number = refl; handed = λ e. c .before .before .before .before .loop .inv .2 ∙ page-empty (outputAt (shown (c .before .before .before .before))) (c .before .before .next-page .ensures) (short (c .before .before .before .before)) (omega (arith, c .before .before .before .before .loop .inv .0)) (c .if1 .taken) (c .before .before .before .before .loop .inv .1) }
 
 array-share-prefix-page : tie.Need-array-share-prefix-page Inv-loop μ-loop
 array-share-prefix-page c = omega (arith, c .before .before .next-page .ensures .holds .room, c .before .before .next-page .kept .1 .1 .1 .1 .1 .1 .0)
@@ -62,17 +62,17 @@ returns-2 c = record { number = refl; handed = λ e. absurd (let z : _≡_ {A = 
 add-size : tie.Need-add-size Inv-loop μ-loop
 add-size c =
     let p = c .before .before .before .before .before .next-page .ensures in
-    omega (arith, c .before .before .before .before .before .before .before .loop .inv .2, page-continues (lineOf (shown (c .before .before .before .before .before .before .before))) p, text-short (lineOf (shown (c .before .before .before .before .before .before .before))) (short (c .before .before .before .before .before .before .before)) (c .before .before .before .before .before .next-page .result .next), p .holds .inside (c .before .before .before .before .before .before .before .loop .inv .1), few-lines (shown (c .before .before .before .before .before .before .before)) (c .before .before .before .before .before .before .before .before .before .before .before .pre .1))
+    omega (arith, c .before .before .before .before .before .before .before .loop .inv .2, page-continues (outputAt (shown (c .before .before .before .before .before .before .before))) p, text-short (outputAt (shown (c .before .before .before .before .before .before .before))) (short (c .before .before .before .before .before .before .before)) (c .before .before .before .before .before .next-page .result .next), p .holds .inside (c .before .before .before .before .before .before .before .loop .inv .1), few-lines (shown (c .before .before .before .before .before .before .before)) (c .before .before .before .before .before .before .before .before .before .before .before .pre .1))
 
 loop-less : tie.Need-loop-less Inv-loop μ-loop
 loop-less c =
     let p = c .before .before .before .before .before .next-page .ensures in
-    omega (arith, page-advances (lineOf (shown (c .before .before .before .before .before .before .before))) p (omega (arith, c .before .before .before .if1 .left)), p .holds .inside (c .before .before .before .before .before .before .before .loop .inv .1))
+    omega (arith, page-advances (outputAt (shown (c .before .before .before .before .before .before .before))) p (omega (arith, c .before .before .before .if1 .left)), p .holds .inside (c .before .before .before .before .before .before .before .loop .inv .1))
 
 loop-again : tie.Need-loop-again Inv-loop μ-loop
 loop-again c =
     let p = c .before .before .before .before .before .next-page .ensures in
-    (c .before .before .before .before .before .next-page .kept .1 .1 .1 .1 .1 .1 .0 ∙ c .before .before .before .before .before .before .before .loop .inv .0, p .holds .inside (c .before .before .before .before .before .before .before .loop .inv .1), ap (_+ c .before .before .before .before .before .next-page .result .size) (c .before .before .before .before .before .before .before .loop .inv .2) ∙ page-continues (lineOf (shown (c .before .before .before .before .before .before .before))) p)
+    (c .before .before .before .before .before .next-page .kept .1 .1 .1 .1 .1 .1 .0 ∙ c .before .before .before .before .before .before .before .loop .inv .0, p .holds .inside (c .before .before .before .before .before .before .before .loop .inv .1), ap (_+ c .before .before .before .before .before .next-page .result .size) (c .before .before .before .before .before .before .before .loop .inv .2) ∙ page-continues (outputAt (shown (c .before .before .before .before .before .before .before))) p)
 
 pub write-pages-spec : {M : Type 1} → statement M
 write-pages-spec =

@@ -1,4 +1,4 @@
--- `pages::line_count` meets its contract, by the cases of a refusal's number.
+-- `pages::place_count` meets its contract, by the cases of a refusal's number.
 use Prim.Native.Nat.{suc, _*_, _≤_, min}
 use native.Mathlib.Numerals.{add-one}
 use native.Mathlib.Nat.{lt-of-le-of-lt, mul-le-mul-left}
@@ -10,12 +10,12 @@ use borrow.Author.Needs.{needs}
 use borrow.Author.Tests.{eq-eqb, ne-eqb}
 use Rattle.meaning.specs.Letter.{letterCount}
 use Rattle.letters.specs.Described.{described, cutCount}
-use Rattle.pages.specs.Output.{lineCount}
-use Rattle.pages.proofs.line_count.Statement.{statement}
-use Rattle.pages.proofs.line_count.Tie as tie
+use Rattle.pages.specs.Output.{placeCount}
+use Rattle.pages.proofs.place_count.Statement.{statement}
+use Rattle.pages.proofs.place_count.Tie as tie
 
 returns : tie.Need-returns
-unfolding lineCount
+unfolding placeCount
 returns c =
     let a = c .before .before .args in
     sym (ap (λ t. cond t (suc (min (a .states * cutCount (letterCount (described (a .lows .now) (a .highs .now)))) (length (a .entries .now)))) 1) (ne-eqb (a .refusal) 0 (c .if1 .taken)))
@@ -41,15 +41,15 @@ add-result : tie.Need-add-result
 add-result c = search needs
 
 returns-2 : tie.Need-returns-2
-unfolding lineCount
+unfolding placeCount
 returns-2 c =
     let a = c .before .before .before .before .args in
     add-one (c .fewer .result)
     ∙ ap suc (c .fewer .ensures ∙ ap (λ n. min (a .states * n) (length (a .entries .now))) (c .before .letter-count .ensures))
     ∙ sym (ap (λ t. cond t (suc (min (a .states * cutCount (letterCount (described (a .lows .now) (a .highs .now)))) (length (a .entries .now)))) 1) (eq-eqb (a .refusal) 0 (c .before .before .if1 .left)))
 
-pub line-count-spec : {M : Type 1} → statement M
-line-count-spec =
+pub place-count-spec : {M : Type 1} → statement M
+place-count-spec =
     tie.close
     (tie.spec
     returns
