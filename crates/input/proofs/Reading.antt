@@ -1,6 +1,6 @@
 -- What holds before and after each read: as many bytes as count as read lie within the room, none where a read failed, and where there may be more to
 -- read there is room for it, and less after each read. From the definition of `afterRead`.
-use Prim.Native.Nat.{ℕ, _+_, _-_, _≤_, _<_, min}
+use Prim.Native.Nat.{ℕ, _-_, _≤_, _<_, min}
 use native.Mathlib.Omega.{arith}
 use mathlib.Core.Path.{_≡_, refl}
 use mathlib.Core.Bool.{Bool, true, false}

@@ -134,6 +134,12 @@ module _ (line : ℕ → List ℕ) where
   text-short short zero = omega arith
   text-short short (suc n) = omega (arith, text-short short n, short (0 + n), length-append (linesFrom line 0 n) (line (0 + n)))
 
+  -- More places have no shorter text.
+  pub text-grows : (m n : ℕ) → m ≤ n → length (linesFrom line 0 m) ≤ length (linesFrom line 0 n)
+  text-grows m n h =
+      let e : m + (n - m) ≡ n = omega arith in
+      omega (arith, length-append (linesFrom line 0 m) (linesFrom line (0 + m) (n - m)), ap length (lines-append 0 m (n - m) ∙ ap (linesFrom line 0) e))
+
   module _ {count from : ℕ} {out out′ : List ℕ} {r : Page} (p : IsPage line count from out out′ r) where
     -- The text before a page and that of the page are the text before the next page.
     pub page-continues : length (linesFrom line 0 from) + r .size ≡ length (linesFrom line 0 (r .next))

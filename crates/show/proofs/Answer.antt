@@ -1,6 +1,6 @@
 -- A text prints one text, and always one; what `show` gives back is of that text. From the one answer to a text (sheet), the one outcome of a compile
 -- (outcome) and the text of a printout (pages).
-use Prim.Native.Nat.{ℕ, zero, suc, _-_, _*_, _≤_, _<_, min}
+use Prim.Native.Nat.{ℕ, zero, suc, _-_, _*_, _≤_, min}
 use native.Mathlib.Omega.{arith}
 use mathlib.Core.Path.{_≡_, refl, sym, _∙_, ap, subst}
 use mathlib.Core.List.{List, [], _∷_, _++_, map, List·Memᴰ, List·Memᴰ·head, List·Memᴰ·tail, Memᴰ·map}
@@ -28,7 +28,7 @@ use Rattle.sheet.proofs.Accepted.{accepted-facts}
 use Rattle.reader.specs.declared.Reading.{Reading}
 use Rattle.reader.specs.Stored.{storedSheet, readingOf, nameBytes, nameLengths}
 use Rattle.reader.proofs.Streams.{name-fits}
-use Rattle.outcome.specs.Compile.{CompileAnswer, Tables, CompileOutcome, unread as textUnread, read}
+use Rattle.outcome.specs.Compile.{CompileAnswer, Tables, CompileCall, unread as textUnread, read}
 use Rattle.outcome.proofs.Answers.{one-number, one-sheet, refused≢sheet}
 use Rattle.outcome.proofs.AcceptedCompile.{refusal-positive, accepted-compile}
 use Rattle.outcome.proofs.CompileUnique.{compile-unique}
@@ -40,16 +40,16 @@ use Rattle.print.specs.Text.{refusalLine}
 use Rattle.print.specs.Table.{printed, AllFit}
 use Rattle.print.proofs.Names.{Short}
 use Rattle.show.specs.declared.Printed.{Printed}
-use Rattle.show.specs.Answer.{lentRoom, Prints, unread, notCompiled, compiled, Shown, printoutOf, HasRanges, PrintsAll, CompiledWith}
+use Rattle.show.specs.Answer.{lentRoom, Prints, unread, notCompiled, compiled, Shown, printoutOf, HasRanges, CompiledWith}
 
 -- ---- a text prints one text
 
 module _ {text : List ℕ} where
-  same-outcome : {s q : Sheet} {a b : CompileAnswer} {t u : Tables} → s ≡ q → CompileOutcome cutTowardZero threeHeaderLines text (lentRoom (letterCount (s .streams))) a t
-      → CompileOutcome cutTowardZero threeHeaderLines text (lentRoom (letterCount (q .streams))) b u → (a ≡ b) × (t ≡ u)
+  same-outcome : {s q : Sheet} {a b : CompileAnswer} {t u : Tables} → s ≡ q → CompileCall text (lentRoom (letterCount (s .streams))) a t
+      → CompileCall text (lentRoom (letterCount (q .streams))) b u → (a ≡ b) × (t ≡ u)
   same-outcome {s} {q} {a} {b} {t} {u} e o p =
       compile-unique cutTowardZero threeHeaderLines text (lentRoom (letterCount (q .streams)))
-      (subst (λ z. CompileOutcome cutTowardZero threeHeaderLines text (lentRoom (letterCount (z .streams))) a t) e o) p
+      (subst (λ z. CompileCall text (lentRoom (letterCount (z .streams))) a t) e o) p
 
   pub prints-unique : {m n : ℕ} {b c : List ℕ} → Prints text m b → Prints text n c → (m ≡ n) × (b ≡ c)
   prints-unique (unread r) (unread r′) = let e = one-number r r′ in (e, ap refusalLine e)
@@ -76,7 +76,7 @@ pub prints-total : (text : List ℕ) → HasOutput text
 prints-total text = go (answerTo cutTowardZero threeHeaderLines text) (answer-correct cutTowardZero threeHeaderLines text)
   where
     by : {s : Sheet} {a : CompileAnswer} {t : Tables} → AnswerTo cutTowardZero threeHeaderLines text (sheet s)
-        → CompileOutcome cutTowardZero threeHeaderLines text (lentRoom (letterCount (s .streams))) a t → (b : Bool) → ltb 0 (a .refusal) ≡ b → HasOutput text
+        → CompileCall text (lentRoom (letterCount (s .streams))) a t → (b : Bool) → ltb 0 (a .refusal) ≡ b → HasOutput text
     by {s} {a} r o true e = record { number = _; bytes = _; prints = notCompiled r o (ltb-true 0 (a .refusal) e) }
     by {s} {a} r o false e = record { number = _; bytes = _; prints = compiled r o (omega (arith, ltb-false 0 (a .refusal) e)) }
 
@@ -159,35 +159,28 @@ module _ (text : List ℕ) {reading : Reading} (read-as : reading ≡ readingOf 
       table-text (shownAs a t) z few (f .letters) (short-names f) (replicate (64 - length (nameBytes (s .streams))) 0) (replicate (8 - length (nameLengths (s .streams))) 0)
       (ap (λ y. y .names) same) (ap (λ y. y .lengths) same) (ap (λ n. take n (reading .sheet .lows)) k ∙ part-held (lows-part s same)) (ap (λ n. take n (reading .sheet .highs)) k ∙ part-held (highs-part s same)) fits
 
-  module _ {r : Printed} where
-    refused-bytes : (a : CompileAnswer) (t : Tables) → PrintsAll (shownAs a t) r → 0 < a .refusal → Prints text (a .refusal) (refusalLine (a .refusal)) → Shown text r
-    refused-bytes a t p h x =
-        record {
-          bytes = refusalLine (a .refusal);
-          prints = subst (λ n. Prints text n (refusalLine (a .refusal))) (sym (p .number)) x;
-          handed = λ w. p .handed w ∙ ap length (refused-text (shownAs a t) (λ z. omega arith));
-        }
+  sheet-prints : {s : Sheet} {a : CompileAnswer} {t : Tables} → AnswerTo cutTowardZero threeHeaderLines text (sheet s) → CompileCall text (lentRoom (letterCount (s .streams))) a t
+      → (b : Bool) → ltb 0 (a .refusal) ≡ b → Prints text (a .refusal) (outputText (shownAs a t))
+  sheet-prints {s} {a} {t} x o true e =
+      let h = ltb-true 0 (a .refusal) e in subst (Prints text (a .refusal)) (sym (refused-text (shownAs a t) (λ z. omega arith))) (notCompiled x o h)
+  sheet-prints {s} {a} {t} x o false e =
+      let z : a .refusal ≡ 0 = omega (arith, ltb-false 0 (a .refusal) e) in
+      let c = accepted-compile o z in
+      let fits = subst (λ q. a .states * letterCount (q .streams) ≤ length (t .entries)) (one-sheet (c .read) x) (c .held .table .entries-fit) in
+      subst (Prints text (a .refusal)) (sym (table-bytes a t x z fits)) (compiled x o z)
 
-    compiled-bytes : {s : Sheet} {a : CompileAnswer} {t : Tables} → AnswerTo cutTowardZero threeHeaderLines text (sheet s)
-        → CompileOutcome cutTowardZero threeHeaderLines text (lentRoom (letterCount (s .streams))) a t → PrintsAll (shownAs a t) r → (b : Bool) → ltb 0 (a .refusal) ≡ b → Shown text r
-    compiled-bytes {s} {a} {t} x o p true e = let h = ltb-true 0 (a .refusal) e in refused-bytes a t p h (notCompiled x o h)
-    compiled-bytes {s} {a} {t} x o p false e =
-        let z : a .refusal ≡ 0 = omega (arith, ltb-false 0 (a .refusal) e) in
-        let c = accepted-compile o z in
-        let fits = subst (λ q. a .states * letterCount (q .streams) ≤ length (t .entries)) (one-sheet (c .read) x) (c .held .table .entries-fit) in
-        record {
-          bytes = printed (s .streams) (a .states) (t .entries) (t .finals);
-          prints = subst (λ n. Prints text n (printed (s .streams) (a .states) (t .entries) (t .finals))) (sym (p .number)) (compiled x o z);
-          handed = λ w. p .handed w ∙ ap length (table-bytes a t x z fits);
-        }
+  -- The bytes of the pages of a call in the rows lent are what the text prints.
+  pub call-prints : {a : CompileAnswer} {t : Tables} → CompileCall text (lentRoom (reading .sheet .letters)) a t → Prints text (a .refusal) (outputText (shownAs a t))
+  call-prints {a} {t} (textUnread x) = let h = refusal-positive x in subst (Prints text (a .refusal)) (sym (refused-text (shownAs a t) (λ z. omega arith))) (unread x)
+  call-prints {a} {t} (read x o) =
+      sheet-prints x (subst (λ k. CompileCall text (lentRoom k) a t) (sheet-slices _ (stored-is x) .sameLetters) (read x o)) (ltb 0 (a .refusal)) refl
 
-    pub shown-of : CompiledWith text (lentRoom (reading .sheet .letters)) (reading .sheet) r → Shown text r
-    shown-of c = go (c .outcome) (c .prints)
-      where
-        letters-are : {s : Sheet} → AnswerTo cutTowardZero threeHeaderLines text (sheet s) → reading .sheet .letters ≡ letterCount (s .streams)
-        letters-are {s} x = sheet-slices s (stored-is x) .sameLetters
-
-        go : {a : CompileAnswer} {t : Tables} → CompileOutcome cutTowardZero threeHeaderLines text (lentRoom (reading .sheet .letters)) a t → PrintsAll (shownAs a t) r → Shown text r
-        go {a} {t} (textUnread x) p = refused-bytes a t p (refusal-positive x) (unread x)
-        go {a} {t} (read x o) p =
-            compiled-bytes x (subst (λ k. CompileOutcome cutTowardZero threeHeaderLines text (lentRoom k) a t) (letters-are x) (read x o)) p (ltb 0 (a .refusal)) refl
+  pub shown-of : {r : Printed} → CompiledWith text (lentRoom (reading .sheet .letters)) (reading .sheet) r → Shown text r
+  shown-of {r} c =
+      let bytes = outputText (shownAs (c .answer) (c .tables)) in
+      record {
+        bytes = bytes;
+        prints = subst (λ n. Prints text n bytes) (sym (c .prints .number)) (call-prints (c .outcome));
+        handed = c .prints .handed;
+        cut = c .prints .cut;
+      }

@@ -2,7 +2,7 @@
 -- table").
 use Prim.Native.Nat.{ℕ, _*_, _<_, min}
 use mathlib.Core.Path.{_≡_}
-use mathlib.Core.Bool.{true}
+use mathlib.Core.Bool.{true, false}
 use mathlib.Core.List.{List, [], _∷_}
 use lib.ListN.{length, take}
 use Rattle.meaning.specs.Arithmetic.{cutTowardZero}
@@ -12,7 +12,7 @@ use Rattle.sheet.specs.Form.{threeHeaderLines}
 use Rattle.sheet.specs.Refusal.{refused, sheet, AnswerTo}
 use Rattle.reader.specs.declared.Sheet.{Sheet as StoredSheet}
 use Rattle.outcome.specs.Room.{Lent}
-use Rattle.outcome.specs.Compile.{CompileAnswer, Room, Tables, CompileOutcome}
+use Rattle.outcome.specs.Compile.{CompileAnswer, Room, Tables, CompileCall}
 use Rattle.print.specs.Text.{refusalLine}
 use Rattle.print.specs.Table.{printed, rowsLent, AllFit}
 use Rattle.pages.specs.Output.{Printout, outputText}
@@ -36,17 +36,19 @@ pub data Prints (text : List ℕ) : ℕ → List ℕ → Type 0 where
   unread : {n : ℕ} → AnswerTo cutTowardZero threeHeaderLines text (refused n) → Prints text n (refusalLine n)
   -- "printed as the one line `refused 9`", in the rows lent
   notCompiled : {s : Sheet} {a : CompileAnswer} {t : Tables} → AnswerTo cutTowardZero threeHeaderLines text (sheet s)
-      → CompileOutcome cutTowardZero threeHeaderLines text (lentRoom (letterCount (s .streams))) a t → 0 < a .refusal → Prints text (a .refusal) (refusalLine (a .refusal))
+      → CompileCall text (lentRoom (letterCount (s .streams))) a t → 0 < a .refusal → Prints text (a .refusal) (refusalLine (a .refusal))
   -- "a heading with the names, then a line for each entry that is not 65,535, by state and letter"
   compiled : {s : Sheet} {a : CompileAnswer} {t : Tables} → AnswerTo cutTowardZero threeHeaderLines text (sheet s)
-      → CompileOutcome cutTowardZero threeHeaderLines text (lentRoom (letterCount (s .streams))) a t → a .refusal ≡ 0
+      → CompileCall text (lentRoom (letterCount (s .streams))) a t → a .refusal ≡ 0
       → Prints text (a .refusal) (printed (s .streams) (a .states) (t .entries) (t .finals))
 
--- What `show` gives back: the refusal's number or 0, and, where every write took its bytes, how many bytes `sluice` prints.
+-- What `show` gives back: the refusal's number or 0, and how many bytes were taken by writes: as many as `sluice` prints where every write took its
+-- bytes, and else fewer.
 pub record Shown (text : List ℕ) (r : Printed) : Type 0 where
   pub bytes : List ℕ
   pub prints : Prints text (r .refusal) bytes
   pub handed : r .whole ≡ true → r .size ≡ length bytes
+  pub cut : r .whole ≡ false → r .size < length bytes
 
 -- ---- parts of a call
 
@@ -71,14 +73,15 @@ pub record HasRanges (stored : StoredSheet) : Type 0 where
   pub lows : AllFit (stored .lows)
   pub highs : AllFit (stored .highs)
 
--- The number given back, and how many bytes were handed over where every write took them.
+-- The number given back, and how many bytes were taken by writes.
 pub record PrintsAll (p : Printout) (r : Printed) : Type 0 where
   pub number : r .refusal ≡ p .refusal
   pub handed : r .whole ≡ true → r .size ≡ length (outputText p)
+  pub cut : r .whole ≡ false → r .size < length (outputText p)
 
 -- The compile of the text in the room is printed, with the stored sheet's names and ranges.
 pub record CompiledWith (text : List ℕ) (room : Room) (stored : StoredSheet) (r : Printed) : Type 0 where
   pub answer : CompileAnswer
   pub tables : Tables
-  pub outcome : CompileOutcome cutTowardZero threeHeaderLines text room answer tables
+  pub outcome : CompileCall text room answer tables
   pub prints : PrintsAll (printoutOf stored (answer .refusal) (answer .states) (tables .entries) (tables .finals)) r

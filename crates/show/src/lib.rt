@@ -11,7 +11,7 @@ ghost use Rattle.show.specs.Answer.{HasRanges, lentRoom, printoutOf, Pri
 use libc::STDOUT_FILENO;
 use pages::Page;
 
-// The number of the refusal that was printed, or 0; how many bytes were handed over, and whether each write took them.
+// The number of the refusal that is printed, or 0; how many bytes were taken by writes, and whether each write took all of its bytes.
 pub struct Printed {
     pub refusal: u32,
     pub size: usize,

@@ -1,10 +1,9 @@
 -- `input::after_read` meets its contract, by the sign of the read's answer.
 use Prim.Native.Nat.{ℕ, _+_, _-_, min}
 use native.Mathlib.Omega.{arith}
-use mathlib.Core.Path.{_≡_, sym, _∙_, ap}
+use mathlib.Core.Path.{sym, _∙_, ap}
 use mathlib.Core.Bool.{Bool, false}
 use lib.Dec.{ltb}
-use lib.IntN.{pos, natAbs}
 use borrow.Author.Needs.{needs}
 use Rattle.arithmetic.proofs.Machine.{number-cast, number-natural, number-negative}
 use Rattle.input.specs.Input.{afterRead}

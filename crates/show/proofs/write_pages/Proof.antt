@@ -3,12 +3,13 @@
 use Prim.Native.Nat.{ℕ, _+_, _-_, _≤_}
 use native.Mathlib.Omega.{arith}
 use mathlib.Core.Path.{_≡_, refl, sym, _∙_, ap}
+use mathlib.Core.Bool.{true, false}
 use lib.ListN.{length}
 use lib.Seq.{length-take-le}
 use Rattle.print.specs.Table.{linesFrom}
 use Rattle.pages.specs.Lines.{lineRoom}
 use Rattle.pages.specs.Output.{Printout, outputAt, placesOf}
-use Rattle.pages.proofs.Lines.{page-continues, page-advances, page-empty, text-short}
+use Rattle.pages.proofs.Lines.{page-continues, page-advances, page-empty, text-short, text-grows}
 use Rattle.show.specs.Answer.{printoutOf}
 use Rattle.show.proofs.Pages.{lines-short, few-lines}
 use Rattle.show.proofs.write_pages.Statement.{statement}
@@ -20,6 +21,9 @@ Inv-loop sheet refusal states entries finals page₀ size₀ from₀ page size f
 
 abbrev μ-loop : tie.MeasureT-loop
 μ-loop sheet refusal states entries finals page₀ size₀ from₀ page size from = placesOf (printoutOf sheet refusal states entries finals) - from
+
+not-both : {A : Type 0} → false ≡ true → A
+not-both e = absurd (let z : _≡_ {A = ℕ} 0 1 = cc in omega arith)
 
 -- What is printed.
 abbrev shown : (c : tie.At-loop Inv-loop μ-loop) → Printout
@@ -45,7 +49,7 @@ next-page-requires : tie.Need-next-page-requires Inv-loop μ-loop
 next-page-requires c κs = c .before .before .before .before .before .pre .0
 
 returns : tie.Need-returns Inv-loop μ-loop
-returns c = record { number = refl; handed = λ e. c .before .before .before .before .loop .inv .2 ∙ page-empty (outputAt (shown (c .before .before .before .before))) (c .before .before .next-page .ensures) (short (c .before .before .before .before)) (omega (arith, c .before .before .before .before .loop .inv .0)) (c .if1 .taken) (c .before .before .before .before .loop .inv .1) }
+returns c = record { number = refl; handed = λ e. c .before .before .before .before .loop .inv .2 ∙ page-empty (outputAt (shown (c .before .before .before .before))) (c .before .before .next-page .ensures) (short (c .before .before .before .before)) (omega (arith, c .before .before .before .before .loop .inv .0)) (c .if1 .taken) (c .before .before .before .before .loop .inv .1); cut = λ e. not-both (sym e) }
 
 array-share-prefix-page : tie.Need-array-share-prefix-page Inv-loop μ-loop
 array-share-prefix-page c = omega (arith, c .before .before .next-page .ensures .holds .room, c .before .before .next-page .kept .1 .1 .1 .1 .1 .1 .0)
@@ -57,7 +61,14 @@ write-all-requires : tie.Need-write-all-requires Inv-loop μ-loop
 write-all-requires c κs = tt
 
 returns-2 : tie.Need-returns-2 Inv-loop μ-loop
-returns-2 c = record { number = refl; handed = λ e. absurd (let z : _≡_ {A = ℕ} 0 1 = cc in omega arith) }
+returns-2 c =
+    let p = c .before .before .before .before .before .next-page .ensures in
+    let line = outputAt (shown (c .before .before .before .before .before .before .before)) in
+    record {
+      number = refl;
+      handed = not-both;
+      cut = λ e. omega (arith, c .before .before .before .before .before .before .before .loop .inv .2, c .before .before .before .if1 .left, page-continues line p, text-grows line (c .before .before .before .before .before .next-page .result .next) (placesOf (shown (c .before .before .before .before .before .before .before))) (p .holds .inside (c .before .before .before .before .before .before .before .loop .inv .1)));
+    }
 
 add-size : tie.Need-add-size Inv-loop μ-loop
 add-size c =
