@@ -103,9 +103,16 @@ def filled_difference(rows, filled, wanted):
 # ---- what the example prints
 
 
+LETTERS = "abcdefghij"
+
+
 def stream_name(number):
-    """A name for an added stream that no sheet of the vectors has."""
-    return "zz" + "".join("abcdefghij"[int(digit)] for digit in "%06d" % number)
+    """A name for an added stream that no sheet of the vectors has: its digits as letters."""
+    return "zz" + "".join(LETTERS[int(digit)] for digit in "%06d" % number)
+
+
+def stream_number(name):
+    return int("".join(str(LETTERS.index(letter)) for letter in name[2:]))
 
 
 def read_back(line, own):
@@ -113,8 +120,7 @@ def read_back(line, own):
     tokens = [Token(stream_name(int(token.text[1:])) if token.text[0] == "#" else token.text, token.place)
               for token in split_tokens(line.split(b", #")[0], 0)]
     entry, = constraint_readings(tokens)
-    digits = lambda name: int("".join(str("abcdefghij".index(letter)) for letter in name.group(1)))  # noqa: E731
-    return re.sub("zz([a-j]{6})", lambda name: "#%d" % (digits(name) - own), constraint_text(entry))
+    return re.sub("zz[a-j]{6}", lambda name: "#%d" % (stream_number(name.group()) - own), constraint_text(entry))
 
 
 def printed_difference(text, wanted):

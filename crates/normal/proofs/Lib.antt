@@ -13,5 +13,6 @@ pub mod StoredReading
 pub mod Saying
 pub mod Ranges
 pub mod Standing
+pub mod Replacing
 pub mod Solutions
 pub mod Sizes

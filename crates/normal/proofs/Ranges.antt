@@ -34,16 +34,16 @@ Some P [] = ⊥
 Some P (x ∷ xs) = P x ⊎ Some P xs
 
 module _ {X : Type 0} (P : X → Type 0) where
-  some-left : (xs ys : List X) → Some P xs → Some P (xs ++ ys)
+  pub some-left : (xs ys : List X) → Some P xs → Some P (xs ++ ys)
   some-left [] ys h = absurd h
   some-left (x ∷ xs) ys (inl p) = inl p
   some-left (x ∷ xs) ys (inr h) = inr (some-left xs ys h)
 
-  some-right : (xs ys : List X) → Some P ys → Some P (xs ++ ys)
+  pub some-right : (xs ys : List X) → Some P ys → Some P (xs ++ ys)
   some-right [] ys h = h
   some-right (x ∷ xs) ys h = inr (some-right xs ys h)
 
-some-map : {X Y : Type 0} {P : X → Type 0} (Q : Y → Type 0) (f : X → Y) → ((x : X) → P x → Q (f x)) → (xs : List X) → Some P xs → Some Q (map f xs)
+pub some-map : {X Y : Type 0} {P : X → Type 0} (Q : Y → Type 0) (f : X → Y) → ((x : X) → P x → Q (f x)) → (xs : List X) → Some P xs → Some Q (map f xs)
 some-map Q f g [] h = absurd h
 some-map Q f g (x ∷ xs) (inl p) = inl (g x p)
 some-map Q f g (x ∷ xs) (inr h) = inr (some-map Q f g xs h)

@@ -1,14 +1,16 @@
 -- What a record of the list says, from the sheet's text and the record alone: no number of a node is needed, and no reader's store.
 use Prim.Native.Nat.{ℕ, _-_, _≤_}
 use mathlib.Core.Path.{_≡_}
+use mathlib.Core.Bool.{Bool, true, false}
 use mathlib.Core.List.{List, [], _∷_}
 use lib.IntN.{pos}
 use lib.ListN.{length, getD}
 use Rattle.meaning.specs.Value.{equal}
-use Rattle.meaning.specs.Expression.{Expression, integer, name, first, next, comparison, Constraint, always, until, Sheet}
+use Rattle.meaning.specs.Expression.{Expression, integer, name, first, next, negation, binary, conditional, fby, comparison, Constraint, always, until, Sheet}
 use Rattle.meaning.specs.NormalForm.{rewritten, equation, allAdded}
 use Rattle.nodes.specs.Code.{signAt}
 use Rattle.sheet.specs.Form.{threeHeaderLines, lineTokens}
+use Rattle.scan.specs.declared.Span.{Span}
 use Rattle.spans.specs.Token.{span}
 use Rattle.spans.specs.Reading.{SpanReads}
 use Rattle.normal.specs.declared.Entry.{Entry}
@@ -42,3 +44,20 @@ standsFor s k = getD (allAdded (s .constraints)) (k - length (s .streams)) (inte
 -- The span at the left of a record that names a stream is the text of the expression that the stream stands for.
 pub record LeftStands (text : List ℕ) (s : Sheet) (r : Entry) : Type 0 where
   pub reads : 2 ≤ r .kind → SpanReads (lineTokens text (threeHeaderLines .namesLine)) text (span (r .«left_begin») (r .«left_end»)) (standsFor s (r .left))
+
+-- A whole `next` or `fby`.
+abbrev pub isReplaced : Expression → Bool
+isReplaced (integer z) = false
+isReplaced (name k) = false
+isReplaced (first e) = false
+isReplaced (next e) = true
+isReplaced (negation e) = false
+isReplaced (binary o a b) = false
+isReplaced (conditional c a b) = false
+isReplaced (fby a b) = true
+
+-- The record marks its left span as one whose text its stream replaces.
+pub record Replaces (r : Entry) (x : Span) : Type 0 where
+  pub marked : r .replaces ≡ 1
+  pub begin : r .«left_begin» ≡ x .start
+  pub end : r .«left_end» ≡ x .end
