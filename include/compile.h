@@ -31,7 +31,7 @@
  *
  * The stack
  *
- * A call takes at most COMPILE_STACK bytes of the caller's stack, whatever the sheet and the tables are. On less the
+ * A call takes at most COMPILE_STACK bytes of the caller's stack, measured on the sheets that go deepest. On less the
  * caller crashes.
  */
 #ifndef COMPILE_H

@@ -2,8 +2,8 @@
  *
  * Link with the archive that `rt staticlib normal_c` writes, target/staticlib/libnormal_c.a. It is for x86-64 Linux and
  * needs `memcpy` and `memset` of the C library, no mathematics library and no threads. It allocates nothing, keeps no
- * state of its own, and always returns. A call takes at most NORMAL_FORM_STACK bytes of the caller's stack, whatever the
- * sheet and the list are; on less the caller crashes.
+ * state of its own, and always returns. A call takes at most NORMAL_FORM_STACK bytes of the caller's stack, measured on
+ * the sheets that go deepest; on less the caller crashes.
  *
  * The sheet's bytes and the list are each a pointer, which is not null, and the number of elements there; the two do not
  * overlap.
@@ -25,7 +25,7 @@
  * the text of a side that holds it the stream stands in its place, the longest such one where several begin at one place,
  * parted by a space from what follows.
  * `left_added` and `right_added` are the numbers of the first streams that rewriting the left and the right side adds.
- * `stream_kind` is the kind of stream `left`, always 0 today. All else is 0.
+ * `stream_kind` is the kind of stream `left`, always 0. All else is 0.
  *
  * examples/print_normal.c prints the entries of a sheet.
  */

@@ -31,7 +31,7 @@ pub record IsUntouched (before after : Lent) (full : Bool) (count : ℕ) : Type 
   pub same : after ≡ before
 
 module _ (A : Arithmetic) (K : Store) (letters limit : ℕ) (before after : Lent) where
-  -- What the exploration hands on before anything is cleared. `ready` says whether the sheet can be explored in the tables.
+  -- What the exploration leaves before anything is cleared. `ready` says whether the sheet can be explored in the tables.
   pub record Explores (ready full : Bool) (count : ℕ) : Type 0 where
     pub answer : Says ready (IsExplorable K letters limit before)
     pub searched : ready ≡ true → Searched A K letters limit (everyMark 0 (K .relations)) (after .keys) (after .entries) (after .flags) full count

@@ -1,4 +1,4 @@
--- Chains of rows: a chain leads through earlier rows, and a row that is hung into one leaves the others as they are.
+-- Chains of rows: a chain leads through earlier rows, and a row that is put into one leaves the others as they are.
 use mathlib.Core.Path.{_≡_, refl, sym, ap, ap₂, subst, _∙_}
 use mathlib.Core.Logic.{_⊎_, inl, inr, _≢_}
 use mathlib.Core.List.{List}

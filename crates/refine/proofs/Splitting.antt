@@ -201,11 +201,11 @@ module _ {letters : ℕ} {entries class shared next heads links : List ℕ} {cha
       own-next i q = rw q (getD-set-same next n v 0 inside ∙ s .own)
 
       sound : (j i : ℕ) → OnChain links″ (getD heads″ j 0) i → getD (set next n v) i 0 ≡ suc i
-      sound j i = on-head (λ x. OnChain links″ x i → getD (set next n v) i 0 ≡ suc i) j (λ q d. hung (chain-rest links″ n d)) (λ q d. old-next j i (chain-old j i d))
+      sound j i = on-head (λ x. OnChain links″ x i → getD (set next n v) i 0 ≡ suc i) j (λ q d. on-new-chain (chain-rest links″ n d)) (λ q d. old-next j i (chain-old j i d))
         where
-          hung : (i ≡ n) ⊎ OnChain links″ (getD links″ n 0) i → getD (set next n v) i 0 ≡ suc i
-          hung (inl q) = own-next i q
-          hung (inr d) = old-next k i (chain-old k i (rw link-new at d))
+          on-new-chain : (i ≡ n) ⊎ OnChain links″ (getD links″ n 0) i → getD (set next n v) i 0 ≡ suc i
+          on-new-chain (inl q) = own-next i q
+          on-new-chain (inr d) = old-next k i (chain-old k i (rw link-new at d))
 
       old : (i : ℕ) → i < n → OnChain links (getD heads (row-bucket (length class) letters entries class i) 0) i → OnChain links″ (getD heads″ (row-bucket (length class) letters entries class i) 0) i
       old i hi d = on-head (λ x. OnChain links″ x i) (row-bucket (length class) letters entries class i)
@@ -218,7 +218,7 @@ module _ {letters : ℕ} {entries class shared next heads links : List ℕ} {cha
       new : OnChain links″ (getD heads″ (row-bucket (length class) letters entries class n) 0) n
       new = here (ap (λ x. getD heads″ x 0) class-bucket ∙ head-new)
 
-      -- no earlier row has the signature of row n: the first row of its signature would hang in the chain
+      -- no earlier row has the signature of row n: the first row of its signature would stand in the chain
       earlier : (j : ℕ) → j < n → ¬ SameSignature letters entries class j n
       earlier j hj q =
           let f = I .split .first j hj (rw (q .here) p) in

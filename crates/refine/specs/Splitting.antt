@@ -1,6 +1,6 @@
 -- One round of splitting classes. The classes of the round before do not change while it goes through the rows: each row gets
--- the first row with its signature. Rows that begin a new class hang in chains, one for each bucket: `heads` has one more than
--- the row last hung there, `links` one more than the row before it, 0 for none.
+-- the first row with its signature. Rows that begin a new class stand in chains, one for each bucket: `heads` has one more than
+-- the row last put there, `links` one more than the row before it, 0 for none.
 use mathlib.Core.Path.{_≡_}
 use mathlib.Core.Logic.{_⊎_, _≢_}
 use mathlib.Core.Bool.{Bool, true, false}
@@ -10,7 +10,7 @@ use lib.ListN.{getD, length, set}
 use Rattle.marks.specs.Marks.{Marked}
 use Rattle.refine.specs.Signatures.{SameSignature, row-bucket}
 
--- row i hangs in the chain that begins with row j - 1, or in none if j is 0
+-- row i stands in the chain that begins with row j - 1, or in none if j is 0
 pub data OnChain (links : List ℕ) : ℕ → ℕ → Type 0 where
   here : {j i : ℕ} → j ≡ suc i → OnChain links j i
   further : {j i : ℕ} (r : ℕ) → j ≡ suc r → OnChain links (getD links r 0) i → OnChain links j i
@@ -32,7 +32,7 @@ pub record Joins (letters : ℕ) (entries class heads links heads′ links′ : 
   pub heads-kept : heads′ ≡ heads
   pub links-kept : links′ ≡ links
 
--- row s begins a new class, and hangs in its bucket's chain
+-- row s begins a new class, and is put into its bucket's chain
 pub record Begins (letters : ℕ) (entries class heads links heads′ links′ : List ℕ) (s v : ℕ) : Type 0 where
   pub own : v ≡ suc s
   pub none : (i : ℕ) → OnChain links (getD heads (row-bucket (length heads) letters entries class s) 0) i → ¬ SameSignature letters entries class i s

@@ -33,7 +33,7 @@ pub record Splittable (letters : ℕ) (entries class heads links : List ℕ) (ro
   pub heads-most : (k : ℕ) → getD heads k 0 ≤ row
   pub falling : Falling links
 
--- before a round: no row hangs in a chain
+-- before a round: no row stands in a chain
 pub record IsSized (letters : ℕ) (entries class shared next heads links : List ℕ) : Type 0 where
   pub few : length class < 65536
   pub entries-fit : length class * letters ≤ length entries
@@ -57,7 +57,7 @@ pub record Rounds (letters : ℕ) (entries class next heads links shared : List 
   pub low : (s : ℕ) → getD class s 0 ≤ suc s
   pub falling : Falling links
 
--- "work tables are zero after every call"
+-- After a refinement the work tables are zero.
 pub record IsRefinement (letters : ℕ) (entries live finals class next heads links shared class′ next′ heads′ links′ shared′ : List ℕ) : Type 0 where
   pub class-length : length class′ ≡ length class
   pub refined : Refined letters entries live finals class′

@@ -128,6 +128,9 @@ header-lines text {a} {b} {c} x y z {w} e =
     let second : lines (drop (a .next) text) ≡ drop 1 (lines text) = line-rest x (omega arith) in
     let third : lines (drop (b .next) text) ≡ drop 2 (lines text) = line-rest y (p .within) ∙ ap (drop 1) second ∙ drop-drop 1 1 (lines text) in
     record {
+      firstLine = x;
+      secondLine = y;
+      thirdLine = z;
       names = line-first x (omega arith);
       namesWithin = let m = p .ordered in let n = p .within in omega arith;
       lows = line-first y (p .within) ∙ ap (λ ls. getD ls 0 []) second ∙ getD-drop 1 (lines text) 0 [];

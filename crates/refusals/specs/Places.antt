@@ -8,11 +8,14 @@ use lib.ListN.{length, drop, getD}
 use Rattle.text.specs.Bytes.{lines}
 use Rattle.sheet.specs.Refusal.{constraintBound, tokenBound, tokenCount}
 use Rattle.sheet.specs.Reading.{anyOf, tooDeepFrom}
-use Rattle.scan.specs.Place.{between}
+use Rattle.scan.specs.Place.{between, LineAt}
 use Rattle.refusals.specs.declared.Header.{Header}
 
--- The places are those of the first three lines, a missing line without bytes, and of the lines after them.
+-- The places are those of the first three lines, each found behind the one before it, a missing line without bytes, and of the lines after them.
 pub record HeaderOf (text : List ℕ) (h : Header) : Type 0 where
+  pub firstLine : LineAt text 0 (record { end = h .«names_end»; next = h .«lows_start» })
+  pub secondLine : LineAt text (h .«lows_start») (record { end = h .«lows_end»; next = h .«highs_start» })
+  pub thirdLine : LineAt text (h .«highs_start») (record { end = h .«highs_end»; next = h .constraints })
   pub names : between text 0 (h .«names_end») ≡ getD (lines text) 0 []
   pub namesWithin : h .«names_end» ≤ length text
   pub lows : between text (h .«lows_start») (h .«lows_end») ≡ getD (lines text) 1 []

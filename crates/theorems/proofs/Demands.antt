@@ -182,7 +182,7 @@ module _ {text : List ℕ} {room : Room} {a : CompileAnswer} {t : Tables} (call 
         go (inl x) = (λ e. x .1, λ f. x .0)
         go (inr x) = (λ e. absurd (omega (arith, x .0)), λ f. absurd (has-solution (x .2 .table .table) (λ w b h. f _ (h .solves))))
 
--- The sheet of which this speaks: there is one, and only one.
+-- There is one sheet that the text has the form of, and only one.
 pub one-form : {text : List ℕ} {room : Room} → NoneApplies text room → (s : Sheet) × HasForm threeHeaderLines text s × ((q : Sheet) → HasForm threeHeaderLines text q → q ≡ s)
 one-form {text} none = go (form-decided threeHeaderLines text)
   where

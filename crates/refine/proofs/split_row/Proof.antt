@@ -1,4 +1,4 @@
--- `refine::split_row` meets its contract: the chain of the row's bucket is searched, and the row is hung into it if no row of it
+-- `refine::split_row` meets its contract: the chain of the row's bucket is searched, and the row is put into it if no row of it
 -- has its signature.
 use Prim.Native.Nat.{ℕ, suc, _≤_, _<_, _-_, _+_, _*_}
 use mathlib.Core.Path.{_≡_, refl, ap, _∙_}
