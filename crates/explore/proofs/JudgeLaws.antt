@@ -1,52 +1,19 @@
--- What the signs ask of values that went through locals; and constraints judged one after the other: what one turn of the loop makes of the marks told so far. From the
--- definitions in specs/Step and specs/Marking, and the machine's numbers (arithmetic).
-use Prim.Native.Nat.{ℕ, zero, suc, _+_, _-_, _*_, _/_, _^_, _≤_, _<_}
+-- Constraints judged one after the other: what one turn of the loop makes of the marks so far. From the definitions in specs/Step and specs/Marking.
+use Prim.Native.Nat.{ℕ, suc, _+_, _-_, _*_, _/_, _^_, _≤_, _<_}
 use native.Mathlib.Omega.{arith}
 use native.Mathlib.Numerals.{add-one}
 use native.Mathlib.Nat.{mul-add, mul-assoc, mul-zero, add-zero, pow-suc}
 use lib.Pow.{pow-mono}
-use mathlib.Core.Path.{_≡_, refl, sym, _∙_, ap, subst}
-use mathlib.Core.Bool.{Bool, true, false, cond, not, _||_}
+use mathlib.Core.Path.{_≡_, refl, sym, _∙_, ap}
+use mathlib.Core.Bool.{Bool, true, false, cond, _||_}
 use mathlib.Core.List.{List}
-use lib.IntN.{ℤ}
-use lib.ListN.{length, getD, List·getD-eq-default}
-use mir.Syntax.{w64}
-use mir.Val.{SFits}
-use mir.ValLaws.{toZ-ofZ}
-use native.Mathlib.Decide.{ℕ-discrete}
+use lib.ListN.{length, getD}
 use borrow.Author.Tests.{eq-eqb, ne-eqb}
 use Rattle.meaning.specs.Value.{Value, truth}
-use Rattle.meaning.specs.Expression.{implies, holds}
-use Rattle.nodes.specs.Code.{signs, signAt}
-use Rattle.arithmetic.proofs.Machine.{held, held-both}
 use Rattle.explore.specs.Step.{unlawful, marked, withDigit, untilDone, untilPermitted, signHolds, judgedFrom}
 use Rattle.explore.specs.Marking.{begun, grown, joined}
 use Rattle.explore.specs.declared.judge.Judged.{Judged}
 use Rattle.explore.specs.declared.judge.Marking.{Marking}
-
--- ---- signs
-
--- A value that goes through a local or an argument stays what it is, and so does what a test says of it.
-pub implied-so : (a b : ℤ) → SFits w64 a → SFits w64 b → {p q : Bool} → p ≡ truth (held a) → p ≡ true → q ≡ truth (held b) → q ≡ holds implies a b
-implied-so a b fa fb e h f =
-    let x : truth a ≡ true = ap truth (sym (toZ-ofZ w64 a fa)) ∙ sym e ∙ h in
-    f ∙ ap truth (toZ-ofZ w64 b fb) ∙ sym (simp x)
-
-pub implied-else : (a b : ℤ) → SFits w64 a → {p : Bool} → p ≡ truth (held a) → p ≡ false → true ≡ holds implies a b
-implied-else a b fa e h = let x : truth a ≡ false = ap truth (sym (toZ-ofZ w64 a fa)) ∙ sym e ∙ h in sym (simp x)
-
-pub sign-kind : {k : ℕ} {a b : ℤ} {r : Bool} (n : ℕ) → k ≡ n → SFits w64 a → SFits w64 b → r ≡ holds (signAt n) (held a) (held b) → r ≡ holds (signAt k) a b
-sign-kind {k} {a} {b} n e fa fb h = h ∙ held-both (holds (signAt n)) a b fa fb ∙ ap (λ i. holds (signAt i) a b) (sym e)
-
-signAt-last : (k : ℕ) → 6 ≤ k → signAt k ≡ implies
-signAt-last k h = by (ℕ-discrete k 6)
-  where
-    by : Dec (k ≡ 6) → signAt k ≡ implies
-    by (yes e) = ap signAt e
-    by (no e) = List·getD-eq-default signs implies {n = k} (omega arith)
-
-pub sign-last : {k : ℕ} {a b : ℤ} {r : Bool} → 6 ≤ k → SFits w64 a → SFits w64 b → r ≡ holds implies (held a) (held b) → r ≡ holds (signAt k) a b
-sign-last {k} {a} {b} l fa fb h = h ∙ held-both (holds implies) a b fa fb ∙ ap (λ s. holds s a b) (sym (signAt-last k l))
 
 -- ---- marks
 

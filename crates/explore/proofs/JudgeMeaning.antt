@@ -14,7 +14,8 @@ use Rattle.meaning.specs.Window.{allUntils}
 use Rattle.nodes.specs.Code.{relationCode, signCode, signAt}
 use Rattle.nodes.proofs.SignCodes.{sign-code}
 use Rattle.explore.specs.Key.{digit, marksNumber}
-use Rattle.explore.specs.Step.{odd, unlawful, marked, withDigit, judgedFrom}
+use Rattle.sides.specs.Mark.{odd}
+use Rattle.explore.specs.Step.{unlawful, marked, withDigit, judgedFrom}
 use Rattle.explore.specs.declared.judge.Judged.{Judged}
 
 first-digit : (b : Bool) (m : ℕ) → odd (digit b + 2 * m) ≡ b

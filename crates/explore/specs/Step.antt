@@ -1,6 +1,6 @@
 -- One more letter after the record of a key, over stored nodes: whether the longer record is lawful, and its key. "Lawful", "letter", "first"
 -- and "until" are document 01's terms. These functions can be run; the crate's laws say that they agree with `lawful` and `keyOf`.
-use Prim.Native.Nat.{ℕ, zero, suc, _+_, _-_, _*_, _/_, _%_, _≤_, _<_, min}
+use Prim.Native.Nat.{ℕ, zero, suc, _+_, _-_, _*_, _/_, _≤_, _<_, min}
 use mathlib.Core.Path.{_≡_}
 use mathlib.Core.Bool.{Bool, true, false, cond, _||_}
 use mathlib.Core.List.{List, [], _∷_, _++_, map}
@@ -12,6 +12,7 @@ use Rattle.meaning.specs.Arithmetic.{Arithmetic}
 use Rattle.meaning.specs.Expression.{holds}
 use Rattle.nodes.specs.Code.{signAt}
 use Rattle.nodes.specs.Evaluate.{Nodes, stored, View, view, nodeValue}
+use Rattle.sides.specs.Mark.{odd}
 use Rattle.explore.specs.Chains.{keySize}
 use Rattle.explore.specs.Key.{letterRoom, firstRoom, encoded, raised, lowered, digit, sizeIn, lettersIn, firstsIn, marksIn}
 use Rattle.explore.specs.declared.judge.Judged.{Judged}
@@ -50,9 +51,6 @@ unlawful = record { ok = false; marks = 0 }
 
 abbrev pub marked : ℕ → Judged
 marked m = record { ok = true; marks = m }
-
-abbrev pub odd : ℕ → Bool
-odd m = eqb (m % 2) 1
 
 -- the answer for what comes later, with a digit before its marks
 abbrev pub withDigit : Bool → Judged → Judged

@@ -1,11 +1,11 @@
 // Reading a key, and writing the key of a record with one more letter.
 use crate::chains::put;
-use crate::judge::value_of;
 use arithmetic::in_bound;
+use sides::value_of;
 ghost use mathlib.Core.Path.{_≡_};
 ghost use mathlib.Core.List.{[], _∷_, _++_, map};
 ghost use Prim.Native.Nat.{ℕ, _+_, _*_, _<_, _≤_};
-ghost use lib.ListN.{length, getD, take, drop};
+ghost use lib.ListN.{length, getD, take};
 ghost use lib.Seq.{paste};
 ghost use Rattle.meaning.specs.Arithmetic.{cutTowardZero};
 ghost use Rattle.nodes.specs.Evaluate.{stored, view, nodeValue};

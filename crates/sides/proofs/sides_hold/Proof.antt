@@ -5,8 +5,8 @@ use mir.ValLaws.{toZ-ofZ}
 use Rattle.meaning.specs.Expression.{holds}
 use Rattle.nodes.specs.Code.{signAt}
 use borrow.Author.Needs.{needs}
-use Rattle.explore.proofs.judge.sides_hold.Statement.{statement}
-use Rattle.explore.proofs.judge.sides_hold.Tie as tie
+use Rattle.sides.proofs.sides_hold.Statement.{statement}
+use Rattle.sides.proofs.sides_hold.Tie as tie
 
 value-of-requires : tie.Need-value-of-requires
 value-of-requires c κs = search needs

@@ -1,8 +1,8 @@
 -- `judge::implied` meets its contract, by its test.
-use Rattle.explore.proofs.JudgeLaws.{implied-so, implied-else}
+use Rattle.sides.proofs.Signs.{implied-so, implied-else}
 use borrow.Author.Needs.{needs}
-use Rattle.explore.proofs.judge.implied.Statement.{statement}
-use Rattle.explore.proofs.judge.implied.Tie as tie
+use Rattle.sides.proofs.implied.Statement.{statement}
+use Rattle.sides.proofs.implied.Tie as tie
 
 truth-requires : tie.Need-truth-requires
 truth-requires c κs = search needs

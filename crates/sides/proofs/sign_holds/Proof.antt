@@ -2,10 +2,10 @@
 use mathlib.Core.Path.{ap}
 use mathlib.Core.Bool.{not}
 use native.Mathlib.Omega.{arith}
-use Rattle.explore.proofs.JudgeLaws.{sign-kind, sign-last}
+use Rattle.sides.proofs.Signs.{sign-kind, sign-last}
 use borrow.Author.Needs.{needs}
-use Rattle.explore.proofs.judge.sign_holds.Statement.{statement}
-use Rattle.explore.proofs.judge.sign_holds.Tie as tie
+use Rattle.sides.proofs.sign_holds.Statement.{statement}
+use Rattle.sides.proofs.sign_holds.Tie as tie
 
 less-requires : tie.Need-less-requires
 less-requires c κs = search needs

@@ -5,8 +5,8 @@ use borrow.Author.Tests.{eq-eqb, ne-eqb}
 use borrow.Author.Needs.{needs}
 use Rattle.meaning.specs.Value.{truth}
 use Rattle.arithmetic.proofs.Machine.{bits-not-zero}
-use Rattle.explore.proofs.judge.is_done.Statement.{statement}
-use Rattle.explore.proofs.judge.is_done.Tie as tie
+use Rattle.sides.proofs.is_done.Statement.{statement}
+use Rattle.sides.proofs.is_done.Tie as tie
 
 returns : tie.Need-returns
 returns c = sym (simp (eq-eqb (c .before .args .marks % 2) 1 (c .if1 .taken)))

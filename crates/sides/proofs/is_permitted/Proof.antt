@@ -4,8 +4,8 @@ use mir.Syntax.{w64}
 use mir.ValLaws.{toZ-ofZ}
 use Rattle.meaning.specs.Value.{truth}
 use borrow.Author.Needs.{needs}
-use Rattle.explore.proofs.judge.is_permitted.Statement.{statement}
-use Rattle.explore.proofs.judge.is_permitted.Tie as tie
+use Rattle.sides.proofs.is_permitted.Statement.{statement}
+use Rattle.sides.proofs.is_permitted.Tie as tie
 
 returns : tie.Need-returns
 returns c = search needs

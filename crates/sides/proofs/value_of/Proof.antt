@@ -4,8 +4,8 @@ use native.Mathlib.Omega.{arith}
 use mir.Syntax.{w64}
 use mir.ValLaws.{toZ-ofZ}
 use borrow.Author.Needs.{needs}
-use Rattle.explore.proofs.judge.value_of.Statement.{statement}
-use Rattle.explore.proofs.judge.value_of.Tie as tie
+use Rattle.sides.proofs.value_of.Statement.{statement}
+use Rattle.sides.proofs.value_of.Tie as tie
 
 evaluate-requires : tie.Need-evaluate-requires
 evaluate-requires c κs = search needs
