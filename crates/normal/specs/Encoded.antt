@@ -1,12 +1,13 @@
 -- The records of the entries of a sheet's normal form (document 01, "Intervals and the normal form": "Each entry of the normal form is one record in a
--- lent list."). specs/Says has what a record says. A span is a pair of places of the sheet's text, `begin` and `end`: the text of an expression, from the
+-- lent list."). specs/Says has what a record says; the entries are those of 000,
+-- section 3.1. A span is a pair of places of the sheet's text, `begin` and `end`: the text of an expression, from the
 -- first byte of its first token to behind the last byte of its last token, without brackets around it. A record's fields:
 --   kind 1: a rewritten constraint. `relation` is the code of its sign; `left_begin` and `left_end`, `right_begin` and `right_end` are the spans of its
 --           sides, `left_added` and `right_added` the numbers of the first streams that rewriting the sides adds.
---   kind 2: "x₁ until x₂". `left` and `right` are the streams' numbers, `relation` is 7, the code of `until`.
---   kind 3: "x₂ == expr", the expression rewritten. `left` is the stream's number, `right_begin` and `right_end` are the expression's span and
+--   kind 2: `x₁ until x₂`. `left` and `right` are the streams' numbers, `relation` is 7, the code of `until`.
+--   kind 3: `x₂ == expr`, the expression rewritten. `left` is the stream's number, `right_begin` and `right_end` are the expression's span and
 --           `right_added` the number of the first stream that rewriting it adds.
---   kind 4: "x₁ == next x₂", and kind 5: "first x₁ == first x₂". `left` and `right` are the streams' numbers.
+--   kind 4: `x₁ == next x₂`, and kind 5: `first x₁ == first x₂`. `left` and `right` are the streams' numbers.
 -- In kinds 3 to 5 `relation` is 2, the code of ==. In kinds 2 to 5 `left_begin` and `left_end` are the span of the expression that the stream `left`
 -- stands for, and `low` and `high` its range. `replaces` is 1 where the stream was added for the whole of a `next` or `fby`: its name replaces the text of
 -- the span in the other entries. `stream_kind` has the place of the kind of the stream `left`; there is one kind, 0. All else is 0.

@@ -14,7 +14,7 @@ leftIsNode kind = eqb kind 1
 abbrev pub rightIsNode : ℕ → Bool
 rightIsNode kind = eqb kind 1 || eqb kind 3
 
--- "x₁ == next x₂", where x₁ stands for a whole `next`, and "first x₁ == first x₂", where x₁ stands for a whole `fby`. In the other entry of kind 4, that
+-- `x₁ == next x₂`, where x₁ stands for a whole `next`, and `first x₁ == first x₂`, where x₁ stands for a whole `fby`. In the other entry of kind 4, that
 -- of `fby`, the left stream stands for the right side, and its number is the larger.
 abbrev pub replacesIn : ℕ → ℕ → ℕ → ℕ
 replacesIn kind left right = cond (eqb kind 5 || (eqb kind 4 && ltb left right)) 1 0

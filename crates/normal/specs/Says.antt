@@ -1,4 +1,5 @@
--- What a record of the list says, from the sheet's text and the record alone: no number of a node is needed, and no reader's store.
+-- What a record of the list says, from the sheet's text and the record alone: no number of a node is needed, and no reader's store. The entries are
+-- those of 000, section 3.1.
 use Prim.Native.Nat.{ℕ, _-_, _≤_}
 use mathlib.Core.Path.{_≡_}
 use mathlib.Core.Bool.{Bool, true, false}
@@ -23,13 +24,13 @@ pub data Says (text : List ℕ) (r : Entry) : Constraint → Type 0 where
   -- a rewritten constraint
   constraint : {a b : Expression} → r .kind ≡ 1 → SideSays text (r .«left_begin») (r .«left_end») (r .«left_added») a → SideSays text (r .«right_begin») (r .«right_end») (r .«right_added») b
       → Says text r (always (signAt (r .relation)) a b)
-  -- "x₁ until x₂"
+  -- `x₁ until x₂`
   streamsUntil : r .kind ≡ 2 → Says text r (until (name (r .left)) (name (r .right)))
-  -- "x₂ == expr"
+  -- `x₂ == expr`
   streamIs : {b : Expression} → r .kind ≡ 3 → SideSays text (r .«right_begin») (r .«right_end») (r .«right_added») b → Says text r (equation (r .left) b)
-  -- "x₁ == next x₂"
+  -- `x₁ == next x₂`
   streamIsNext : r .kind ≡ 4 → Says text r (equation (r .left) (next (name (r .right))))
-  -- "first x₁ == first x₂"
+  -- `first x₁ == first x₂`
   firstsEqual : r .kind ≡ 5 → Says text r (always (comparison equal) (first (name (r .left))) (first (name (r .right))))
 
 -- The records say the constraints, one by one.

@@ -94,7 +94,7 @@ fn put_row(
     table[at + 6] = source as u16;
 }
 
-// "x₂ == expr", of the expression that ends before `end` and adds streams from `added` on
+// `x₂ == expr`, of the expression that ends before `end` and adds streams from `added` on
 fn put_equation(table: &mut [u16; 30944], row: usize, stream: usize, end: usize, added: usize)
     requires { ⌜ (row < rowBound) × (stream < 65536) × (end < 65536) × (added < 65536) ⌝ }
     ensures { λ r. ⌜ now (table .exit) ≡ putRows (now (table .entry)) row (equationRow stream end added ∷ []) ⌝ }
