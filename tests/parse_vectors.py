@@ -1,5 +1,5 @@
 #!/usr/bin/env python3
-"""Writes the standard input of the program `parse_try` and the output that it must give.
+"""Writes the standard input of the program `parse_vectors` and the output that it must give.
 
 usage: parse_vectors.py ENUMERATOR SHEETS FOLDER
 

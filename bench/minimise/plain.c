@@ -1,4 +1,4 @@
-// The passes of `minimise` (crates/minimise, marks, refine) as a plain C program.
+// The passes of `minimise` (crates/minimise and those that it names) as a plain C program.
 #include "plain.h"
 #include <string.h>
 
@@ -23,21 +23,22 @@ static int has_marked(const tables *t, size_t s, const uint32_t *marks) {
     return 0;
 }
 
-static void prune(const tables *t, uint32_t *marks) {
-    int changed = 1;
-    while (changed) {
+// Turns marks to 1 where a row has a marked successor, or to 0 where it has none: down and up the rows by turns, until nothing changes.
+static int turns(const tables *t, size_t s, const uint32_t *marks, int to) { return (marks[s] == 1) != to && has_marked(t, s, marks) == to; }
+
+static void sweeps(const tables *t, uint32_t *marks, int to) {
+    for (int changed = 1; changed;) {
         changed = 0;
-        for (size_t s = t->rows; s-- > 0;) if (marks[s] == 1 && !has_marked(t, s, marks)) { marks[s] = 0; changed = 1; }
+        for (size_t s = t->rows; s-- > 0;) if (turns(t, s, marks, to)) { marks[s] = to; changed = 1; }
+        if (!changed) return;
+        changed = 0;
+        for (size_t s = 0; s < t->rows; s++) if (turns(t, s, marks, to)) { marks[s] = to; changed = 1; }
     }
 }
 
-static void grow(const tables *t, uint32_t *marks) {
-    int changed = 1;
-    while (changed) {
-        changed = 0;
-        for (size_t s = t->rows; s-- > 0;) if (marks[s] != 1 && has_marked(t, s, marks)) { marks[s] = 1; changed = 1; }
-    }
-}
+static void prune(const tables *t, uint32_t *marks) { sweeps(t, marks, 0); }
+
+static void grow(const tables *t, uint32_t *marks) { sweeps(t, marks, 1); }
 
 static uint32_t class_at(const uint32_t *class, size_t rows, uint16_t u) { return u < rows ? class[u] : 0; }
 

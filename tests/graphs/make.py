@@ -1,6 +1,6 @@
 #!/usr/bin/env python3
 """Makes small graphs, computes the table of each by sets and Moore's refinement on dictionaries, and writes the files `stdin`
-and `stdout` of the crate `graphs` below the folder of crates that it is given: python3 tests/graphs/make.py CRATES"""
+and `stdout` of the crate `minimise_vectors` below the folder of crates that it is given: python3 tests/graphs/make.py CRATES"""
 import os
 import random
 import sys
@@ -193,7 +193,7 @@ def cases():
 
 
 def main(crates):
-    folder = os.path.join(crates, "graphs")
+    folder = os.path.join(crates, "minimise_vectors")
     os.makedirs(folder, exist_ok=True)
     lines, answers = [str(len(cases()))], []
     for letters, rows, entries, flags, works in cases():

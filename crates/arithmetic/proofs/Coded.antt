@@ -11,8 +11,8 @@ use borrow.Author.Tests.{le-leb}
 use mir.Syntax.{w64}
 use mir.Val.{SFits}
 use mir.ValLaws.{toZ-ofZ}
-use Rattle.meaning.specs.Value.{truth, bit}
-use Rattle.meaning.specs.Arithmetic.{divide, remainder, or, apply, cutTowardZero}
+use Rattle.meaning.specs.Value.{nonzero, bit}
+use Rattle.meaning.specs.Arithmetic.{divide, remainder, or, apply}
 use Rattle.meaning.proofs.Arithmetic.{natAbs-quotZ, natAbs-remZ}
 use Rattle.nodes.specs.Bounded.{inBound, Small, noValue, someValue, bounded, operatorAt, appliedByKind}
 use Rattle.nodes.specs.declared.Evaluated.{Evaluated}
@@ -42,9 +42,9 @@ decodes-bounded z = by (inBound z) refl
     by true e = simp e
     by false e = refl
 
-pub decodes-applied : (k : ℕ) (a b : ℤ) → Decodes (appliedByKind cutTowardZero k a b)
+pub decodes-applied : (k : ℕ) (a b : ℤ) → Decodes (appliedByKind k a b)
 decodes-applied k a b =
-    decodes-cond (leb 7 k && ltb k 20) (decodes-cond (inBound a && inBound b) (decodes-bounded (apply cutTowardZero (operatorAt k) a b)) decodes-none) decodes-none
+    decodes-cond (leb 7 k && ltb k 20) (decodes-cond (inBound a && inBound b) (decodes-bounded (apply (operatorAt k) a b)) decodes-none) decodes-none
 
 -- ---- results that need no test
 
@@ -57,18 +57,18 @@ bit-within false = refl
 
 module _ (a b : ℤ) (s : Small a) where
   -- A quotient or remainder z, and 0 by 0.
-  divided-within : (z : ℤ) → natAbs z ≤ natAbs a → inBound (cond (truth b) z (pos 0)) ≡ true
-  divided-within z h = by (truth b)
+  divided-within : (z : ℤ) → natAbs z ≤ natAbs a → inBound (cond (nonzero b) z (pos 0)) ≡ true
+  divided-within z h = by (nonzero b)
     where
       by : (t : Bool) → inBound (cond t z (pos 0)) ≡ true
       by true = le-leb (natAbs z) 1000000000 (omega arith)
       by false = refl
 
-  pub quotient-within : inBound (apply cutTowardZero divide a b) ≡ true
+  pub quotient-within : inBound (apply divide a b) ≡ true
   quotient-within = divided-within (quotZ a b) (rw natAbs-quotZ (div-le-self (natAbs a) (natAbs b)))
 
-  pub modulus-within : inBound (apply cutTowardZero remainder a b) ≡ true
-  modulus-within = divided-within (remZ a b) (rw natAbs-remZ (mod-le (natAbs a) (natAbs b)))
+  pub remainder-within : inBound (apply remainder a b) ≡ true
+  remainder-within = divided-within (remZ a b) (rw natAbs-remZ (mod-le (natAbs a) (natAbs b)))
 
 -- ---- numbers that a call gave
 
@@ -84,15 +84,15 @@ held-decoded e f h d = ap bounded (held-result f h) ∙ d
 
 module _ {k : ℕ} {a b r : ℤ} (fa : SFits w64 a) (fb : SFits w64 b) (fr : SFits w64 r) where
   -- A result that is tested.
-  pub tested-kind : {x : ℤ} (n : ℕ) → k ≡ n → r ≡ apply cutTowardZero (operatorAt n) (held a) (held b) → SFits w64 x → x ≡ coded (bounded (held r))
-      → held x ≡ coded (bounded (apply cutTowardZero (operatorAt k) a b))
+  pub tested-kind : {x : ℤ} (n : ℕ) → k ≡ n → r ≡ apply (operatorAt n) (held a) (held b) → SFits w64 x → x ≡ coded (bounded (held r))
+      → held x ≡ coded (bounded (apply (operatorAt k) a b))
   tested-kind n e h fx q = held-result fx (q ∙ ap (λ z. coded (bounded z)) (applied-kind n e fa fb fr h))
 
   -- A result that is within the bound without a test.
-  pub within-kind : (n : ℕ) → k ≡ n → inBound (apply cutTowardZero (operatorAt n) a b) ≡ true → r ≡ apply cutTowardZero (operatorAt n) (held a) (held b)
-      → held r ≡ coded (bounded (apply cutTowardZero (operatorAt k) a b))
-  within-kind n e w h = applied-kind n e fa fb fr h ∙ coded-within _ (ap (λ i. inBound (apply cutTowardZero (operatorAt i) a b)) e ∙ w)
+  pub within-kind : (n : ℕ) → k ≡ n → inBound (apply (operatorAt n) a b) ≡ true → r ≡ apply (operatorAt n) (held a) (held b)
+      → held r ≡ coded (bounded (apply (operatorAt k) a b))
+  within-kind n e w h = applied-kind n e fa fb fr h ∙ coded-within _ (ap (λ i. inBound (apply (operatorAt i) a b)) e ∙ w)
 
-  pub within-last : 19 ≤ k → r ≡ apply cutTowardZero or (held a) (held b) → held r ≡ coded (bounded (apply cutTowardZero (operatorAt k) a b))
+  pub within-last : 19 ≤ k → r ≡ apply or (held a) (held b) → held r ≡ coded (bounded (apply (operatorAt k) a b))
   within-last l h =
-      applied-last l fa fb fr h ∙ coded-within _ (ap (λ o. inBound (apply cutTowardZero o a b)) (operatorAt-last k l) ∙ bit-within (truth a || truth b))
+      applied-last l fa fb fr h ∙ coded-within _ (ap (λ o. inBound (apply o a b)) (operatorAt-last k l) ∙ bit-within (nonzero a || nonzero b))

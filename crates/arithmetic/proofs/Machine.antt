@@ -13,7 +13,7 @@ use borrow.Author.Tests.{ltb-true, ltb-false, le-leb, lt-leb, eq-eqb, ne-eqb}
 use mir.Syntax.{w64}
 use mir.Val.{SFits, Fits, toZ, ofZ}
 use mir.ValLaws.{toZ-ofZ, sfits-le}
-use Rattle.meaning.specs.Value.{truth, compares, equal}
+use Rattle.meaning.specs.Value.{nonzero, compares, equal}
 use Rattle.nodes.specs.Bounded.{inBound, Small}
 
 -- ---- what passes through locals
@@ -100,13 +100,13 @@ bits-positive (pos n) f e = omega arith
 bits-positive (negsuc n) f e = omega arith
 
 -- The bits of a number are 0 exactly if the number is not true.
-pub bits-truth : (z : ℤ) → (ofZ w64 z ≡ 0 → ⊥) → truth z ≡ true
-bits-truth (pos zero) e = absurd (e refl)
-bits-truth (pos (suc n)) e = refl
-bits-truth (negsuc n) e = refl
+pub bits-nonzero : (z : ℤ) → (ofZ w64 z ≡ 0 → ⊥) → nonzero z ≡ true
+bits-nonzero (pos zero) e = absurd (e refl)
+bits-nonzero (pos (suc n)) e = refl
+bits-nonzero (negsuc n) e = refl
 
-pub bits-false : (z : ℤ) → SFits w64 z → ofZ w64 z ≡ 0 → truth z ≡ false
-bits-false z f e = ap truth (bits-zero z f e)
+pub bits-false : (z : ℤ) → SFits w64 z → ofZ w64 z ≡ 0 → nonzero z ≡ false
+bits-false z f e = ap nonzero (bits-zero z f e)
 
 -- ---- the magnitude bound
 
@@ -152,25 +152,25 @@ bits-same (pos m) (negsuc n) fa fb = ne-eqb m (ofZ w64 (negsuc n)) (λ e. omega 
 bits-same (negsuc m) (pos n) fa fb = ne-eqb (ofZ w64 (negsuc m)) n (λ e. omega arith)
 bits-same (negsuc m) (negsuc n) fa fb = eqb-cong (ofZ w64 (negsuc m)) (ofZ w64 (negsuc n)) n m (λ e. omega arith) (λ e. omega arith) ∙ eqb-leb n m
 
-pub bits-not-zero : (z : ℤ) → SFits w64 z → not (eqb (ofZ w64 z) 0) ≡ truth z
+pub bits-not-zero : (z : ℤ) → SFits w64 z → not (eqb (ofZ w64 z) 0) ≡ nonzero z
 bits-not-zero z f = by (ℕ-discrete (ofZ w64 z) 0)
   where
-    by : Dec (ofZ w64 z ≡ 0) → not (eqb (ofZ w64 z) 0) ≡ truth z
+    by : Dec (ofZ w64 z ≡ 0) → not (eqb (ofZ w64 z) 0) ≡ nonzero z
     by (yes e) = ap not (eq-eqb (ofZ w64 z) 0 e) ∙ sym (bits-false z f e)
-    by (no e) = ap not (ne-eqb (ofZ w64 z) 0 e) ∙ sym (bits-truth z e)
+    by (no e) = ap not (ne-eqb (ofZ w64 z) 0 e) ∙ sym (bits-nonzero z e)
 
 -- ---- division: the quotient or remainder f, and 0 by 0
 
 module _ (f : ℤ → ℤ → ℤ) (a b : ℤ) where
-  pub by-nonzero : truth b ≡ true → f a b ≡ cond (truth b) (f a b) (pos 0)
+  pub by-nonzero : nonzero b ≡ true → f a b ≡ cond (nonzero b) (f a b) (pos 0)
   by-nonzero e = simp e
 
-  pub by-zero : truth b ≡ false → pos 0 ≡ cond (truth b) (f a b) (pos 0)
+  pub by-zero : nonzero b ≡ false → pos 0 ≡ cond (nonzero b) (f a b) (pos 0)
   by-zero e = simp e
 
--- The truth of a value that was held, as a branch leaves it.
-pub held-truth : (z : ℤ) → SFits w64 z → {r t : Bool} → r ≡ truth (held z) → r ≡ t → truth z ≡ t
-held-truth z f e h = ap truth (sym (toZ-ofZ w64 z f)) ∙ sym e ∙ h
+-- The nonzero of a value that was held, as a branch leaves it.
+pub held-nonzero : (z : ℤ) → SFits w64 z → {r t : Bool} → r ≡ nonzero (held z) → r ≡ t → nonzero z ≡ t
+held-nonzero z f e h = ap nonzero (sym (toZ-ofZ w64 z f)) ∙ sym e ∙ h
 
 -- ---- a number that is taken as an index
 

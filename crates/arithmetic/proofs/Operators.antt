@@ -10,14 +10,14 @@ use borrow.Author.Tests.{leb-true, le-leb, lt-leb, lt-ltb, le-ltb}
 use mir.Syntax.{w64}
 use mir.Val.{SFits}
 use mir.ValLaws.{toZ-ofZ}
-use Rattle.meaning.specs.Arithmetic.{or, apply, cutTowardZero}
-use Rattle.nodes.specs.Bounded.{inBound, Small, noValue, bounded, operators, operatorAt, appliedByKind}
+use Rattle.meaning.specs.Arithmetic.{or, apply}
+use Rattle.nodes.specs.Bounded.{inBound, Small, noValue, bounded, operatorsByKind, operatorAt, appliedByKind}
 use Rattle.arithmetic.proofs.Machine.{held, held-both}
 
-pub applied-kind : {k : ℕ} {a b r : ℤ} (n : ℕ) → k ≡ n → SFits w64 a → SFits w64 b → SFits w64 r → r ≡ apply cutTowardZero (operatorAt n) (held a) (held b)
-    → held r ≡ apply cutTowardZero (operatorAt k) a b
+pub applied-kind : {k : ℕ} {a b r : ℤ} (n : ℕ) → k ≡ n → SFits w64 a → SFits w64 b → SFits w64 r → r ≡ apply (operatorAt n) (held a) (held b)
+    → held r ≡ apply (operatorAt k) a b
 applied-kind {k} {a} {b} {r} n e fa fb fr h =
-    toZ-ofZ w64 r fr ∙ h ∙ held-both (apply cutTowardZero (operatorAt n)) a b fa fb ∙ ap (λ i. apply cutTowardZero (operatorAt i) a b) (sym e)
+    toZ-ofZ w64 r fr ∙ h ∙ held-both (apply (operatorAt n)) a b fa fb ∙ ap (λ i. apply (operatorAt i) a b) (sym e)
 
 -- A kind that is none of the first ones is a later one.
 pub later : {n k : ℕ} → n ≤ k → (k ≡ n → ⊥) → suc n ≤ k
@@ -27,13 +27,13 @@ pub operatorAt-last : (k : ℕ) → 19 ≤ k → operatorAt k ≡ or
 operatorAt-last k h = by (ℕ-discrete (k - 7) 12)
   where
     by : Dec (k - 7 ≡ 12) → operatorAt k ≡ or
-    by (yes e) = ap (λ i. getD operators i or) e
-    by (no e) = List·getD-eq-default operators or {n = k - 7} (omega arith)
+    by (yes e) = ap (λ i. getD operatorsByKind i or) e
+    by (no e) = List·getD-eq-default operatorsByKind or {n = k - 7} (omega arith)
 
-pub applied-last : {k : ℕ} {a b r : ℤ} → 19 ≤ k → SFits w64 a → SFits w64 b → SFits w64 r → r ≡ apply cutTowardZero or (held a) (held b)
-    → held r ≡ apply cutTowardZero (operatorAt k) a b
+pub applied-last : {k : ℕ} {a b r : ℤ} → 19 ≤ k → SFits w64 a → SFits w64 b → SFits w64 r → r ≡ apply or (held a) (held b)
+    → held r ≡ apply (operatorAt k) a b
 applied-last {k} {a} {b} {r} l fa fb fr h =
-    toZ-ofZ w64 r fr ∙ h ∙ held-both (apply cutTowardZero or) a b fa fb ∙ ap (λ o. apply cutTowardZero o a b) (sym (operatorAt-last k l))
+    toZ-ofZ w64 r fr ∙ h ∙ held-both (apply or) a b fa fb ∙ ap (λ o. apply o a b) (sym (operatorAt-last k l))
 
 -- ---- operands within the bound
 
@@ -56,20 +56,20 @@ held-Small z f e = rw (toZ-ofZ w64 z f) (inBound-Small z e)
 
 -- What `apply` answers, by its tests.
 module _ (k : ℕ) (a b : ℤ) where
-  pub byKind-low : k < 7 → noValue ≡ appliedByKind cutTowardZero k a b
+  pub byKind-low : k < 7 → noValue ≡ appliedByKind k a b
   byKind-low h = simp (lt-leb 7 k h)
 
-  pub byKind-high : 7 ≤ k → 19 < k → noValue ≡ appliedByKind cutTowardZero k a b
+  pub byKind-high : 7 ≤ k → 19 < k → noValue ≡ appliedByKind k a b
   byKind-high l h = simp (le-leb 7 k l, le-ltb k 20 h)
 
   module _ (l : 7 ≤ k) (h : k ≤ 19) where
     pub byKind-bounded : SFits w64 a → SFits w64 b → inBound a ≡ true → inBound b ≡ true
-        → bounded (apply cutTowardZero (operatorAt k) (held a) (held b)) ≡ appliedByKind cutTowardZero k a b
+        → bounded (apply (operatorAt k) (held a) (held b)) ≡ appliedByKind k a b
     byKind-bounded fa fb p q =
-        held-both (λ x y. bounded (apply cutTowardZero (operatorAt k) x y)) a b fa fb ∙ sym (simp (le-leb 7 k l, lt-ltb k 20 (omega arith), p, q))
+        held-both (λ x y. bounded (apply (operatorAt k) x y)) a b fa fb ∙ sym (simp (le-leb 7 k l, lt-ltb k 20 (omega arith), p, q))
 
-    pub byKind-left : inBound a ≡ false → noValue ≡ appliedByKind cutTowardZero k a b
+    pub byKind-left : inBound a ≡ false → noValue ≡ appliedByKind k a b
     byKind-left p = simp (le-leb 7 k l, lt-ltb k 20 (omega arith), p)
 
-    pub byKind-right : inBound a ≡ true → inBound b ≡ false → noValue ≡ appliedByKind cutTowardZero k a b
+    pub byKind-right : inBound a ≡ true → inBound b ≡ false → noValue ≡ appliedByKind k a b
     byKind-right p q = simp (le-leb 7 k l, lt-ltb k 20 (omega arith), p, q)

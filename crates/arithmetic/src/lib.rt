@@ -1,10 +1,11 @@
+use basics::both;
+use basics::either;
 use nodes::Evaluated;
 ghost use mathlib.Core.Path.{_≡_};
-ghost use mathlib.Core.Bool.{_&&_, _||_};
-ghost use Prim.Native.Nat.{_≤_, min};
+ghost use Prim.Native.Nat.{_≤_};
 ghost use lib.Signed.{ltZ, leZ};
-ghost use Rattle.meaning.specs.Value.{truth, bit, compares, equal};
-ghost use Rattle.meaning.specs.Arithmetic.{add, subtract, multiply, divide, remainder, apply, cutTowardZero};
+ghost use Rattle.meaning.specs.Value.{nonzero, bit, compares, equal};
+ghost use Rattle.meaning.specs.Arithmetic.{add, subtract, multiply, divide, remainder, apply};
 ghost use Rattle.arithmetic.specs.Coded.{coded};
 ghost use Rattle.nodes.specs.Bounded.{inBound, Small, noValue, bounded, operatorAt, appliedByKind};
 
@@ -52,16 +53,9 @@ pub fn bounded_coded(z: i64) -> i64
     if in_bound(z) { z } else { absent() }
 }
 
-// The smaller of two counts.
-pub fn fewer(a: usize, b: usize) -> usize
-    ensures { λ r. ⌜ r ≡ min a b ⌝ }
-{
-    if a <= b { a } else { b }
-}
-
 // "any value but 0 is true"
-pub fn truth(z: i64) -> bool
-    ensures { λ r. ⌜ r ≡ truth z ⌝ }
+pub fn nonzero(z: i64) -> bool
+    ensures { λ r. ⌜ r ≡ nonzero z ⌝ }
 {
     z != 0
 }
@@ -75,21 +69,21 @@ pub fn bit(b: bool) -> i64
 
 fn sum(a: i64, b: i64) -> i64
     requires { ⌜ Small a × Small b ⌝ }
-    ensures { λ r. ⌜ r ≡ apply cutTowardZero add a b ⌝ }
+    ensures { λ r. ⌜ r ≡ apply add a b ⌝ }
 {
     a + b
 }
 
 fn difference(a: i64, b: i64) -> i64
     requires { ⌜ Small a × Small b ⌝ }
-    ensures { λ r. ⌜ r ≡ apply cutTowardZero subtract a b ⌝ }
+    ensures { λ r. ⌜ r ≡ apply subtract a b ⌝ }
 {
     a - b
 }
 
 fn product(a: i64, b: i64) -> i64
     requires { ⌜ Small a × Small b ⌝ }
-    ensures { λ r. ⌜ r ≡ apply cutTowardZero multiply a b ⌝ }
+    ensures { λ r. ⌜ r ≡ apply multiply a b ⌝ }
 {
     a * b
 }
@@ -97,7 +91,7 @@ fn product(a: i64, b: i64) -> i64
 // "A quotient is cut toward zero": −7 / 2 is −3. With divisor 0 it is 0.
 fn quotient(a: i64, b: i64) -> i64
     requires { ⌜ Small a × Small b ⌝ }
-    ensures { λ r. ⌜ r ≡ apply cutTowardZero divide a b ⌝ }
+    ensures { λ r. ⌜ r ≡ apply divide a b ⌝ }
 {
     if b == 0 {
         return 0;
@@ -106,9 +100,9 @@ fn quotient(a: i64, b: i64) -> i64
 }
 
 // "the remainder has the dividend's sign": −7 % 2 is −1. With divisor 0 it is 0.
-fn modulus(a: i64, b: i64) -> i64
+fn remainder(a: i64, b: i64) -> i64
     requires { ⌜ Small a × Small b ⌝ }
-    ensures { λ r. ⌜ r ≡ apply cutTowardZero remainder a b ⌝ }
+    ensures { λ r. ⌜ r ≡ apply remainder a b ⌝ }
 {
     if b == 0 {
         return 0;
@@ -134,49 +128,37 @@ pub fn same(a: i64, b: i64) -> bool
     a == b
 }
 
-fn both(a: bool, b: bool) -> bool
-    ensures { λ r. ⌜ r ≡ a && b ⌝ }
-{
-    if a { b } else { false }
-}
-
-fn either(a: bool, b: bool) -> bool
-    ensures { λ r. ⌜ r ≡ a || b ⌝ }
-{
-    if a { true } else { b }
-}
-
 // The operators by a node's kind, from 7 on in the order of document 01; every later kind is taken as the last. Only the results of
 // `+ - *` are tested, since the others are within the bound where the operands are.
 fn applied(kind: u8, a: i64, b: i64) -> i64
     requires { ⌜ (7 ≤ kind) × Small a × Small b ⌝ }
-    ensures { λ r. ⌜ r ≡ coded (bounded (apply cutTowardZero (operatorAt kind) a b)) ⌝ }
+    ensures { λ r. ⌜ r ≡ coded (bounded (apply (operatorAt kind) a b)) ⌝ }
 {
     match kind {
-        7 => bounded_coded(sum(a, b)),
-        8 => bounded_coded(difference(a, b)),
-        9 => bounded_coded(product(a, b)),
-        10 => quotient(a, b),
-        11 => modulus(a, b),
-        12 => bit(less(a, b)),
-        13 => bit(at_most(a, b)),
-        14 => bit(same(a, b)),
-        15 => bit(at_most(b, a)),
-        16 => bit(less(b, a)),
-        17 => bit(!same(a, b)),
-        18 => bit(both(truth(a), truth(b))),
-        _ => bit(either(truth(a), truth(b))),
+        nodes::ADD_NODE => bounded_coded(sum(a, b)),
+        nodes::SUBTRACT_NODE => bounded_coded(difference(a, b)),
+        nodes::MULTIPLY_NODE => bounded_coded(product(a, b)),
+        nodes::DIVIDE_NODE => quotient(a, b),
+        nodes::REMAINDER_NODE => remainder(a, b),
+        nodes::LESS_NODE => bit(less(a, b)),
+        nodes::AT_MOST_NODE => bit(at_most(a, b)),
+        nodes::EQUAL_NODE => bit(same(a, b)),
+        nodes::AT_LEAST_NODE => bit(at_most(b, a)),
+        nodes::GREATER_NODE => bit(less(b, a)),
+        nodes::DIFFERENT_NODE => bit(!same(a, b)),
+        nodes::AND_NODE => bit(both(nonzero(a), nonzero(b))),
+        _ => bit(either(nonzero(a), nonzero(b))),
     }
 }
 
 // What the operator with a node's kind gives, where both operands and the result are within the bound, as one number.
 pub fn apply_coded(kind: u8, a: i64, b: i64) -> i64
-    ensures { λ r. ⌜ r ≡ coded (appliedByKind cutTowardZero kind a b) ⌝ }
+    ensures { λ r. ⌜ r ≡ coded (appliedByKind kind a b) ⌝ }
 {
-    if kind < 7 {
+    if kind < nodes::ADD_NODE {
         return absent();
     }
-    if 19 < kind {
+    if nodes::OR_NODE < kind {
         return absent();
     }
     if in_bound(a) {
@@ -192,7 +174,7 @@ pub fn apply_coded(kind: u8, a: i64, b: i64) -> i64
 
 // What the operator with a node's kind gives, where both operands and the result are within the bound.
 pub fn apply(kind: u8, a: i64, b: i64) -> Evaluated
-    ensures { λ r. ⌜ r ≡ appliedByKind cutTowardZero kind a b ⌝ }
+    ensures { λ r. ⌜ r ≡ appliedByKind kind a b ⌝ }
 {
     bounded(apply_coded(kind, a, b))
 }

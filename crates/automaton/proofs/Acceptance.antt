@@ -6,7 +6,7 @@ use Prim.Native.Nat.{ℕ, _+_, _≤_}
 use native.Mathlib.Omega.{arith}
 use Rattle.automaton.specs.Words.{Word, append, prefix, suffix, InRange}
 use Rattle.automaton.specs.Solutions.{Settles}
-use Rattle.automaton.specs.Table.{run, Follows, Accepted, Completes, IsTable}
+use Rattle.automaton.specs.Table.{run, Follows, AcceptedWord, Completes, IsTable}
 use Rattle.automaton.proofs.Words.{append-prefix-suffix, prefix-append, in-range-append, in-range-suffix, all-below-prefix}
 use Rattle.automaton.proofs.Solutions.{prefix-begins}
 use Rattle.automaton.proofs.Flags.{flag-set, flag-holds}
@@ -36,7 +36,7 @@ module _ {Sol : Word → Type 0} {k n : ℕ} {entry : ℕ → ℕ → ℕ} {fina
             let y : Sol z = S .settled w b x z bz (prefix-append (S .time w b x) u w v h) (follows↔begins A z bz .0 fz) in
             run-state A u w b f .to v c (record { solves = y })
 
-    pub solution↔accepted : (w : Word) → InRange k w → Sol w ↔ Accepted n entry final w
+    pub solution↔accepted : (w : Word) → InRange k w → Sol w ↔ AcceptedWord n entry final w
     solution↔accepted w b = (
       (λ x. record {
         follows = follows↔begins A w b .1 λ t. prefix-begins t w b x;
@@ -45,7 +45,7 @@ module _ {Sol : Word → Type 0} {k n : ℕ} {entry : ℕ → ℕ → ℕ} {fina
       λ a. final-solution w b (a .follows) (a .again 0 .0) (a .again 0 .2),
     )
 
-  pub accepted-settles : ((w : Word) → InRange k w → Sol w → Accepted n entry final w) → Settles Sol k
+  pub accepted-settles : ((w : Word) → InRange k w → Sol w → AcceptedWord n entry final w) → Settles Sol k
   accepted-settles h = record {
     time = λ w b x. h w b x .again 0 .0;
     settled = λ w b x v c p g.

@@ -5,11 +5,11 @@ use mathlib.Core.Logic.{_↔_, Iff·trans, _⊎_, inl, inr}
 use mathlib.Core.Bool.{Bool, not}
 use Prim.Native.Nat.{ℕ, zero, suc, _<_}
 use lib.Dec.{T, T-not}
+use Rattle.basics.proofs.Tests.{by-contradiction}
 use Rattle.automaton.specs.Words.{Word, tail, cons, append, prefix, suffix, InRange}
-use Rattle.automaton.specs.Graph.{Graph, node-after, EndlessPath, Language, SameLanguage, Member, PathIn, IsAnalysis}
+use Rattle.automaton.specs.Graph.{Graph, nodeAfter, EndlessPath, Language, SameLanguage, Member, PathIn, IsAnalysis}
 use Rattle.automaton.specs.Fixpoints.{SomeEdge, Terminating, ends, IsEndlessSet, Reaches, here, there, IsLiveSet}
 use Rattle.automaton.specs.Fixpoints.{Inevitable, now, later, IsFinalSet, Distinguished, swap, by-final, by-edge, by-letter, IsPartition}
-use Rattle.automaton.proofs.Tests.{by-contradiction}
 use Rattle.automaton.proofs.Words.{in-range-cons, in-range-append, in-range-suffix, all-below-prefix}
 use Rattle.automaton.proofs.Solutions.{solutions-sym}
 use Rattle.automaton.proofs.Paths.{run-append}
@@ -52,7 +52,7 @@ module _ {G : Graph} {kept live : ℕ → Bool} (E : IsEndlessSet G kept) (L : I
   pub live-word : (s : ℕ) → Member G live s → (w : Word) × InRange (G .letters) w × Language G s w
   live-word s m = reaches-word (m .inside) (L .reason s m)
 
-  done-live : (t s : ℕ) (w : Word) → InRange (G .letters) w → EndlessPath G s w → T (G .done (node-after G s w t)) → T (live s)
+  done-live : (t s : ℕ) (w : Word) → InRange (G .letters) w → EndlessPath G s w → T (G .done (nodeAfter G s w t)) → T (live s)
   done-live zero s w b f d = L .base s (f 0) (endless-kept E s w b f) d
   done-live (suc t) s w b f d =
       let h = done-live t (G .successor s (w 0)) (tail w) (λ j. b (suc j)) (λ j. f (suc j)) d in
@@ -65,7 +65,7 @@ module _ {G : Graph} {kept live : ℕ → Bool} (E : IsEndlessSet G kept) (L : I
   pub word-path : (s : ℕ) (w : Word) → InRange (G .letters) w → Language G s w → PathIn G live s w
   word-path s w b l = record { at = λ t. go t s w b l }
     where
-      go : (t s : ℕ) (w : Word) → InRange (G .letters) w → Language G s w → Member G live (node-after G s w t)
+      go : (t s : ℕ) (w : Word) → InRange (G .letters) w → Language G s w → Member G live (nodeAfter G s w t)
       go zero s w b l = word-live s w b l
       go (suc t) s w b l = go t (G .successor s (w 0)) (tail w) (λ j. b (suc j)) (language-tail s w b l)
 
@@ -73,7 +73,7 @@ module _ {G : Graph} {kept live : ℕ → Bool} (E : IsEndlessSet G kept) (L : I
 
 module _ {G : Graph} {live final : ℕ → Bool} (F : IsFinalSet G live final) where
   inevitable-done : {s : ℕ} → Inevitable G live s → (w : Word) → InRange (G .letters) w → PathIn G live s w
-      → (t : ℕ) × T (G .done (node-after G s w t))
+      → (t : ℕ) × T (G .done (nodeAfter G s w t))
   inevitable-done (now d) w b f = (zero, d)
   inevitable-done (later h) w b f =
       let p = inevitable-done (h (w 0) (b 0) (f .at 1)) (tail w) (λ j. b (suc j)) (path-in-tail f) in
@@ -89,14 +89,14 @@ module _ {G : Graph} {live final : ℕ → Bool} (F : IsFinalSet G live final) w
     word : Word
     in-range : InRange (G .letters) word
     lives : PathIn G live s word
-    not-done : (t : ℕ) → ¬ T (G .done (node-after G s word t))
+    not-done : (t : ℕ) → ¬ T (G .done (nodeAfter G s word t))
 
   open-path : (s : ℕ) → Member G live s → T (not (final s)) → OpenPath s
   open-path s m h = record {
     word = w;
     in-range = λ t. path-in-range P step t s (m .inside) q;
     lives = record { at = lives };
-    not-done = λ t. T-not (G .done (node-after G s w t)) (F .base (node-after G s w t) (lives t) (path-at P step t s (m .inside) q .1 .1));
+    not-done = λ t. T-not (G .done (nodeAfter G s w t)) (F .base (nodeAfter G s w t) (lives t) (path-at P step t s (m .inside) q .1 .1));
   }
     where
       P : ℕ → Type 0
@@ -111,7 +111,7 @@ module _ {G : Graph} {live final : ℕ → Bool} (F : IsFinalSet G live final) w
       w : Word
       w = path P step s (m .inside) q
 
-      lives : (t : ℕ) → Member G live (node-after G s w t)
+      lives : (t : ℕ) → Member G live (nodeAfter G s w t)
       lives t = let x = path-at P step t s (m .inside) q in record { inside = x .0; holds = x .1 .0 }
 
   pub all-final : (s : ℕ) → Member G live s → ((w : Word) → InRange (G .letters) w → PathIn G live s w → Language G s w) → T (final s)
@@ -126,7 +126,7 @@ module _ {G : Graph} {kept live final : ℕ → Bool} {same : ℕ → ℕ → Ty
     (E : IsEndlessSet G kept) (L : IsLiveSet G kept live) (F : IsFinalSet G live final) (C : IsPartition G live final same) where
   -- a node that is the same can be followed along
   same-path : (j s t : ℕ) (w : Word) → InRange (G .letters) w → Member G live t → same s t → PathIn G live s w
-      → Member G live (node-after G t w j) × same (node-after G s w j) (node-after G t w j)
+      → Member G live (nodeAfter G t w j) × same (nodeAfter G s w j) (nodeAfter G t w j)
   same-path zero s t w b m e f = (m, e)
   same-path (suc j) s t w b m e f =
       let p = C .steps s t (w 0) (f .at 0) m e (b 0) in
@@ -140,10 +140,10 @@ module _ {G : Graph} {kept live final : ℕ → Bool} {same : ℕ → ℕ → Ty
       j = l .time
 
       u : ℕ
-      u = node-after G s w j
+      u = nodeAfter G s w j
 
       v : ℕ
-      v = node-after G t w j
+      v = nodeAfter G t w j
 
       f : PathIn G live s w
       f = word-path E L s w b l
@@ -161,9 +161,9 @@ module _ {G : Graph} {kept live final : ℕ → Bool} {same : ℕ → ℕ → Ty
   language-path : (s t : ℕ) → SameLanguage G s t → (w : Word) → InRange (G .letters) w → PathIn G live t w → PathIn G live s w
   language-path s t h w b f = record { at = go }
     where
-      go : (j : ℕ) → Member G live (node-after G s w j)
+      go : (j : ℕ) → Member G live (nodeAfter G s w j)
       go j =
-          let p = live-word E L (node-after G t w j) (f .at j) in
+          let p = live-word E L (nodeAfter G t w j) (f .at j) in
           let z = append (prefix w j) (p .0) in
           let bz : InRange (G .letters) z = in-range-append (prefix w j) (all-below-prefix j w b) (p .1) in
           let l : Language G s z = h .from z bz (language-append j t w (p .0) (path-in-endless f) (p .2)) in

@@ -8,7 +8,7 @@ use native.Mathlib.Decide.{decLt}
 use lib.Dec.{T}
 use Rattle.automaton.specs.Words.{Word, tail, cons, append, prefix, suffix, InRange}
 use Rattle.automaton.specs.Solutions.{SameSolutions, Continuation, Settles}
-use Rattle.automaton.specs.Graph.{Graph, node-after, EndlessPath, Language, SameLanguage, Member, PathIn}
+use Rattle.automaton.specs.Graph.{Graph, nodeAfter, EndlessPath, Language, SameLanguage, Member, PathIn}
 use Rattle.automaton.specs.Fixpoints.{SomeEdge}
 use Rattle.automaton.proofs.Words.{in-range-cons}
 use Rattle.automaton.proofs.Solutions.{solutions-sym, solutions-trans, continuation-same}
@@ -20,7 +20,7 @@ module _ {G : Graph} where
   pub language-cons : {s a : ℕ} {w : Word} → s < G .nodes → Language G (G .successor s a) w → Language G s (cons a w)
   language-cons {s} {a} {w} h l = record { follows = go; time = suc (l .time); is-done = l .is-done }
     where
-      go : (t : ℕ) → node-after G s (cons a w) t < G .nodes
+      go : (t : ℕ) → nodeAfter G s (cons a w) t < G .nodes
       go zero = h
       go (suc t) = l .follows t
 
@@ -30,7 +30,7 @@ module _ {G : Graph} where
       f : EndlessPath G (G .successor s (w 0)) (tail w)
       f t = l .follows (suc t)
 
-      go : (t : ℕ) → T (G .done (node-after G s w t)) → Language G (G .successor s (w 0)) (tail w)
+      go : (t : ℕ) → T (G .done (nodeAfter G s w t)) → Language G (G .successor s (w 0)) (tail w)
       go zero d = record { follows = f; time = zero; is-done = G .done-stays s (w 0) (l .follows 0) (b 0) (f 0) d }
       go (suc t) d = record { follows = f; time = t; is-done = d }
 
@@ -49,13 +49,13 @@ module _ {G : Graph} where
 
   -- over the first j letters of a path
 
-  pub language-suffix : (j s : ℕ) (w : Word) → EndlessPath G s w → Language G (node-after G s w j) (suffix w j) → Language G s w
+  pub language-suffix : (j s : ℕ) (w : Word) → EndlessPath G s w → Language G (nodeAfter G s w j) (suffix w j) → Language G s w
   language-suffix zero s w f l = l
   language-suffix (suc j) s w f l =
       let l1 : Language G (G .successor s (w 0)) (tail w) = language-suffix j (G .successor s (w 0)) (tail w) (λ i. f (suc i)) l in
       record { follows = f; time = suc (l1 .time); is-done = l1 .is-done }
 
-  pub language-append : (j s : ℕ) (w v : Word) → EndlessPath G s w → Language G (node-after G s w j) v → Language G s (append (prefix w j) v)
+  pub language-append : (j s : ℕ) (w v : Word) → EndlessPath G s w → Language G (nodeAfter G s w j) v → Language G s (append (prefix w j) v)
   language-append zero s w v f l = l
   language-append (suc j) s w v f l = language-cons (f 0) (language-append j (G .successor s (w 0)) (tail w) v (λ i. f (suc i)) l)
 
@@ -87,7 +87,7 @@ module _ {G : Graph} {L : ℕ → Bool} where
   pub path-in-tail : {s : ℕ} {w : Word} → PathIn G L s w → PathIn G L (G .successor s (w 0)) (tail w)
   path-in-tail f = record { at = λ t. f .at (suc t) }
 
-  pub path-in-suffix : (j : ℕ) {s : ℕ} {w : Word} → PathIn G L s w → PathIn G L (node-after G s w j) (suffix w j)
+  pub path-in-suffix : (j : ℕ) {s : ℕ} {w : Word} → PathIn G L s w → PathIn G L (nodeAfter G s w j) (suffix w j)
   path-in-suffix zero f = f
   path-in-suffix (suc j) f = path-in-suffix j (path-in-tail f)
 
@@ -102,7 +102,7 @@ module _ {G : Graph} (P : ℕ → Type 0) (step : (s : ℕ) → s < G .nodes →
   path-in-range zero s h p = step s h p .is-letter
   path-in-range (suc t) s h p = path-in-range t (G .successor s (step s h p .letter)) (step s h p .inside) (step s h p .holds)
 
-  pub path-at : (t s : ℕ) (h : s < G .nodes) (p : P s) → (node-after G s (path s h p) t < G .nodes) × P (node-after G s (path s h p) t)
+  pub path-at : (t s : ℕ) (h : s < G .nodes) (p : P s) → (nodeAfter G s (path s h p) t < G .nodes) × P (nodeAfter G s (path s h p) t)
   unfolding path
   path-at zero s h p = (h, p)
   path-at (suc t) s h p = path-at t (G .successor s (step s h p .letter)) (step s h p .inside) (step s h p .holds)

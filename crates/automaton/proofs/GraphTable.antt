@@ -11,7 +11,7 @@ use lib.Dec.{T}
 use Rattle.automaton.specs.Words.{Word, tail, InRange, AllBelow}
 use Rattle.automaton.specs.Solutions.{SameSolutions, NoSolution, Continuation}
 use Rattle.automaton.specs.Table.{run, Follows, IsEntry, Completes, IsTable}
-use Rattle.automaton.specs.Graph.{Graph, node-after, Language, SameLanguage, Member, PathIn, IsAnalysis, IsNodeEntry, IsNumbering}
+use Rattle.automaton.specs.Graph.{Graph, nodeAfter, Language, SameLanguage, Member, PathIn, IsAnalysis, IsNodeEntry, IsNumbering}
 use Rattle.automaton.proofs.Words.{all-below-append}
 use Rattle.automaton.proofs.Solutions.{solutions-sym, solutions-trans, continuation-empty, continuation-append, continuation-same}
 use Rattle.automaton.proofs.Flags.{flag-transfer}
@@ -113,7 +113,7 @@ module _ {G : Graph} {live final : ℕ → Bool} {class : ℕ → ℕ} (A : IsAn
   -- following states is following live nodes
 
   states-nodes : (t i s : ℕ) (w : Word) → InRange (G .letters) w → Follows n entry i w → Member G live s → class s ≡ class (node i)
-      → Member G live (node-after G s w t)
+      → Member G live (nodeAfter G s w t)
   states-nodes zero i s w b f m e = m
   states-nodes (suc t) i s w b f m e =
       let q = entry-live i (w 0) (f 0) (b 0) (f 1) in

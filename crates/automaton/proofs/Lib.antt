@@ -1,4 +1,3 @@
-pub mod Tests
 pub mod Words
 pub mod Solutions
 pub mod Flags
@@ -22,3 +21,6 @@ pub mod Passes
 pub mod Construction
 pub mod Listed
 pub mod Worked
+pub mod Reachable
+pub mod ReachedRows
+pub mod ReachedOnce

@@ -7,7 +7,7 @@ use Prim.Native.Nat.{ℕ, suc, _<_, _≤_}
 use native.Mathlib.Omega.{arith}
 use native.Mathlib.Decide.{ℕ-discrete}
 use lib.Dec.{T}
-use Rattle.automaton.specs.Table.{no-state, Before, FirstMet, IsFlag}
+use Rattle.automaton.specs.Table.{noState, Before, FirstMet, IsFlag}
 use Rattle.automaton.specs.Graph.{Graph, Member, IsNodeEntry, IsNumbering}
 use Rattle.automaton.specs.Numbering.{IsPut, IsFilling}
 use Rattle.automaton.proofs.Pigeonhole.{pigeonhole}
@@ -121,10 +121,10 @@ module _ {G : Graph} {live : ℕ → Bool} {class : ℕ → ℕ} {s₀ m i a : �
       entries j b hb (inl h) = rw (p .earlier j b hb h, same j (old-state h)) (old-entry (I .entries j b h (old-state h) hb))
       entries j b hb (inr q) = rw (q .0, q .1, p .here, same i hi) (inr (omega arith, al, sym (ap class e)))
 
-      before-new : (c b : ℕ) → b < G .letters → Before c b i a → entry′ c b ≢ no-state → entry′ c b < m
+      before-new : (c b : ℕ) → b < G .letters → Before c b i a → entry′ c b ≢ noState → entry′ c b < m
       before-new c b hb h = rw (p .earlier c b hb h) (small (I .entries c b h (old-state h) hb))
         where
-          small : {u v : ℕ} → IsNodeEntry G live class m node u v → v ≢ no-state → v < m
+          small : {u v : ℕ} → IsNodeEntry G live class m node u v → v ≢ noState → v < m
           small (inl x) g = absurd (g (x .0))
           small (inr x) g = x .0
 
@@ -144,7 +144,7 @@ module _ {G : Graph} {live : ℕ → Bool} {class : ℕ → ℕ} {s₀ m i a : �
 
 -- all rows are filled
 module _ {G : Graph} {live final : ℕ → Bool} {class : ℕ → ℕ} {s₀ n : ℕ} {node : ℕ → ℕ} {entry : ℕ → ℕ → ℕ} {byte : ℕ → ℕ} where
-  pub filling-numbering : n ≤ no-state → IsFilling G live class s₀ n n 0 node entry → ((i : ℕ) → i < n → IsFlag (T (final (node i))) (byte i))
+  pub filling-numbering : n ≤ noState → IsFilling G live class s₀ n n 0 node entry → ((i : ℕ) → i < n → IsFlag (T (final (node i))) (byte i))
       → IsNumbering G live final class s₀ n node entry byte
   filling-numbering h I f = record {
     room = h;

@@ -7,12 +7,12 @@ use Prim.Native.Nat.{ℕ, _+_, _*_, _/_, _%_, _<_}
 use native.Mathlib.Nat.{mul-le-mul-right, add-zero, mul-add-div-right, div-eq-of-lt, mul-add-mod-self-right, mod-eq-of-lt}
 use native.Mathlib.Omega.{arith}
 use lib.Dec.{T, T-not, not-T}
+use Rattle.basics.proofs.Tests.{by-contradiction, T-or}
 use Rattle.automaton.specs.Graph.{Graph, Member}
 use Rattle.automaton.specs.Fixpoints.{Distinguished, swap, by-final, by-edge, by-letter, SameStep, IsPartition}
-use Rattle.automaton.specs.Closure.{any-below, contains}
-use Rattle.automaton.specs.Construction.{differs, pair, letter-differs, distinguished-rule, distinguished-set}
-use Rattle.automaton.proofs.Tests.{by-contradiction, T-or}
-use Rattle.automaton.proofs.Closure.{any-below↔, closure-closed, closure-sound}
+use Rattle.automaton.specs.Closure.{anyBelow, contains}
+use Rattle.automaton.specs.Construction.{differs, pair, letterDiffers, distinguishedRule, distinguishedSet}
+use Rattle.automaton.proofs.Closure.{anyBelow↔, closure-closed, closure-sound}
 
 -- numbers of pairs
 
@@ -62,23 +62,23 @@ module _ (G : Graph) (live final : List Bool) (below : (s : ℕ) → T (contains
   final-test s t = differs (contains final s) (contains final t) false
 
   letter-test : (ℕ → Bool) → ℕ → ℕ → ℕ → Bool
-  letter-test set s t a = letter-differs G live set (G .successor s a) (G .successor t a)
+  letter-test set s t a = letterDiffers G live set (G .successor s a) (G .successor t a)
 
-  rule-test : (set : ℕ → Bool) (s t : ℕ) → Rule set s t → T (final-test s t || any-below (G .letters) (letter-test set s t))
+  rule-test : (set : ℕ → Bool) (s t : ℕ) → Rule set s t → T (final-test s t || anyBelow (G .letters) (letter-test set s t))
   unfolding final-test letter-test
-  rule-test set s t r = T-or (final-test s t) (any-below (G .letters) (letter-test set s t)) .1 (go r)
+  rule-test set s t r = T-or (final-test s t) (anyBelow (G .letters) (letter-test set s t)) .1 (go r)
     where
-      go : Rule set s t → T (final-test s t) ⊎ T (any-below (G .letters) (letter-test set s t))
+      go : Rule set s t → T (final-test s t) ⊎ T (anyBelow (G .letters) (letter-test set s t))
       go (at-final d) = inl (differs-test _ _ _ d)
-      go (at-letter a ha d) = inr (any-below↔ (G .letters) (letter-test set s t) .1 (a, ha, differs-test _ _ _ d))
+      go (at-letter a ha d) = inr (anyBelow↔ (G .letters) (letter-test set s t) .1 (a, ha, differs-test _ _ _ d))
 
-  rule-cases : (set : ℕ → Bool) (s t : ℕ) → T (final-test s t || any-below (G .letters) (letter-test set s t)) → Rule set s t
+  rule-cases : (set : ℕ → Bool) (s t : ℕ) → T (final-test s t || anyBelow (G .letters) (letter-test set s t)) → Rule set s t
   unfolding final-test letter-test
-  rule-cases set s t h = go (T-or (final-test s t) (any-below (G .letters) (letter-test set s t)) .0 h)
+  rule-cases set s t h = go (T-or (final-test s t) (anyBelow (G .letters) (letter-test set s t)) .0 h)
     where
-      go : T (final-test s t) ⊎ T (any-below (G .letters) (letter-test set s t)) → Rule set s t
+      go : T (final-test s t) ⊎ T (anyBelow (G .letters) (letter-test set s t)) → Rule set s t
       go (inl x) = at-final (differs-cases _ _ _ x)
-      go (inr x) = let p = any-below↔ (G .letters) (letter-test set s t) .0 x in at-letter (p .0) (p .1) (differs-cases _ _ _ (p .2))
+      go (inr x) = let p = anyBelow↔ (G .letters) (letter-test set s t) .0 x in at-letter (p .0) (p .1) (differs-cases _ _ _ (p .2))
 
   -- the pairs of the closure are those that a record tells apart
 
@@ -93,7 +93,7 @@ module _ (G : Graph) (live final : List Bool) (below : (s : ℕ) → T (contains
 
   -- the closure holds the pair of s and t
   abbrev separated : ℕ → ℕ → Bool
-  separated s t = contains (distinguished-set G live final) (pair G s t)
+  separated s t = contains (distinguishedSet G live final) (pair G s t)
 
   rule-apart : (set : ℕ → Bool) → ((j : ℕ) → T (set j) → Apart (j / G .nodes) (j % G .nodes)) → (s t : ℕ) → Rule set s t → Apart s t
   rule-apart set all s t (at-final (left x y)) = by-final x y
@@ -112,14 +112,14 @@ module _ (G : Graph) (live final : List Bool) (below : (s : ℕ) → T (contains
   separated-apart : (s t : ℕ) → t < G .nodes → T (separated s t) → Apart s t
   unfolding final-test letter-test
   separated-apart s t ht h = rw (pair-first (G .nodes) s t ht, pair-second (G .nodes) s t ht) at
-      (closure-sound (G .nodes * G .nodes) (distinguished-rule G live final) (λ i. Apart (i / G .nodes) (i % G .nodes))
+      (closure-sound (G .nodes * G .nodes) (distinguishedRule G live final) (λ i. Apart (i / G .nodes) (i % G .nodes))
       (λ set all i hi x. rule-apart set all (i / G .nodes) (i % G .nodes) (rule-cases set (i / G .nodes) (i % G .nodes) x)) (pair G s t) h)
 
-  rule-separated : (s t : ℕ) → s < G .nodes → t < G .nodes → Rule (contains (distinguished-set G live final)) s t → T (separated s t)
+  rule-separated : (s t : ℕ) → s < G .nodes → t < G .nodes → Rule (contains (distinguishedSet G live final)) s t → T (separated s t)
   unfolding final-test letter-test
   rule-separated s t hs ht r =
-      closure-closed (G .nodes * G .nodes) (distinguished-rule G live final) (pair G s t) (pair-below (G .nodes) s t hs ht)
-      (rw (pair-first (G .nodes) s t ht, pair-second (G .nodes) s t ht) (rule-test (contains (distinguished-set G live final)) s t r))
+      closure-closed (G .nodes * G .nodes) (distinguishedRule G live final) (pair G s t) (pair-below (G .nodes) s t hs ht)
+      (rw (pair-first (G .nodes) s t ht, pair-second (G .nodes) s t ht) (rule-test (contains (distinguishedSet G live final)) s t r))
 
   -- in both orders
   apart-separated : {s t : ℕ} → Distinguished G (contains live) (contains final) s t → s < G .nodes → t < G .nodes
@@ -136,7 +136,7 @@ module _ (G : Graph) (live final : List Bool) (below : (s : ℕ) → T (contains
       (st, ts)
 
   pub distinguished-partition :
-      IsPartition G (contains live) (contains final) (λ s t. T (not (contains (distinguished-set G live final) (pair G s t))))
+      IsPartition G (contains live) (contains final) (λ s t. T (not (contains (distinguishedSet G live final) (pair G s t))))
   distinguished-partition = record { reason = reason; symmetric = symmetric; finals = finals; steps = steps }
     where
       reason : (s t : ℕ) → Live s → Live t → T (not (separated s t)) ⊎ Apart s t
@@ -151,7 +151,7 @@ module _ (G : Graph) (live final : List Bool) (below : (s : ℕ) → T (contains
           T-not (separated s t) h (apart-separated (separated-apart t s (ms .inside) x) (mt .inside) (ms .inside) .1)
 
       -- no part of the rule applies to nodes that are the same
-      no-rule : (s t : ℕ) → Live s → Live t → T (not (separated s t)) → ¬ Rule (contains (distinguished-set G live final)) s t
+      no-rule : (s t : ℕ) → Live s → Live t → T (not (separated s t)) → ¬ Rule (contains (distinguishedSet G live final)) s t
       no-rule s t ms mt h r = T-not (separated s t) h (rule-separated s t (ms .inside) (mt .inside) r)
 
       finals : (s t : ℕ) → Live s → Live t → T (not (separated s t)) → T (contains final s) → T (contains final t)

@@ -8,13 +8,13 @@ use Prim.Native.Nat.{ℕ, _<_, _≤_}
 use native.Mathlib.Omega.{arith}
 use lib.Dec.{T, T-not, ltb, ltb→lt, lt→ltb}
 use lib.ListN.{getD}
+use Rattle.basics.proofs.Tests.{by-contradiction, T-and}
 use Rattle.automaton.specs.Graph.{Graph, SameLanguage, IsAnalysis}
 use Rattle.automaton.specs.Fixpoints.{Terminating, ends, IsEndlessSet, Reaches, here, there, IsLiveSet}
 use Rattle.automaton.specs.Fixpoints.{Inevitable, now, later, IsFinalSet, IsPartition}
-use Rattle.automaton.specs.Closure.{find-below, contains}
-use Rattle.automaton.specs.Construction.{terminating-set, live-set, final-set, pair, distinguished-set, classes}
+use Rattle.automaton.specs.Closure.{findBelow, contains}
+use Rattle.automaton.specs.Construction.{terminatingSet, liveSet, finalSet, pair, distinguishedSet, classes}
 use Rattle.automaton.proofs.Solutions.{solutions-refl, solutions-sym, solutions-trans}
-use Rattle.automaton.proofs.Tests.{by-contradiction, T-and}
 use Rattle.automaton.proofs.Fixpoints.{same↔language, fixpoints-analysis}
 use Rattle.automaton.proofs.Closure.{getD-tabulate, find-below-found, find-below-least}
 use Rattle.automaton.proofs.Rules.{every-sound, every-outside, some-sound, some-inside}
@@ -23,14 +23,14 @@ use Rattle.automaton.proofs.Pairs.{distinguished-partition}
 -- the three sets
 
 module _ (G : Graph) where
-  pub terminating-endless : IsEndlessSet G (λ s. not (contains (terminating-set G) s))
+  pub terminating-endless : IsEndlessSet G (λ s. not (contains (terminatingSet G) s))
   terminating-endless = record {
     closed = λ s m.
         let p = every-outside G (λ s. false) is-node s (m .inside) (m .holds) .1 in
         record { letter = p .0; is-letter = p .1; inside = ltb→lt (G .successor s (p .0)) (G .nodes) (p .2); holds = p .3 };
     reason = λ s hs h. every-sound G (λ s. false) is-node (Terminating G) (λ s x. absurd x)
         (λ s e. ends λ a ha hu. e a ha (lt→ltb (G .successor s a) (G .nodes) hu))
-        s (by-contradiction (contains (terminating-set G) s) (T-not (not (contains (terminating-set G) s)) h));
+        s (by-contradiction (contains (terminatingSet G) s) (T-not (not (contains (terminatingSet G) s)) h));
   }
     where
       is-node : ℕ → Bool
@@ -40,11 +40,11 @@ module _ (G : Graph) where
     abbrev kept : ℕ → Bool
     kept s = not (contains terminating s)
 
-    live-reaches : (s : ℕ) → T (contains (live-set G terminating) s) → (s < G .nodes) × Reaches G (λ u. not (contains terminating u)) s
+    live-reaches : (s : ℕ) → T (contains (liveSet G terminating) s) → (s < G .nodes) × Reaches G (λ u. not (contains terminating u)) s
     live-reaches = some-sound G (λ s. kept s && G .done s) (λ s. (s < G .nodes) × Reaches G kept s)
         (λ s hs x. let p = T-and (kept s) (G .done s) .0 x in (hs, here (p .0) (p .1))) (λ s a hs ha p. (hs, there a ha (p .0) (p .1)))
 
-    pub live-live : IsLiveSet G (λ s. not (contains terminating s)) (contains (live-set G terminating))
+    pub live-live : IsLiveSet G (λ s. not (contains terminating s)) (contains (liveSet G terminating))
     live-live = record {
       reason = λ s m. live-reaches s (m .holds) .1;
       base = λ s hs k d. some-inside G (λ s. kept s && G .done s) s hs (inl (T-and (kept s) (G .done s) .1 (k, d)));
@@ -52,7 +52,7 @@ module _ (G : Graph) where
     }
 
   module _ (live : List Bool) (below : (s : ℕ) → T (contains live s) → s < G .nodes) where
-    pub final-final : IsFinalSet G (contains live) (contains (final-set G live))
+    pub final-final : IsFinalSet G (contains live) (contains (finalSet G live))
     final-final = record {
       reason = λ s m. every-sound G (G .done) (contains live) (Inevitable G (contains live)) (λ s x. now x)
           (λ s e. later λ a ha m. e a ha (m .holds)) s;
@@ -67,7 +67,7 @@ module _ (n : ℕ) (holds : ℕ → Bool) (related : ℕ → ℕ → Bool) (belo
     (reflexive : (s : ℕ) → T (holds s) → T (related s s)) (symmetric : (s t : ℕ) → T (holds s) → T (holds t) → T (related s t) → T (related t s))
     (transitive : (s t u : ℕ) → T (holds s) → T (holds t) → T (holds u) → T (related s t) → T (related t u) → T (related s u)) where
   abbrev first : ℕ → ℕ
-  first s = find-below n (λ t. holds t && related s t)
+  first s = findBelow n (λ t. holds t && related s t)
 
   first-least : (s t : ℕ) → T (holds t) → T (related s t) → first s ≤ t
   first-least s t h r = find-below-least n (λ t. holds t && related s t) t (below t h) (T-and (holds t) (related s t) .1 (h, r))
@@ -95,25 +95,25 @@ module _ (n : ℕ) (holds : ℕ → Bool) (related : ℕ → ℕ → Bool) (belo
 
 module _ (G : Graph) where
   abbrev live : List Bool
-  live = live-set G (terminating-set G)
+  live = liveSet G (terminatingSet G)
 
   abbrev final : List Bool
-  final = final-set G live
+  final = finalSet G live
 
   abbrev class : ℕ → ℕ
-  class s = getD (classes G live (distinguished-set G live final)) s 0
+  class s = getD (classes G live (distinguishedSet G live final)) s 0
 
   abbrev same : ℕ → ℕ → Bool
-  same s t = not (contains (distinguished-set G live final) (pair G s t))
+  same s t = not (contains (distinguishedSet G live final) (pair G s t))
 
-  pub live-below : (s : ℕ) → T (contains (live-set G (terminating-set G)) s) → s < G .nodes
-  live-below s h = live-reaches G (terminating-set G) s h .0
+  pub live-below : (s : ℕ) → T (contains (liveSet G (terminatingSet G)) s) → s < G .nodes
+  live-below s h = live-reaches G (terminatingSet G) s h .0
 
-  is-endless : IsEndlessSet G (λ s. not (contains (terminating-set G) s))
+  is-endless : IsEndlessSet G (λ s. not (contains (terminatingSet G) s))
   is-endless = terminating-endless G
 
-  is-live : IsLiveSet G (λ s. not (contains (terminating-set G) s)) (contains live)
-  is-live = live-live G (terminating-set G)
+  is-live : IsLiveSet G (λ s. not (contains (terminatingSet G) s)) (contains live)
+  is-live = live-live G (terminatingSet G)
 
   is-final : IsFinalSet G (contains live) (contains final)
   is-final = final-final G live live-below
@@ -134,7 +134,7 @@ module _ (G : Graph) where
       s t hs ht)
     where
       first-same : ℕ → ℕ
-      first-same s = find-below (G .nodes) (λ u. contains live u && same s u)
+      first-same s = findBelow (G .nodes) (λ u. contains live u && same s u)
 
   pub passes-analysis : IsAnalysis G (contains live) (contains final) class
   passes-analysis = fixpoints-analysis is-endless is-live is-final is-partition λ s t ms mt. class↔same s t (ms .holds) (mt .holds)

@@ -7,7 +7,7 @@ use Prim.Native.Nat.{ℕ, zero, suc, _<_}
 use native.Mathlib.Omega.{arith}
 use Rattle.automaton.specs.Words.{Word, tail, append, prefix, suffix, InRange, AllBelow}
 use Rattle.automaton.specs.Solutions.{NoSolution, SameContinuations, Begins}
-use Rattle.automaton.specs.Table.{no-state, walk, run, PathFrom, IsPath, Follows, IsEntry, IsTable}
+use Rattle.automaton.specs.Table.{noState, walk, run, PathFrom, IsPath, Follows, IsEntry, IsTable}
 use Rattle.automaton.proofs.Words.{all-below-prefix}
 use Rattle.automaton.proofs.Solutions.{solutions-refl, solutions-sym, solutions-trans, same-append, begins-same, begins-shorter}
 
@@ -45,14 +45,14 @@ follows-agree {k} {n} {entry} {entry′} i w b e f t = rw (← go t i w b f) (f 
 module _ {Sol : Word → Type 0} {k n : ℕ} {entry : ℕ → ℕ → ℕ} {final : ℕ → ℕ} (A : IsTable Sol k n entry final) where
   -- one entry: that of a record which begins a solution is a state, and a state has the continuations of the record
 
-  pub begins-entry : (i a : ℕ) → i < n → a < k → Begins Sol k (A .representative i ++ (a ∷ [])) → entry i a ≢ no-state
+  pub begins-entry : (i a : ℕ) → i < n → a < k → Begins Sol k (A .representative i ++ (a ∷ [])) → entry i a ≢ noState
   begins-entry i a hi ha g = go (A .entries i a hi ha)
     where
-      go : IsEntry Sol k n (A .representative) (A .representative i ++ (a ∷ [])) (entry i a) → entry i a ≢ no-state
+      go : IsEntry Sol k n (A .representative) (A .representative i ++ (a ∷ [])) (entry i a) → entry i a ≢ noState
       go (inl x) = absurd (x .1 g)
       go (inr x) = omega (arith, x .0, A .room)
 
-  pub entry-state : (i a : ℕ) → i < n → a < k → entry i a ≢ no-state
+  pub entry-state : (i a : ℕ) → i < n → a < k → entry i a ≢ noState
       → (entry i a < n) × SameContinuations Sol k (A .representative i ++ (a ∷ [])) (A .representative (entry i a))
   entry-state i a hi ha ne = go (A .entries i a hi ha)
     where
@@ -70,7 +70,7 @@ module _ {Sol : Word → Type 0} {k n : ℕ} {entry : ℕ → ℕ → ℕ} {fina
   leads-start : Leads [] 0
   leads-start = record { below = A .some-state; same = rw (A .start) solutions-refl }
 
-  leads-extend : {r : List ℕ} {i a : ℕ} → a < k → Leads r i → entry i a ≢ no-state → Leads (r ++ (a ∷ [])) (entry i a)
+  leads-extend : {r : List ℕ} {i a : ℕ} → a < k → Leads r i → entry i a ≢ noState → Leads (r ++ (a ∷ [])) (entry i a)
   leads-extend {i = i} {a = a} ha l ne =
       let e = entry-state i a (l .below) ha ne in
       record { below = e .0; same = solutions-trans (same-append (a ∷ []) (ha, tt) (l .same)) (e .1) }

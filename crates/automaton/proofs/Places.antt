@@ -9,7 +9,7 @@ use native.Mathlib.Decide.{ℕ-discrete, decLt}
 use lib.ListN.{length, set, List·getD-append}
 use lib.Seq.{getD-set-same, getD-set-other, getD-at}
 use Rattle.automaton.specs.Table.{Before}
-use Rattle.automaton.specs.Stored.{entry-at}
+use Rattle.automaton.specs.Stored.{entryAt}
 use Rattle.automaton.specs.Numbering.{IsPut}
 
 -- the order
@@ -61,13 +61,13 @@ place-injective k i j a b ha hb e = go (decLt i j) (decLt j i)
 
 -- stores
 
-pub put-set : (k : ℕ) (l : List ℕ) (i a v : ℕ) → i * k + a < length l → IsPut k (entry-at k l) (entry-at k (set l (i * k + a) v)) i a v
+pub put-set : (k : ℕ) (l : List ℕ) (i a v : ℕ) → i * k + a < length l → IsPut k (entryAt k l) (entryAt k (set l (i * k + a) v)) i a v
 put-set k l i a v h = record {
   here = getD-set-same l (i * k + a) v 0 h;
   earlier = λ j b hb q. getD-set-other l (i * k + a) (j * k + b) v 0 (omega (arith, place-before k j b i a hb q));
 }
 
-pub put-append : (k : ℕ) (l : List ℕ) (i a v : ℕ) → length l ≡ i * k + a → IsPut k (entry-at k l) (entry-at k (l ++ (v ∷ []))) i a v
+pub put-append : (k : ℕ) (l : List ℕ) (i a v : ℕ) → length l ≡ i * k + a → IsPut k (entryAt k l) (entryAt k (l ++ (v ∷ []))) i a v
 put-append k l i a v e = record {
   here = getD-at l v [] 0 (i * k + a) e;
   earlier = λ j b hb q. List·getD-append l (v ∷ []) 0 (j * k + b) (omega (arith, place-before k j b i a hb q));

@@ -13,7 +13,7 @@ use lib.ListN.{length, getD, set}
 use Rattle.automaton.specs.Graph.{Graph, Member}
 use Rattle.automaton.specs.Fixpoints.{Terminating, ends, Reaches, there, Inevitable, later}
 use Rattle.automaton.specs.Fixpoints.{Distinguished, swap, by-final, by-edge, by-letter, SameStep, IsPartition}
-use Rattle.automaton.specs.Rounds.{marked, AllMarked, AllCleared, total, SameClass, HasReasons, SameSignature}
+use Rattle.automaton.specs.Rounds.{isSet, AllSet, AllCleared, total, SameClass, HasReasons, SameGraphSignature}
 use Rattle.automaton.proofs.Graph.{member-decide}
 
 -- one store to a list
@@ -38,21 +38,21 @@ total-set (y ∷ l) (suc i) x h = omega (arith, total-set l i x (le-of-suc-le-su
 module _ {G : Graph} (l : List ℕ) (s : ℕ) where
   -- a node with no marked successor may be cleared
   pub terminating-clear : AllCleared (G .nodes) (Terminating G) l
-      → ((a : ℕ) → a < G .letters → G .successor s a < G .nodes → T (not (marked l (G .successor s a))))
+      → ((a : ℕ) → a < G .letters → G .successor s a < G .nodes → T (not (isSet l (G .successor s a))))
       → AllCleared (G .nodes) (Terminating G) (set l s 0)
   terminating-clear all h = set-all (λ u x. u < G .nodes → T (not (not (eqb x 0))) → Terminating G u) l s 0 0 all
       λ _ _. ends λ a ha hu. all (G .successor s a) hu (h a ha hu)
 
   -- a node with a marked successor may be marked
-  pub reaches-mark : {kept : ℕ → Bool} (x : ℕ) → AllMarked (Reaches G kept) l
-      → (a : ℕ) → a < G .letters → G .successor s a < G .nodes → T (marked l (G .successor s a)) → AllMarked (Reaches G kept) (set l s x)
+  pub reaches-mark : {kept : ℕ → Bool} (x : ℕ) → AllSet (Reaches G kept) l
+      → (a : ℕ) → a < G .letters → G .successor s a < G .nodes → T (isSet l (G .successor s a)) → AllSet (Reaches G kept) (set l s x)
   reaches-mark {kept} x all a ha hu m = set-all (λ u y. T (not (eqb y 0)) → Reaches G kept u) l s x 0 all
       λ _. there a ha hu (all (G .successor s a) m)
 
   -- a node whose live successors are all marked may be marked
-  pub inevitable-mark : {live : ℕ → Bool} (x : ℕ) → AllMarked (Inevitable G live) l
-      → ((a : ℕ) → a < G .letters → Member G live (G .successor s a) → T (marked l (G .successor s a)))
-      → AllMarked (Inevitable G live) (set l s x)
+  pub inevitable-mark : {live : ℕ → Bool} (x : ℕ) → AllSet (Inevitable G live) l
+      → ((a : ℕ) → a < G .letters → Member G live (G .successor s a) → T (isSet l (G .successor s a)))
+      → AllSet (Inevitable G live) (set l s x)
   inevitable-mark {live} x all h = set-all (λ u y. T (not (eqb y 0)) → Inevitable G live u) l s x 0 all
       λ _. later λ a ha m. all (G .successor s a) (h a ha m)
 
@@ -106,7 +106,7 @@ module _ {G : Graph} {live final : ℕ → Bool} where
 
     -- a round that keeps nodes of one signature in one class has a reason for every parting
     pub refine-reasons : {class′ : ℕ → ℕ}
-        → ((s t : ℕ) → Member G live s → Member G live t → SameSignature G live class s t → SameClass class′ s t) → HasReasons G live final class′
+        → ((s t : ℕ) → Member G live s → Member G live t → SameGraphSignature G live class s t → SameClass class′ s t) → HasReasons G live final class′
     refine-reasons {class′} keeps s t ms mt = go (reasons s t ms mt) (each-or (SameStep G live (SameClass class) s t) (G .letters) (step-reason s t))
       where
         go : SameClass class s t ⊎ Distinguished G live final s t
@@ -118,7 +118,7 @@ module _ {G : Graph} {live final : ℕ → Bool} where
 
     -- a round that parts no class leaves the partition
     pub signature-partition : ((s t : ℕ) → Member G live s → Member G live t → SameClass class s t → T (final s) → T (final t))
-        → ((s t : ℕ) → Member G live s → Member G live t → SameClass class s t → SameSignature G live class s t)
+        → ((s t : ℕ) → Member G live s → Member G live t → SameClass class s t → SameGraphSignature G live class s t)
         → IsPartition G live final (SameClass class)
     signature-partition finals signature = record {
       reason = reasons;

@@ -4,7 +4,7 @@ use mathlib.Core.List.{List, [], _∷_, _++_, append-assoc, append-nil}
 use Prim.Native.Nat.{ℕ, zero, suc, _<_}
 use Rattle.automaton.specs.Words.{Word, tail, prefix, InRange}
 use Rattle.automaton.specs.Solutions.{SameSolutions, ByPrefixes}
-use Rattle.automaton.specs.Graph.{Graph, node-after, EndlessPath, Language}
+use Rattle.automaton.specs.Graph.{Graph, nodeAfter, EndlessPath, Language}
 use Rattle.automaton.specs.Situations.{IsCongruence, IsExplored}
 
 module _ {G : Graph} {lawful done : List ℕ → Type 0} {alike : List ℕ → List ℕ → Type 0} {shown : ℕ → List ℕ} {s₀ : ℕ}
@@ -36,14 +36,14 @@ module _ {G : Graph} {lawful done : List ℕ → Type 0} {alike : List ℕ → L
       E .edge↔lawful s a (p .inside) ha .1 (C .lawful-extend r (shown s) a ha (p .is-alike) (p .is-lawful) (E .shown-lawful s (p .inside)) l)
 
   follows-stands : (t s : ℕ) (r : List ℕ) (w : Word) → InRange (G .letters) w → Stands r s → EndlessPath G s w
-      → Stands (r ++ prefix w t) (node-after G s w t)
+      → Stands (r ++ prefix w t) (nodeAfter G s w t)
   follows-stands zero s r w b p f = rw append-nil p
   follows-stands (suc t) s r w b p f =
       let q = stands-extend r s (w 0) (b 0) p (f 1) in
       rw append-assoc at (follows-stands t (G .successor s (w 0)) (r ++ (w 0 ∷ [])) (tail w) (λ j. b (suc j)) q λ j. f (suc j))
 
   lawful-follows : (t s : ℕ) (r : List ℕ) (w : Word) → InRange (G .letters) w → Stands r s → ((j : ℕ) → lawful (r ++ prefix w j))
-      → node-after G s w t < G .nodes
+      → nodeAfter G s w t < G .nodes
   lawful-follows zero s r w b p l = p .inside
   lawful-follows (suc t) s r w b p l =
       let q = stands-extend r s (w 0) (b 0) p (lawful-edge r s (w 0) (b 0) p (l 1)) in
@@ -52,13 +52,13 @@ module _ {G : Graph} {lawful done : List ℕ → Type 0} {alike : List ℕ → L
   pub explored-solutions : SameSolutions (G .letters) (Language G s₀) (ByPrefixes lawful done)
   explored-solutions = record { to = to; from = from }
     where
-      at : (t : ℕ) (w : Word) → InRange (G .letters) w → EndlessPath G s₀ w → Stands (prefix w t) (node-after G s₀ w t)
+      at : (t : ℕ) (w : Word) → InRange (G .letters) w → EndlessPath G s₀ w → Stands (prefix w t) (nodeAfter G s₀ w t)
       at t w b f = follows-stands t s₀ [] w b stands-start f
 
       to : (w : Word) → InRange (G .letters) w → Language G s₀ w → ByPrefixes lawful done w
       to w b l =
           let r = prefix w (l .time) in
-          let s = node-after G s₀ w (l .time) in
+          let s = nodeAfter G s₀ w (l .time) in
           let p = at (l .time) w b (l .follows) in
           record {
             all-lawful = λ t. at t w b (l .follows) .is-lawful;
@@ -71,7 +71,7 @@ module _ {G : Graph} {lawful done : List ℕ → Type 0} {alike : List ℕ → L
       from w b x =
           let f : EndlessPath G s₀ w = λ t. lawful-follows t s₀ [] w b stands-start (x .all-lawful) in
           let r = prefix w (x .time) in
-          let s = node-after G s₀ w (x .time) in
+          let s = nodeAfter G s₀ w (x .time) in
           let p = at (x .time) w b f in
           record {
             follows = f;

@@ -12,19 +12,19 @@ tabulate zero f = []
 tabulate (suc m) f = f 0 ∷ tabulate m (λ i. f (suc i))
 
 -- some number below m passes the test. What a `let` binds is computed only if it is read: the search ends at such a number.
-abbrev pub any-below : (m : ℕ) (f : ℕ → Bool) → Bool
-any-below zero f = false
-any-below (suc m) f = let rest = any-below m f in f m || rest
+abbrev pub anyBelow : (m : ℕ) (f : ℕ → Bool) → Bool
+anyBelow zero f = false
+anyBelow (suc m) f = let rest = anyBelow m f in f m || rest
 
 -- the least number below m that passes the test, or m
-abbrev pub find-below : (m : ℕ) (f : ℕ → Bool) → ℕ
-find-below zero f = 0
-find-below (suc m) f = let rest = suc (find-below m (λ i. f (suc i))) in cond (f 0) 0 rest
+abbrev pub findBelow : (m : ℕ) (f : ℕ → Bool) → ℕ
+findBelow zero f = 0
+findBelow (suc m) f = let rest = suc (findBelow m (λ i. f (suc i))) in cond (f 0) 0 rest
 
 -- how many numbers below m pass the test
-abbrev pub count-below : (m : ℕ) (f : ℕ → Bool) → ℕ
-count-below zero f = 0
-count-below (suc m) f = cond (f m) 1 0 + count-below m f
+abbrev pub countBelow : (m : ℕ) (f : ℕ → Bool) → ℕ
+countBelow zero f = 0
+countBelow (suc m) f = cond (f m) 1 0 + countBelow m f
 
 -- the set l contains the number i
 abbrev pub contains : (l : List Bool) (i : ℕ) → Bool
@@ -42,7 +42,7 @@ module _ (m : ℕ) (rule : (ℕ → Bool) → ℕ → Bool) where
   rounds (suc fuel) l =
       let next = round l in
       let rest = rounds fuel next in
-      cond (eqb (count-below m (contains l)) (count-below m (contains next))) l rest
+      cond (eqb (countBelow m (contains l)) (countBelow m (contains next))) l rest
 
   -- the closure of the rule: m rounds are enough
   abbrev pub closure : List Bool

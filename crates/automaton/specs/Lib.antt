@@ -10,3 +10,5 @@ pub mod Situations
 pub mod Closure
 pub mod Construction
 pub mod Listed
+pub mod Reachable
+pub mod ReachedRows

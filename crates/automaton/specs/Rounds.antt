@@ -13,16 +13,16 @@ use Rattle.automaton.specs.Fixpoints.{Distinguished, SameStep}
 -- sets as bytes
 
 -- the nodes whose byte is not 0
-abbrev pub marked : (bytes : List ℕ) (s : ℕ) → Bool
-marked bytes s = not (eqb (getD bytes s 0) 0)
+abbrev pub isSet : (bytes : List ℕ) (s : ℕ) → Bool
+isSet bytes s = not (eqb (getD bytes s 0) 0)
 
 -- P holds of every marked node
-abbrev pub AllMarked : (P : ℕ → Type 0) (bytes : List ℕ) → Type 0
-AllMarked P bytes = (s : ℕ) → T (marked bytes s) → P s
+abbrev pub AllSet : (P : ℕ → Type 0) (bytes : List ℕ) → Type 0
+AllSet P bytes = (s : ℕ) → T (isSet bytes s) → P s
 
 -- P holds of every node below n that is not marked
 abbrev pub AllCleared : (n : ℕ) (P : ℕ → Type 0) (bytes : List ℕ) → Type 0
-AllCleared n P bytes = (s : ℕ) → s < n → T (not (marked bytes s)) → P s
+AllCleared n P bytes = (s : ℕ) → s < n → T (not (isSet bytes s)) → P s
 
 -- the sum of the bytes: it falls when a mark is cleared, and rises when one is set
 unfoldable pub total : List ℕ → ℕ
@@ -39,6 +39,6 @@ abbrev pub HasReasons : (G : Graph) (live final : ℕ → Bool) (class : ℕ →
 HasReasons G live final class = (s t : ℕ) → Member G live s → Member G live t → SameClass class s t ⊎ Distinguished G live final s t
 
 -- s and t have one class, and so have their live successors by each letter
-pub record SameSignature (G : Graph) (live : ℕ → Bool) (class : ℕ → ℕ) (s t : ℕ) : Type 0 where
+pub record SameGraphSignature (G : Graph) (live : ℕ → Bool) (class : ℕ → ℕ) (s t : ℕ) : Type 0 where
   pub same : SameClass class s t
   pub steps : (a : ℕ) → a < G .letters → SameStep G live (SameClass class) s t a

@@ -6,18 +6,18 @@ use Rattle.automaton.specs.Words.{Word}
 use Rattle.automaton.specs.Table.{IsTable, SameRows}
 
 -- "A row takes one entry per letter in the table": the entry of state i for letter a stands at i * k + a.
-abbrev pub entry-at : (k : ℕ) (entries : List ℕ) (i a : ℕ) → ℕ
-entry-at k entries i a = getD entries (i * k + a) 0
+abbrev pub entryAt : (k : ℕ) (entries : List ℕ) (i a : ℕ) → ℕ
+entryAt k entries i a = getD entries (i * k + a) 0
 
 -- "one final byte": that of state i stands at i.
-abbrev pub final-at : (finals : List ℕ) (i : ℕ) → ℕ
-final-at finals i = getD finals i 0
+abbrev pub finalAt : (finals : List ℕ) (i : ℕ) → ℕ
+finalAt finals i = getD finals i 0
 
 -- "The used rows are the first rows, as many as the states reported": they lie within the lists, and hold the table.
 pub record StoredTable (Sol : Word → Type 0) (k n : ℕ) (entries finals : List ℕ) : Type 0 where
   pub entries-fit : n * k ≤ length entries
   pub finals-fit : n ≤ length finals
-  pub table : IsTable Sol k n (entry-at k entries) (final-at finals)
+  pub table : IsTable Sol k n (entryAt k entries) (finalAt finals)
 
 -- the set has a table
 pub record HasTable (Sol : Word → Type 0) (k : ℕ) : Type 0 where
@@ -29,4 +29,4 @@ pub record HasTable (Sol : Word → Type 0) (k : ℕ) : Type 0 where
 -- "Those of two tables are equal if they are as many and agree in every entry and final byte."
 abbrev pub SameUsedRows : (k n : ℕ) (entries finals : List ℕ) (n′ : ℕ) (entries′ finals′ : List ℕ) → Type 0
 SameUsedRows k n entries finals n′ entries′ finals′ =
-    SameRows k n (entry-at k entries) (final-at finals) n′ (entry-at k entries′) (final-at finals′)
+    SameRows k n (entryAt k entries) (finalAt finals) n′ (entryAt k entries′) (finalAt finals′)

@@ -8,8 +8,8 @@ use Rattle.automaton.specs.Words.{Word, tail, InRange, AllBelow}
 use Rattle.automaton.specs.Solutions.{Continuation, SameContinuations, Begins}
 
 -- "65,535 for none"
-abbrev pub no-state : ℕ
-no-state = 65535
+abbrev pub noState : ℕ
+noState = 65535
 
 -- paths
 
@@ -26,7 +26,7 @@ run entry i w (suc t) = run entry (entry i (w 0)) (tail w) t
 -- "the entries for its letters can be followed one after the other and none is 65,535", from state i
 abbrev pub PathFrom : (ℕ → ℕ → ℕ) → ℕ → List ℕ → Type 0
 PathFrom entry i [] = Unit {0}
-PathFrom entry i (a ∷ r) = (entry i a ≢ no-state) × PathFrom entry (entry i a) r
+PathFrom entry i (a ∷ r) = (entry i a ≢ noState) × PathFrom entry (entry i a) r
 
 -- "A record of n letters is a path from the start if, from state 0, the entries for its letters can be followed one after the
 -- other and none is 65,535."
@@ -38,7 +38,7 @@ abbrev pub Follows : (n : ℕ) (entry : ℕ → ℕ → ℕ) (i : ℕ) (w : Word
 Follows n entry i w = (t : ℕ) → run entry i w t < n
 
 -- w is an endless path from the start that meets final states again and again
-pub record Accepted (n : ℕ) (entry : ℕ → ℕ → ℕ) (final : ℕ → ℕ) (w : Word) : Type 0 where
+pub record AcceptedWord (n : ℕ) (entry : ℕ → ℕ → ℕ) (final : ℕ → ℕ) (w : Word) : Type 0 where
   pub follows : Follows n entry 0 w
   pub again : (t : ℕ) → (u : ℕ) × (t ≤ u) × (final (run entry 0 w u) ≡ 1)
 
@@ -56,14 +56,14 @@ pub record FirstMet (k : ℕ) (entry : ℕ → ℕ → ℕ) (j : ℕ) : Type 0 w
   pub earlier-state : state < j
   pub is-letter : letter < k
   pub holds : entry state letter ≡ j
-  pub before : (i a : ℕ) → a < k → Before i a state letter → entry i a ≢ no-state → entry i a < j
+  pub before : (i a : ℕ) → a < k → Before i a state letter → entry i a ≢ noState → entry i a < j
 
 -- entries and final bytes
 
 -- "An entry is the next state, or 65,535 for none": v is the entry for the record r, where each of the n states has a
 -- representative, a record that leads to it.
 abbrev pub IsEntry : (Sol : Word → Type 0) (k n : ℕ) (representative : ℕ → List ℕ) (r : List ℕ) (v : ℕ) → Type 0
-IsEntry Sol k n representative r v = ((v ≡ no-state) × (¬ Begins Sol k r)) ⊎ ((v < n) × SameContinuations Sol k r (representative v))
+IsEntry Sol k n representative r v = ((v ≡ noState) × (¬ Begins Sol k r)) ⊎ ((v < n) × SameContinuations Sol k r (representative v))
 
 -- "every endless path from it completes a solution": of the state i, after the record r
 abbrev pub Completes : (Sol : Word → Type 0) (k n : ℕ) (entry : ℕ → ℕ → ℕ) (r : List ℕ) (i : ℕ) → Type 0
@@ -82,7 +82,7 @@ pub record IsTable (Sol : Word → Type 0) (k n : ℕ) (entry : ℕ → ℕ → 
   pub letters : (i : ℕ) → i < n → AllBelow k (representative i)
   pub not-empty : (i : ℕ) → i < n → Begins Sol k (representative i)
   pub distinct : (i j : ℕ) → i < n → j < n → SameContinuations Sol k (representative i) (representative j) → i ≡ j
-  pub room : n ≤ no-state
+  pub room : n ≤ noState
   -- "State 0 is the start;"
   pub some-state : 0 < n
   pub start : representative 0 ≡ []

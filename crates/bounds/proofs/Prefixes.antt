@@ -10,7 +10,6 @@ use lib.Dec.{leb, ltb}
 use lib.IntN.{ℤ}
 use lib.ListN.{getD}
 use borrow.Author.Tests.{leb-true, ltb-true, ltb-false, le-leb, lt-leb}
-use Rattle.meaning.specs.Arithmetic.{cutTowardZero}
 use Rattle.nodes.specs.Evaluate.{Nodes, kindOf}
 use Rattle.nodes.specs.Bounds.{summaryByKind, summaryBefore}
 use Rattle.nodes.specs.declared.Summary.{Summary}
@@ -65,19 +64,19 @@ prefixes-last {kinds} {d} {e} h s t = record { ends-within = omega (arith, s .en
 
 module _ (N : Nodes) (lows highs : List ℤ) (i : ℕ) where
   -- A prefix makes the summary of its part from that of the part behind it.
-  made : (k : ℕ) → isPrefix k ≡ true → prefixSummary k (summaryBefore cutTowardZero N lows highs i) ≡ summaryByKind cutTowardZero N lows highs (kindOf k) (summaryBefore cutTowardZero N lows highs) i
+  made : (k : ℕ) → isPrefix k ≡ true → prefixSummary k (summaryBefore N lows highs i) ≡ summaryByKind N lows highs (kindOf k) (summaryBefore N lows highs) i
   made k t = by (ℕ-discrete k 2) (ℕ-discrete k 3)
     where
       Same : ℕ → Type 0
-      Same j = prefixSummary j (summaryBefore cutTowardZero N lows highs i) ≡ summaryByKind cutTowardZero N lows highs (kindOf j) (summaryBefore cutTowardZero N lows highs) i
+      Same j = prefixSummary j (summaryBefore N lows highs i) ≡ summaryByKind N lows highs (kindOf j) (summaryBefore N lows highs) i
 
       by : Dec (k ≡ 2) → Dec (k ≡ 3) → Same k
       by (yes two) e = subst Same (sym two) refl
       by (no f) (yes three) = subst Same (sym three) refl
       by (no f) (no g) = let w = prefix-within k t in let four : 4 ≡ k = omega arith in subst Same four refl
 
-  pub prefix-made : isPrefix (getD (N .kinds) i 0) ≡ true → prefixSummary (getD (N .kinds) i 0) (summaryBefore cutTowardZero N lows highs i) ≡ summaryBefore cutTowardZero N lows highs (i + 1)
-  prefix-made t = made (getD (N .kinds) i 0) t ∙ sym (summaryBefore-node cutTowardZero N lows highs i) ∙ ap (summaryBefore cutTowardZero N lows highs) (sym (add-one i))
+  pub prefix-made : isPrefix (getD (N .kinds) i 0) ≡ true → prefixSummary (getD (N .kinds) i 0) (summaryBefore N lows highs i) ≡ summaryBefore N lows highs (i + 1)
+  prefix-made t = made (getD (N .kinds) i 0) t ∙ sym (summaryBefore-node N lows highs i) ∙ ap (summaryBefore N lows highs) (sym (add-one i))
 
 pub leads-none : {kinds : List ℕ} {d : ℕ} {a : Summary} → Leads kinds d a d a
 leads-none = record { summary = λ N lows highs s r. r }

@@ -12,15 +12,15 @@ use borrow.Author.Tests.{le-leb, lt-leb, leb-false, lt-ltb, le-ltb}
 use mir.Syntax.{w64}
 use mir.Val.{SFits}
 use mir.ValLaws.{toZ-ofZ}
-use Rattle.meaning.specs.Arithmetic.{Interval, least, greatest, overEnds, magnitude, around, truthInterval, operatorInterval, apply, cutTowardZero}
+use Rattle.meaning.specs.Arithmetic.{Interval, least, greatest, overEnds, magnitude, around, truthInterval, operatorInterval, apply}
 use Rattle.meaning.proofs.Arithmetic.{magnitude-bounds}
 use Rattle.meaning.proofs.Order.{≤ℤ-trans, least-≤-left, least-≤-right, greatest-≥-left, greatest-≥-right}
 use Rattle.sheet.specs.Refusal.{magnitudeBound}
 use Rattle.nodes.specs.Bounded.{inBound, noValue, someValue, bounded, operatorAt, appliedByKind}
-use Rattle.nodes.specs.Bounds.{noRange, rangeWithin, intervalOf, usable, joined, operatorRange, streamRange, endsInBound}
+use Rattle.nodes.specs.Bounds.{noRange, rangeWithin, intervalOf, usable, combined, operatorRange, streamRange, endsInBound}
 use Rattle.nodes.specs.declared.Evaluated.{Evaluated}
 use Rattle.nodes.specs.declared.Range.{Range}
-use Rattle.nodes.proofs.Parts.{and-left, and-right}
+use Rattle.nodes.proofs.Parts.{and-true-left, and-true-right}
 use Rattle.arithmetic.proofs.Machine.{held, held-both, small-fits, number-natural, number-negative}
 use Rattle.arithmetic.proofs.Operators.{inBound-Small}
 use Rattle.bounds.specs.Span.{span, spanValues}
@@ -55,20 +55,20 @@ module _ (a : Range) where
 
   pub usable-parts : usable a ≡ true → (a .ok ≡ true) × (inBound (a .low) ≡ true) × (inBound (a .high) ≡ true)
   usable-parts e =
-      let r = and-right (a .ok) (endsInBound (intervalOf a)) e in
-      (and-left (a .ok) (endsInBound (intervalOf a)) e, and-left (inBound (a .low)) (inBound (a .high)) r, and-right (inBound (a .low)) (inBound (a .high)) r)
+      let r = and-true-right (a .ok) (endsInBound (intervalOf a)) e in
+      (and-true-left (a .ok) (endsInBound (intervalOf a)) e, and-true-left (inBound (a .low)) (inBound (a .high)) r, and-true-right (inBound (a .low)) (inBound (a .high)) r)
 
 pub inBound-fits : (z : ℤ) → inBound z ≡ true → SFits w64 z
 inBound-fits z e = small-fits z (inBound-Small z e)
 
 module _ (f : Interval → Interval → Interval) (a b : Range) where
-  pub joined-yes : usable a ≡ true → usable b ≡ true → rangeWithin (f (intervalOf a) (intervalOf b)) ≡ joined f a b
+  pub joined-yes : usable a ≡ true → usable b ≡ true → rangeWithin (f (intervalOf a) (intervalOf b)) ≡ combined f a b
   joined-yes p q = sym (simp (p, q))
 
-  pub joined-right : usable a ≡ true → usable b ≡ false → noRange ≡ joined f a b
+  pub joined-right : usable a ≡ true → usable b ≡ false → noRange ≡ combined f a b
   joined-right p q = sym (simp (p, q))
 
-  pub joined-left : usable a ≡ false → noRange ≡ joined f a b
+  pub joined-left : usable a ≡ false → noRange ≡ combined f a b
   joined-left p = sym (simp p)
 
 -- ---- least and greatest
@@ -161,25 +161,25 @@ module _ (p q r s : Evaluated) (ep : p .ok ≡ true) where
 
 -- ---- "for `+ - *` the least and greatest over the ends"
 
-applied-bounded : (k : ℕ) (a b : ℤ) → 7 ≤ k → k < 20 → inBound a ≡ true → inBound b ≡ true → appliedByKind cutTowardZero k a b ≡ bounded (apply cutTowardZero (operatorAt k) a b)
+applied-bounded : (k : ℕ) (a b : ℤ) → 7 ≤ k → k < 20 → inBound a ≡ true → inBound b ≡ true → appliedByKind k a b ≡ bounded (apply (operatorAt k) a b)
 applied-bounded k a b l h p q = simp (le-leb 7 k l, lt-ltb k 20 h, p, q)
 
 spanValues-cong : {p p′ q q′ r r′ s s′ : Evaluated} → p ≡ p′ → q ≡ q′ → r ≡ r′ → s ≡ s′ → spanValues p q r s ≡ spanValues p′ q′ r′ s′
 spanValues-cong a b c d = λ i. spanValues (a i) (b i) (c i) (d i)
 
 module _ (k : ℕ) (a b : Range) (l : 7 ≤ k) (h : k < 20) (ua : usable a ≡ true) (ub : usable b ≡ true) where
-  end : (x y : ℤ) → inBound x ≡ true → inBound y ≡ true → {p : Evaluated} → p ≡ appliedByKind cutTowardZero k (held x) (held y) → p ≡ bounded (apply cutTowardZero (operatorAt k) x y)
-  end x y ix iy e = e ∙ held-both (appliedByKind cutTowardZero k) x y (inBound-fits x ix) (inBound-fits y iy) ∙ applied-bounded k x y l h ix iy
+  end : (x y : ℤ) → inBound x ≡ true → inBound y ≡ true → {p : Evaluated} → p ≡ appliedByKind k (held x) (held y) → p ≡ bounded (apply (operatorAt k) x y)
+  end x y ix iy e = e ∙ held-both (appliedByKind k) x y (inBound-fits x ix) (inBound-fits y iy) ∙ applied-bounded k x y l h ix iy
 
-  pub over-ends : {p q r s : Evaluated} → p ≡ appliedByKind cutTowardZero k (held (a .low)) (held (b .low)) → q ≡ appliedByKind cutTowardZero k (held (a .low)) (held (b .high))
-      → r ≡ appliedByKind cutTowardZero k (held (a .high)) (held (b .low)) → s ≡ appliedByKind cutTowardZero k (held (a .high)) (held (b .high))
-      → spanValues p q r s ≡ rangeWithin (overEnds (apply cutTowardZero (operatorAt k)) (intervalOf a) (intervalOf b))
+  pub over-ends : {p q r s : Evaluated} → p ≡ appliedByKind k (held (a .low)) (held (b .low)) → q ≡ appliedByKind k (held (a .low)) (held (b .high))
+      → r ≡ appliedByKind k (held (a .high)) (held (b .low)) → s ≡ appliedByKind k (held (a .high)) (held (b .high))
+      → spanValues p q r s ≡ rangeWithin (overEnds (apply (operatorAt k)) (intervalOf a) (intervalOf b))
   over-ends ep eq er es =
       let x = usable-parts a ua in
       let y = usable-parts b ub in
       spanValues-cong (end (a .low) (b .low) (x .1) (y .1) ep) (end (a .low) (b .high) (x .1) (y .2) eq) (end (a .high) (b .low) (x .2) (y .1) er) (end (a .high) (b .high) (x .2) (y .2) es)
-      ∙ span-bounded (apply cutTowardZero (operatorAt k) (a .low) (b .low)) (apply cutTowardZero (operatorAt k) (a .low) (b .high))
-      (apply cutTowardZero (operatorAt k) (a .high) (b .low)) (apply cutTowardZero (operatorAt k) (a .high) (b .high))
+      ∙ span-bounded (apply (operatorAt k) (a .low) (b .low)) (apply (operatorAt k) (a .low) (b .high))
+      (apply (operatorAt k) (a .high) (b .low)) (apply (operatorAt k) (a .high) (b .high))
 
 -- ---- "for `/` and `%` from −M to M"
 
@@ -250,50 +250,50 @@ from P n p f k h = by (ℕ-discrete k n)
     by (no e) = f k (omega arith)
 
 module _ (I J : Interval) where
-  ends-interval : (k : ℕ) → 7 ≤ k → k < 10 → overEnds (apply cutTowardZero (operatorAt k)) I J ≡ operatorInterval cutTowardZero (operatorAt k) I J
+  ends-interval : (k : ℕ) → 7 ≤ k → k < 10 → overEnds (apply (operatorAt k)) I J ≡ operatorInterval (operatorAt k) I J
   ends-interval =
-      let P : ℕ → Type 0 = λ k. k < 10 → overEnds (apply cutTowardZero (operatorAt k)) I J ≡ operatorInterval cutTowardZero (operatorAt k) I J in
+      let P : ℕ → Type 0 = λ k. k < 10 → overEnds (apply (operatorAt k)) I J ≡ operatorInterval (operatorAt k) I J in
       from P 7 (λ h. refl) (from P 8 (λ h. refl) (from P 9 (λ h. refl) (λ k l h. absurd (omega arith))))
 
-  around-interval : (k : ℕ) → 10 ≤ k → k < 12 → around (magnitude I) ≡ operatorInterval cutTowardZero (operatorAt k) I J
+  around-interval : (k : ℕ) → 10 ≤ k → k < 12 → around (magnitude I) ≡ operatorInterval (operatorAt k) I J
   around-interval =
-      let P : ℕ → Type 0 = λ k. k < 12 → around (magnitude I) ≡ operatorInterval cutTowardZero (operatorAt k) I J in
+      let P : ℕ → Type 0 = λ k. k < 12 → around (magnitude I) ≡ operatorInterval (operatorAt k) I J in
       from P 10 (λ h. refl) (from P 11 (λ h. refl) (λ k l h. absurd (omega arith)))
 
-  truth-interval : (k : ℕ) → 12 ≤ k → k ≤ 19 → truthInterval ≡ operatorInterval cutTowardZero (operatorAt k) I J
+  truth-interval : (k : ℕ) → 12 ≤ k → k ≤ 19 → truthInterval ≡ operatorInterval (operatorAt k) I J
   truth-interval =
-      let P : ℕ → Type 0 = λ k. k ≤ 19 → truthInterval ≡ operatorInterval cutTowardZero (operatorAt k) I J in
+      let P : ℕ → Type 0 = λ k. k ≤ 19 → truthInterval ≡ operatorInterval (operatorAt k) I J in
       from P 12 (λ h. refl) (from P 13 (λ h. refl) (from P 14 (λ h. refl) (from P 15 (λ h. refl) (from P 16 (λ h. refl) (from P 17 (λ h. refl) (from P 18 (λ h. refl)
       (from P 19 (λ h. refl) (λ k l h. absurd (omega arith)))))))))
 
 module _ (k : ℕ) (a b : Range) where
-  pub kind-low : k < 7 → noRange ≡ operatorRange cutTowardZero k a b
+  pub kind-low : k < 7 → noRange ≡ operatorRange k a b
   kind-low h = sym (simp (lt-leb 7 k h))
 
-  pub kind-high : 7 ≤ k → 19 < k → noRange ≡ operatorRange cutTowardZero k a b
+  pub kind-high : 7 ≤ k → 19 < k → noRange ≡ operatorRange k a b
   kind-high l h = sym (simp (le-leb 7 k l, le-ltb k 20 h))
 
   module _ (l : 7 ≤ k) (h : k ≤ 19) where
-    of-joined : {r : Range} → r ≡ joined (operatorInterval cutTowardZero (operatorAt k)) a b → r ≡ operatorRange cutTowardZero k a b
+    of-joined : {r : Range} → r ≡ combined (operatorInterval (operatorAt k)) a b → r ≡ operatorRange k a b
     of-joined e = e ∙ sym (simp (le-leb 7 k l, lt-ltb k 20 (omega arith)))
 
-    pub kind-left : usable a ≡ false → noRange ≡ operatorRange cutTowardZero k a b
-    kind-left p = of-joined (joined-left (operatorInterval cutTowardZero (operatorAt k)) a b p)
+    pub kind-left : usable a ≡ false → noRange ≡ operatorRange k a b
+    kind-left p = of-joined (joined-left (operatorInterval (operatorAt k)) a b p)
 
-    pub kind-right : usable a ≡ true → usable b ≡ false → noRange ≡ operatorRange cutTowardZero k a b
-    kind-right p q = of-joined (joined-right (operatorInterval cutTowardZero (operatorAt k)) a b p q)
+    pub kind-right : usable a ≡ true → usable b ≡ false → noRange ≡ operatorRange k a b
+    kind-right p q = of-joined (joined-right (operatorInterval (operatorAt k)) a b p q)
 
     module _ (p : usable a ≡ true) (q : usable b ≡ true) where
-      of-interval : {I : Interval} → I ≡ operatorInterval cutTowardZero (operatorAt k) (intervalOf a) (intervalOf b) → rangeWithin I ≡ operatorRange cutTowardZero k a b
-      of-interval e = of-joined (ap rangeWithin e ∙ joined-yes (operatorInterval cutTowardZero (operatorAt k)) a b p q)
+      of-interval : {I : Interval} → I ≡ operatorInterval (operatorAt k) (intervalOf a) (intervalOf b) → rangeWithin I ≡ operatorRange k a b
+      of-interval e = of-joined (ap rangeWithin e ∙ joined-yes (operatorInterval (operatorAt k)) a b p q)
 
-      pub kind-ends : k < 10 → rangeWithin (overEnds (apply cutTowardZero (operatorAt k)) (intervalOf a) (intervalOf b)) ≡ operatorRange cutTowardZero k a b
+      pub kind-ends : k < 10 → rangeWithin (overEnds (apply (operatorAt k)) (intervalOf a) (intervalOf b)) ≡ operatorRange k a b
       kind-ends t = of-interval (ends-interval (intervalOf a) (intervalOf b) k l t)
 
-      pub kind-around : 10 ≤ k → k < 12 → rangeWithin (around (magnitude (intervalOf a))) ≡ operatorRange cutTowardZero k a b
+      pub kind-around : 10 ≤ k → k < 12 → rangeWithin (around (magnitude (intervalOf a))) ≡ operatorRange k a b
       kind-around s t = of-interval (around-interval (intervalOf a) (intervalOf b) k s t)
 
-      pub kind-truth : 12 ≤ k → rangeWithin truthInterval ≡ operatorRange cutTowardZero k a b
+      pub kind-truth : 12 ≤ k → rangeWithin truthInterval ≡ operatorRange k a b
       kind-truth s = of-interval (truth-interval (intervalOf a) (intervalOf b) k s h)
 
 -- ---- the range of a stream

@@ -6,7 +6,6 @@ use mathlib.Core.List.{List}
 use lib.Dec.{leb, ltb, eqb}
 use lib.IntN.{ℤ}
 use lib.ListN.{getD}
-use Rattle.meaning.specs.Arithmetic.{cutTowardZero}
 use Rattle.nodes.specs.Evaluate.{Nodes}
 use Rattle.nodes.specs.Bounds.{firstSummary, nextSummary, negationSummary, summaryBefore}
 use Rattle.nodes.specs.declared.Summary.{Summary}
@@ -26,4 +25,4 @@ pub record Prefixes (kinds : List ℕ) (d e : ℕ) : Type 0 where
 
 -- From a, the summary of the part that ends at d, comes b, the summary of the part that ends at e, whatever else is stored.
 pub record Leads (kinds : List ℕ) (d : ℕ) (a : Summary) (e : ℕ) (b : Summary) : Type 0 where
-  pub summary : (N : Nodes) (lows highs : List ℤ) → N .kinds ≡ kinds → a ≡ summaryBefore cutTowardZero N lows highs d → b ≡ summaryBefore cutTowardZero N lows highs e
+  pub summary : (N : Nodes) (lows highs : List ℤ) → N .kinds ≡ kinds → a ≡ summaryBefore N lows highs d → b ≡ summaryBefore N lows highs e

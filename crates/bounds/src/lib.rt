@@ -1,19 +1,20 @@
 use arithmetic::apply;
 use arithmetic::at_most;
 use arithmetic::in_bound;
+use basics::larger;
 use nodes::Evaluated;
 use nodes::Range;
 use nodes::Summary;
 use nodes::left_end;
 ghost use mathlib.Core.Path.{_≡_};
 ghost use mathlib.Core.Bool.{true};
-ghost use Prim.Native.Nat.{suc, _+_, _-_, _≤_, _<_, max};
-ghost use lib.IntN.{ℤ, pos, natAbs};
+ghost use Prim.Native.Nat.{suc, _+_, _-_, _≤_, _<_};
+ghost use lib.IntN.{pos, natAbs};
 ghost use lib.ListN.{length};
-ghost use Rattle.meaning.specs.Arithmetic.{least, greatest, hull, overEnds, around, magnitude, cutTowardZero, apply};
+ghost use Rattle.meaning.specs.Arithmetic.{least, greatest, hull, overEnds, around, magnitude, apply};
 ghost use Rattle.nodes.specs.Bounded.{inBound, operatorAt};
-ghost use Rattle.nodes.specs.Evaluate.{stored, Stores};
-ghost use Rattle.nodes.specs.Bounds.{noRange, rangeWithin, intervalOf, usable, joined, truthRange, operatorRange, branchRange, streamRange, limited, noSummary, leafSummary, firstSummary, nextSummary, negationSummary, operatorSummary, conditionalSummary, fbySummary, summaryBefore, nodeSummary};
+ghost use Rattle.nodes.specs.Evaluate.{stored, HoldsParts};
+ghost use Rattle.nodes.specs.Bounds.{noRange, rangeWithin, intervalOf, usable, combined, truthRange, operatorRange, branchRange, streamRange, limited, noSummary, leafSummary, firstSummary, nextSummary, negationSummary, operatorSummary, conditionalSummary, fbySummary, summaryBefore, nodeSummary};
 ghost use Rattle.bounds.specs.Prefix.{isPrefix, prefixSummary, Prefixes, Leads};
 ghost use Rattle.bounds.specs.Span.{span, spanValues};
 
@@ -75,7 +76,7 @@ fn greatest(a: i64, b: i64) -> i64
 
 // "the hull of both sides"
 fn hull(a: Range, b: Range) -> Range
-    ensures { λ r. ⌜ r ≡ joined hull a b ⌝ }
+    ensures { λ r. ⌜ r ≡ combined hull a b ⌝ }
 {
     if usable(a) {
         if usable(b) {
@@ -124,7 +125,7 @@ fn span_values(p: Evaluated, q: Evaluated, r: Evaluated, s: Evaluated) -> Range
 // "for `+ - *` the least and greatest over the ends": within the bound where all four results are.
 fn over_ends(kind: u8, a: Range, b: Range) -> Range
     requires { ⌜ (7 ≤ kind) × (kind < 10) × (usable a ≡ true) × (usable b ≡ true) ⌝ }
-    ensures { λ r. ⌜ r ≡ rangeWithin (overEnds (apply cutTowardZero (operatorAt kind)) (intervalOf a) (intervalOf b)) ⌝ }
+    ensures { λ r. ⌜ r ≡ rangeWithin (overEnds (apply (operatorAt kind)) (intervalOf a) (intervalOf b)) ⌝ }
 {
     let low = a.low;
     let high = a.high;
@@ -167,12 +168,12 @@ fn truth_range(a: Range) -> Range
 
 // The interval of what the operator with a node's kind gives.
 fn operator_range(kind: u8, a: Range, b: Range) -> Range
-    ensures { λ r. ⌜ r ≡ operatorRange cutTowardZero kind a b ⌝ }
+    ensures { λ r. ⌜ r ≡ operatorRange kind a b ⌝ }
 {
-    if kind < 7 {
+    if kind < nodes::ADD_NODE {
         return no_range();
     }
-    if 19 < kind {
+    if nodes::OR_NODE < kind {
         return no_range();
     }
     if !usable(a) {
@@ -181,10 +182,10 @@ fn operator_range(kind: u8, a: Range, b: Range) -> Range
     if !usable(b) {
         return no_range();
     }
-    if kind < 10 {
+    if kind < nodes::DIVIDE_NODE {
         return over_ends(kind, a, b);
     }
-    if kind < 12 {
+    if kind < nodes::LESS_NODE {
         return around(a);
     }
     range_within(0, 1)
@@ -205,15 +206,6 @@ fn stream_range(lows: &[i64], highs: &[i64], number: i64) -> Range
         return no_range();
     }
     range_within(lows[k], highs[k])
-}
-
-fn larger(a: u32, b: u32) -> u32
-    ensures { λ r. ⌜ r ≡ max a b ⌝ }
-{
-    if a <= b {
-        return b;
-    }
-    a
 }
 
 // One more, up to the limit of the counts.
@@ -303,7 +295,7 @@ fn after_not(a: Summary) -> Summary
 }
 
 fn operator(kind: u8, a: Summary, b: Summary) -> Summary
-    ensures { λ r. ⌜ r ≡ operatorSummary cutTowardZero kind a b ⌝ }
+    ensures { λ r. ⌜ r ≡ operatorSummary kind a b ⌝ }
 {
     let range = operator_range(kind, a.range, b.range);
     Summary {
@@ -358,20 +350,20 @@ fn no_summary() -> Summary
 fn is_prefix(kind: u8) -> bool
     ensures { λ r. ⌜ r ≡ isPrefix kind ⌝ }
 {
-    if kind < 2 {
+    if kind < nodes::FIRST_NODE {
         return false;
     }
-    kind < 5
+    kind < nodes::CONDITIONAL_NODE
 }
 
 // What a `first`, a `next` or a `not` makes of the summary of what it stands before.
 fn after_prefix(kind: u8, a: Summary) -> Summary
     ensures { λ r. ⌜ r ≡ prefixSummary kind a ⌝ }
 {
-    if kind == 2 {
+    if kind == nodes::FIRST_NODE {
         return after_first(a);
     }
-    if kind == 3 {
+    if kind == nodes::NEXT_NODE {
         return after_next(a);
     }
     after_not(a)
@@ -416,8 +408,8 @@ fn summary_before(
     highs: &[i64],
     end: usize,
 ) -> Summary
-    requires { ⌜ Stores (stored (now kinds) (now values) (now starts)) end ⌝ }
-    ensures { λ r. ⌜ r ≡ summaryBefore cutTowardZero (stored (now (kinds .entry)) (now (values .entry)) (now (starts .entry))) (now (lows .entry)) (now (highs .entry)) end ⌝ }
+    requires { ⌜ HoldsParts (stored (now kinds) (now values) (now starts)) end ⌝ }
+    ensures { λ r. ⌜ r ≡ summaryBefore (stored (now (kinds .entry)) (now (values .entry)) (now (starts .entry))) (now (lows .entry)) (now (highs .entry)) end ⌝ }
 {
     if end == 0 {
         return no_summary();
@@ -430,9 +422,9 @@ fn summary_before(
         return after_prefixes(kinds, from, end, inner);
     }
     match kind {
-        0 => leaf(range_within(values[i], values[i])),
-        1 => leaf(stream_range(lows, highs, values[i])),
-        5 => {
+        nodes::INTEGER_NODE => leaf(range_within(values[i], values[i])),
+        nodes::NAME_NODE => leaf(stream_range(lows, highs, values[i])),
+        nodes::CONDITIONAL_NODE => {
             let middle = left_end(starts, i);
             let left = left_end(starts, middle);
             let c = summary_before(kinds, values, starts, lows, highs, left);
@@ -440,7 +432,7 @@ fn summary_before(
             let b = summary_before(kinds, values, starts, lows, highs, i);
             conditional(c, a, b)
         }
-        6 => {
+        nodes::FBY_NODE => {
             let left = left_end(starts, i);
             let a = summary_before(kinds, values, starts, lows, highs, left);
             let b = summary_before(kinds, values, starts, lows, highs, i);
@@ -464,7 +456,7 @@ pub fn summary(
     highs: &[i64],
     root: usize,
 ) -> Summary
-    ensures { λ r. ⌜ r ≡ nodeSummary cutTowardZero (stored (now (kinds .entry)) (now (values .entry)) (now (starts .entry))) (now (lows .entry)) (now (highs .entry)) root ⌝ }
+    ensures { λ r. ⌜ r ≡ nodeSummary (stored (now (kinds .entry)) (now (values .entry)) (now (starts .entry))) (now (lows .entry)) (now (highs .entry)) root ⌝ }
 {
     if kinds.len() <= root {
         return no_summary();

@@ -1,5 +1,4 @@
 pub mod Rows
 pub mod Sheet
-pub mod Found
-pub mod Stored
 pub mod Reading
+pub mod Parts

@@ -6,17 +6,17 @@ use native.Mathlib.Nat.{div-one}
 use mathlib.Core.Path.{_≡_}
 use mathlib.Core.List.{List, [], _∷_}
 use lib.ListN.{length}
-use Rattle.outcome.specs.Room.{Lent, fewestRows}
+use Rattle.outcome.specs.Room.{LentTable, fewestRows}
 use Rattle.outcome.specs.Compile.{roomRows}
 use Rattle.outcome.proofs.CompileTotal.{rows-fit}
 use Rattle.compile.specs.Lent.{roomOf}
 
 -- Each of the tables has room for n rows.
-abbrev pub Holds : ℕ → Lent → List Lent → Type 0
+abbrev pub Holds : ℕ → LentTable → List LentTable → Type 0
 Holds n t [] = n * t .perRow ≤ t .size
 Holds n t (u ∷ us) = (n * t .perRow ≤ t .size) × Holds n u us
 
-pub fewest-hold : (n : ℕ) (t : Lent) (ts : List Lent) → n ≤ fewestRows t ts → Holds n t ts
+pub fewest-hold : (n : ℕ) (t : LentTable) (ts : List LentTable) → n ≤ fewestRows t ts → Holds n t ts
 fewest-hold n t [] h = rows-fit n (t .perRow) (t .size) h
 fewest-hold n t (u ∷ us) h = (rows-fit n (t .perRow) (t .size) (omega arith), fewest-hold n u us (omega arith))
 

@@ -15,48 +15,48 @@ use borrow.Author.Tests.{lt-ltb, le-ltb}
 use Rattle.automaton.specs.Solutions.{SameSolutions}
 use Rattle.automaton.specs.Graph.{Language}
 use Rattle.automaton.proofs.Transfer.{table-transfer}
-use Rattle.meaning.specs.Arithmetic.{Arithmetic}
 use Rattle.meaning.specs.Expression.{Sheet}
 use Rattle.meaning.specs.Letter.{letterCount, SolutionWord}
 use Rattle.meaning.specs.Situation.{SituationCount, MoreSituations}
 use Rattle.sheet.specs.Accepted.{Accepted}
+use Rattle.explore.specs.Exploration.{exploreTables}
 use Rattle.explore.specs.Rows.{ExploredRows}
 use Rattle.explore.proofs.GraphLaws.{row-bits, row-targets, row-flags-stay, row-graph, rows-language}
-use Rattle.minimise.specs.StoredGraph.{IsStoredGraph, stored-graph}
-use Rattle.minimise.specs.Outcome.{Tables as Held, cleared, IsAccepted, IsRefusal, NoWord, HasTable, MinimiseOutcome}
+use Rattle.stored_graph.specs.StoredGraph.{IsStoredGraph, storedGraph}
+use Rattle.minimise.specs.Outcome.{GraphTables, cleared, IsAccepted, IsRefusal, NoWord, TableGiven, MinimiseOutcome}
 use Rattle.minimise.specs.declared.Minimised.{Minimised}
 use Rattle.marks.proofs.Clearing.{all-zero}
 use Rattle.outcome.specs.Room.{zeros, zeroTables}
-use Rattle.outcome.specs.Compile.{refusedBy, Room, roomRows, Tables, allZero, SituationsFit, SheetOutcome, tooManySituations, tooFewRows, noSolution, compiled, situationBound}
-use Rattle.outcome.proofs.CompileTotal.{no-streams}
+use Rattle.outcome.specs.Compile.{refusedAnswer, Room, roomRows, Tables, allZero, SituationsFit, SheetOutcome, tooManySituations, tooFewRows, noSolution, compiled, situationBound}
 use Rattle.compiled.specs.declared.Compiled.{Compiled}
-use Rattle.compile.specs.Lent.{roomOf, tablesOf, answerOf}
+use Rattle.compile.specs.Lent.{roomOf, answerOf}
 use Rattle.compiled.specs.Answer.{refusedWith, madeOf}
-use Rattle.compile.specs.Sheet.{Found, RoomFor}
+use Rattle.compiled.proofs.Counted.{all-counted}
+use Rattle.situations.specs.Found.{SituationsFound, RoomFor}
 use Rattle.compile.proofs.Rows.{Holds, fewest-hold, le-of-not-lt, limit-rows, limit-bound, within-rows, within-bound, rows-lent}
 
 -- ---- the rows are a graph
 
-module _ (A : Arithmetic) (s : Sheet) {n : ℕ} {entries flags : List ℕ} (x : ExploredRows A s n entries flags) (few : n ≤ situationBound) where
+module _ (s : Sheet) {n : ℕ} {entries flags : List ℕ} (x : ExploredRows s n entries flags) (few : n ≤ situationBound) where
   pub rows-stored : 0 < letterCount (s .streams) → n * letterCount (s .streams) ≤ length entries → n ≤ length flags → IsStoredGraph entries flags (letterCount (s .streams)) n
   rows-stored some e f =
       record {
         some-letter = some;
-        some-row = x .some-row;
+        some-row = x .rows .some-row;
         few-rows = few;
         entries-fit = e;
         flags-fit = f;
-        bits = row-bits A s x (omega arith);
-        targets = row-targets A s x (omega arith);
-        stays = row-flags-stay A s x (omega arith);
-        first-met = x .first-met;
+        bits = row-bits s x (omega arith);
+        targets = row-targets s x (omega arith);
+        stays = row-flags-stay s x (omega arith);
+        first-met = x .rows .first-met;
       }
 
   -- The language does not depend on why the tables are a graph.
-  pub stored-language : (g : IsStoredGraph entries flags (letterCount (s .streams)) n) → SameSolutions (letterCount (s .streams)) (Language (stored-graph g) 0) (SolutionWord A s)
+  pub stored-language : (g : IsStoredGraph entries flags (letterCount (s .streams)) n) → SameSolutions (letterCount (s .streams)) (Language (storedGraph g) 0) (SolutionWord s)
   unfolding row-graph
   stored-language g =
-      let same = rows-language A s x (omega arith) in
+      let same = rows-language s x (omega arith) in
       record {
         to = λ w b l. same .to w b (record { follows = l .follows; time = l .time; is-done = l .is-done });
         from = λ w b z. let l = same .from w b z in record { follows = l .follows; time = l .time; is-done = l .is-done };
@@ -71,20 +71,14 @@ zero-from list from size e z =
 
 -- ---- the outcome
 
-module _ {A : Arithmetic} {s : Sheet} (accepted : Accepted A s) (entries finals keys live class next heads links shared : List ℕ) where
-  abbrev k : ℕ
-  k = letterCount (s .streams)
-
+module _ (entries finals keys live class next heads links shared : List ℕ) where
   abbrev room : Room
   room = roomOf entries finals keys live class next heads links shared
 
-  abbrev R : ℕ
-  R = roomRows room k
-
   -- What the table is made of, and what that leaves; the sizes stay.
-  module _ (limit n refusal states : ℕ) (entries₁ finals₁ heads₁ links₁ : List ℕ) (after : Held) (el : length entries₁ ≡ length entries) (fl : length finals₁ ≡ length finals)
-      (hl : length heads₁ ≡ length heads) (ll : length links₁ ≡ length links) (cut : limit ≡ min R situationBound) where
-    abbrev before : Held
+  module _ (n refusal states : ℕ) (entries₁ finals₁ heads₁ links₁ : List ℕ) (after : GraphTables) (el : length entries₁ ≡ length entries) (fl : length finals₁ ≡ length finals)
+      (hl : length heads₁ ≡ length heads) (ll : length links₁ ≡ length links) where
+    abbrev before : GraphTables
     before = record { entries = entries₁; flags = finals₁; work = live ∷ (class ∷ (next ∷ (heads₁ ∷ (links₁ ∷ (shared ∷ []))))) }
 
     abbrev made : Minimised
@@ -100,83 +94,106 @@ module _ {A : Arithmetic} {s : Sheet} (accepted : Accepted A s) (entries finals 
     all-zeros z =
         sym (λ i. record { entries = (z .entries-zero ∙ ap zeros el) i; finals = (z .flags-zero ∙ ap zeros fl) i; work = work-zeros (z .work-zero) i })
 
-    -- The limit is the bound or the rows lent, whichever is less.
-    more-outcome : {number : ℕ} → MoreSituations A s limit → IsRefusal number before refusal states after → SheetOutcome A s room (answerOf (cond (ltb R situationBound) (refusedWith 10) (refusedWith 8))) left
-    more-outcome more z = by (decLt R situationBound)
-      where
-        by : Dec (R < situationBound) → SheetOutcome A s room (answerOf (cond (ltb R situationBound) (refusedWith 10) (refusedWith 8))) left
-        by (yes h) =
-            subst (SheetOutcome A s room (answerOf (cond (ltb R situationBound) (refusedWith 10) (refusedWith 8)))) (all-zeros z)
-            (rw (lt-ltb R situationBound h) (tooFewRows h (subst (MoreSituations A s) (limit-rows R situationBound limit cut h) more)))
-        by (no h) =
-            subst (SheetOutcome A s room (answerOf (cond (ltb R situationBound) (refusedWith 10) (refusedWith 8)))) (all-zeros z)
-            (rw (le-ltb R situationBound (le-of-not-lt h)) (tooManySituations (le-of-not-lt h) (subst (MoreSituations A s) (limit-bound R situationBound limit cut (le-of-not-lt h)) more)))
+    -- Without letters there is no graph, so every table is cleared.
+    pub cleared-tables : MinimiseOutcome before 0 n refusal states after → left ≡ allZero room
+    cleared-tables (inl x) = sym (all-zeros (x .answer))
+    cleared-tables (inr (inl x)) = absurd (omega (arith, x .accepted .graph .some-letter))
+    cleared-tables (inr (inr x)) = absurd (omega (arith, x .accepted .graph .some-letter))
 
-    -- The rows found are a graph in tables with room for them.
-    module _ (within : n ≤ limit) (counted : SituationCount A s n) (rows : ExploredRows A s n entries₁ finals₁) where
-      fit : SituationsFit A s room n
-      fit = record { counted = counted; withinBound = within-bound R situationBound limit cut n within; withinRoom = within-rows R situationBound limit cut n within }
+    module _ {s : Sheet} (accepted : Accepted s) (limit : ℕ) (cut : limit ≡ min (roomRows room (letterCount (s .streams))) situationBound) where
+      abbrev k : ℕ
+      k = letterCount (s .streams)
 
-      held : Holds n (record { perRow = k; size = length entries }) (record { perRow = 1; size = length finals } ∷ room .work)
-      held = fewest-hold n (record { perRow = k; size = length entries }) (record { perRow = 1; size = length finals } ∷ room .work) (fit .withinRoom)
+      abbrev R : ℕ
+      R = roomRows room k
 
-      is-accepted : IsAccepted before k n
-      is-accepted =
-          record {
-            graph = rows-stored A s rows (fit .withinBound) (accepted .someLetter) (omega (arith, held .0, el)) (omega (arith, held .1 .0, fl));
-            room = (omega (arith, held), (omega (arith, held), (omega (arith, held), (omega (arith, held, hl), (omega (arith, held, ll), (omega (arith, held), tt))))));
-          }
+      -- The limit is the bound or the rows lent, whichever is less.
+      more-outcome : {number : ℕ} → MoreSituations s limit → IsRefusal number before refusal states after → SheetOutcome s room (answerOf (cond (ltb R situationBound) (refusedWith 10) (refusedWith 8))) left
+      more-outcome more z = by (decLt R situationBound)
+        where
+          by : Dec (R < situationBound) → SheetOutcome s room (answerOf (cond (ltb R situationBound) (refusedWith 10) (refusedWith 8))) left
+          by (yes h) =
+              subst (SheetOutcome s room (answerOf (cond (ltb R situationBound) (refusedWith 10) (refusedWith 8)))) (all-zeros z)
+              (rw (lt-ltb R situationBound h) (tooFewRows h (subst (MoreSituations s) (limit-rows R situationBound limit cut h) more)))
+          by (no h) =
+              subst (SheetOutcome s room (answerOf (cond (ltb R situationBound) (refusedWith 10) (refusedWith 8)))) (all-zeros z)
+              (rw (le-ltb R situationBound (le-of-not-lt h)) (tooManySituations (le-of-not-lt h) (subst (MoreSituations s) (limit-bound R situationBound limit cut (le-of-not-lt h)) more)))
 
-      language : (x : IsAccepted before k n) → SameSolutions k (Language (stored-graph (x .graph)) 0) (SolutionWord A s)
-      language x = stored-language A s rows (fit .withinBound) (x .graph)
+      -- The rows found are a graph in tables with room for them.
+      module _ (within : n ≤ limit) (counted : SituationCount s n) (rows : ExploredRows s n entries₁ finals₁) where
+        fit : SituationsFit s room n
+        fit = record { counted = counted; withinBound = within-bound R situationBound limit cut n within; withinRoom = within-rows R situationBound limit cut n within }
 
-      no-word : NoWord before k n refusal states after → SheetOutcome A s room (refusedBy 9) left
-      no-word x =
-          subst (SheetOutcome A s room (refusedBy 9)) (all-zeros (x .answer))
-          (noSolution fit (no-streams (record { sides = accepted .namesKnown }) λ w b z. x .empty w b (language (x .accepted) .from w b z)))
+        held : Holds n (record { perRow = k; size = length entries }) (record { perRow = 1; size = length finals } ∷ room .work)
+        held = fewest-hold n (record { perRow = k; size = length entries }) (record { perRow = 1; size = length finals } ∷ room .work) (fit .withinRoom)
 
-      has-table : HasTable before k n refusal states after → SheetOutcome A s room (record { refusal = 0; states = states; situations = n }) left
-      has-table x =
-          compiled fit
-          (record {
-            entriesSize = x .entries-length ∙ el;
-            finalsSize = x .flags-length ∙ fl;
-            table =
-                record {
-                  entries-fit = x .table .entries-fit;
-                  finals-fit = x .table .finals-fit;
-                  table = table-transfer (language (x .accepted)) (x .table .table);
-                };
-            entriesBeyond = zero-from (after .entries) (states * k) (length entries) (x .entries-length ∙ el) (x .entries-beyond);
-            finalsBeyond = zero-from (after .flags) states (length finals) (x .flags-length ∙ fl) (x .flags-beyond);
-            workZero = work-zeros (x .work-zero);
-          })
+        is-accepted : IsAccepted before k n
+        is-accepted =
+            record {
+              graph = rows-stored s rows (fit .withinBound) (accepted .someLetter) (omega (arith, held .0, el)) (omega (arith, held .1 .0, fl));
+              room = (omega (arith, held), (omega (arith, held), (omega (arith, held), (omega (arith, held, hl), (omega (arith, held, ll), (omega (arith, held), tt))))));
+            }
 
-    -- The answer's number decides which answer is given.
-    pub sheet-outcome : Found A s limit n entries₁ finals₁ → MinimiseOutcome before k n refusal states after → SheetOutcome A s room (answerOf (madeOf R n made)) left
-    sheet-outcome (inl f) (inl x) = rw (x .answer .number-is) (more-outcome (f .1) (x .answer))
-    sheet-outcome (inl f) (inr (inl x)) = absurd (omega (arith, f .0, x .accepted .graph .some-row))
-    sheet-outcome (inl f) (inr (inr x)) = absurd (omega (arith, f .0, x .accepted .graph .some-row))
-    sheet-outcome (inr f) (inl x) = absurd (x .refused (is-accepted (f .0) (f .1) (f .2)))
-    sheet-outcome (inr f) (inr (inl x)) = rw (x .answer .number-is) (no-word (f .0) (f .1) (f .2) x)
-    sheet-outcome (inr f) (inr (inr x)) = rw (x .no-refusal) (has-table (f .0) (f .1) (f .2) x)
+        language : (x : IsAccepted before k n) → SameSolutions k (Language (storedGraph (x .graph)) 0) (SolutionWord s)
+        language x = stored-language s rows (fit .withinBound) (x .graph)
+
+        no-word : NoWord before k n refusal states after → SheetOutcome s room (refusedAnswer 9) left
+        no-word x =
+            subst (SheetOutcome s room (refusedAnswer 9)) (all-zeros (x .answer))
+            (noSolution fit (λ w b z. x .empty w b (language (x .accepted) .from w b z)))
+
+        has-table : TableGiven before k n refusal states after → SheetOutcome s room (record { refusal = 0; states = states; situations = n }) left
+        has-table x =
+            compiled fit
+            (record {
+              entriesSize = x .entries-length ∙ el;
+              finalsSize = x .flags-length ∙ fl;
+              table =
+                  record {
+                    entries-fit = x .table .entries-fit;
+                    finals-fit = x .table .finals-fit;
+                    table = table-transfer (language (x .accepted)) (x .table .table);
+                  };
+              entriesBeyond = zero-from (after .entries) (states * k) (length entries) (x .entries-length ∙ el) (x .entries-beyond);
+              finalsBeyond = zero-from (after .flags) states (length finals) (x .flags-length ∙ fl) (x .flags-beyond);
+              workZero = work-zeros (x .work-zero);
+            })
+
+      -- The answer's number decides which answer is given.
+      pub sheet-outcome : SituationsFound s limit n entries₁ finals₁ → MinimiseOutcome before k n refusal states after → SheetOutcome s room (answerOf (madeOf R n made)) left
+      sheet-outcome (inl f) (inl x) = rw (x .answer .number-is) (more-outcome (f .1) (x .answer))
+      sheet-outcome (inl f) (inr (inl x)) = absurd (omega (arith, f .0, x .accepted .graph .some-row))
+      sheet-outcome (inl f) (inr (inr x)) = absurd (omega (arith, f .0, x .accepted .graph .some-row))
+      sheet-outcome (inr f) (inl x) = absurd (x .refused (is-accepted (f .0) (f .1) (f .2)))
+      sheet-outcome (inr f) (inr (inl x)) = rw (x .answer .number-is) (no-word (f .0) (f .1) (f .2) x)
+      sheet-outcome (inr f) (inr (inr x)) = rw (x .no-refusal) (has-table (f .0) (f .1) (f .2) x)
 
 -- ---- the numbers and lists of the code
 
-module _ {A : Arithmetic} {s : Sheet} (accepted : Accepted A s) (entries finals keys live class next heads links shared : List ℕ) {letters rows limit : ℕ} (same : letters ≡ letterCount (s .streams))
-    (fewest : rows ≡ min (length entries / letters) (min (length finals) (min (length keys / 16) (min (length live) (min (length class) (min (length next) (min (length heads) (min (length links) (length shared)))))))))
-    (cut : limit ≡ min rows situationBound) where
+-- A sheet without letters leaves every table cleared.
+pub calls-cleared : (entries finals keys live class next heads links shared : List ℕ) {letters n refusal states : ℕ} {entries₁ finals₁ heads₁ links₁ keys₂ : List ℕ} {after : GraphTables}
+    → length entries₁ ≡ length entries → length finals₁ ≡ length finals → length heads₁ ≡ length heads → length links₁ ≡ length links → keys₂ ≡ zeros (length keys)
+    → MinimiseOutcome (record { entries = entries₁; flags = finals₁; work = live ∷ (class ∷ (next ∷ (heads₁ ∷ (links₁ ∷ (shared ∷ []))))) }) letters n refusal states after → letters ≡ 0
+    → record { entries = after .entries; finals = after .flags; work = keys₂ ∷ after .work } ≡ allZero (roomOf entries finals keys live class next heads links shared)
+calls-cleared entries finals keys live class next heads links shared {letters} {n} {refusal} {states} {entries₁} {finals₁} {heads₁} {links₁} {keys₂} {after} el fl hl ll zero m none =
+    let before : GraphTables = record { entries = entries₁; flags = finals₁; work = live ∷ (class ∷ (next ∷ (heads₁ ∷ (links₁ ∷ (shared ∷ []))))) } in
+    ap (λ l. record { entries = after .entries; finals = after .flags; work = l ∷ after .work }) zero
+    ∙ cleared-tables entries finals keys live class next heads links shared n refusal states entries₁ finals₁ heads₁ links₁ after el fl hl ll (subst (λ l. MinimiseOutcome before l n refusal states after) none m)
+
+module _ (entries finals keys live class next heads links shared : List ℕ) {s : Sheet} (accepted : Accepted s) {letters rows work limit : ℕ} (same : letters ≡ letterCount (s .streams))
+    (fewestWork : work ≡ min (length live) (min (length class) (min (length next) (min (length heads) (min (length links) (length shared))))))
+    (fewest : rows ≡ min (length entries / letters) (min (length finals) (min (length keys / 16) work))) (cut : limit ≡ min rows situationBound) where
   abbrev lentRoom : Room
   lentRoom = roomOf entries finals keys live class next heads links shared
 
   rows-are : rows ≡ roomRows lentRoom (letterCount (s .streams))
-  rows-are = fewest ∙ rows-lent entries finals keys live class next heads links shared letters ∙ ap (roomRows lentRoom) same
+  rows-are = fewest ∙ ap (λ w. min (length entries / letters) (min (length finals) (min (length keys / 16) w))) fewestWork ∙ rows-lent entries finals keys live class next heads links shared letters ∙ ap (roomRows lentRoom) same
 
   limit-is : limit ≡ min (roomRows lentRoom (letterCount (s .streams))) situationBound
   limit-is = cut ∙ ap (λ r. min r situationBound) rows-are
 
   -- Every table has room for as many rows as the limit.
-  pub limit-fits : RoomFor limit letters keys heads links entries finals
+  pub limit-fits : RoomFor limit (letterCount (s .streams)) (exploreTables keys heads links entries finals)
   limit-fits =
       let R = roomRows lentRoom (letterCount (s .streams)) in
       let held = fewest-hold limit (record { perRow = letterCount (s .streams); size = length entries }) (record { perRow = 1; size = length finals } ∷ lentRoom .work) (within-rows R situationBound limit limit-is limit (le-refl limit)) in
@@ -185,19 +202,19 @@ module _ {A : Arithmetic} {s : Sheet} (accepted : Accepted A s) (entries finals 
         keysFit = held .1 .1 .0;
         headsFit = omega (arith, held .1 .1 .1 .1 .1 .1 .0);
         linksFit = omega (arith, held .1 .1 .1 .1 .1 .1 .1 .0);
-        entriesFit = subst (λ l. limit * l ≤ length entries) (sym same) (held .0);
+        entriesFit = held .0;
         finalsFit = omega (arith, held .1 .0);
       }
 
   -- What the code's calls give is the outcome.
-  pub calls-outcome : {n : ℕ} {table : Minimised} {answer : Compiled} {entries₁ finals₁ heads₁ links₁ entries₂ finals₂ keys₂ live₂ class₂ next₂ heads₂ links₂ shared₂ : List ℕ}
-      → length entries₁ ≡ length entries → length finals₁ ≡ length finals → length heads₁ ≡ length heads → length links₁ ≡ length links → keys₂ ≡ zeros (length keys) → Found A s limit n entries₁ finals₁
-      → MinimiseOutcome (record { entries = entries₁; flags = finals₁; work = live ∷ (class ∷ (next ∷ (heads₁ ∷ (links₁ ∷ (shared ∷ []))))) }) letters n (table .refusal) (table .states) (record { entries = entries₂; flags = finals₂; work = live₂ ∷ (class₂ ∷ (next₂ ∷ (heads₂ ∷ (links₂ ∷ (shared₂ ∷ []))))) })
-      → answer ≡ madeOf rows n table → SheetOutcome A s lentRoom (answerOf answer) (tablesOf entries₂ finals₂ keys₂ live₂ class₂ next₂ heads₂ links₂ shared₂)
-  calls-outcome {n} {table} {answer} {entries₁} {finals₁} {heads₁} {links₁} {entries₂} {finals₂} {keys₂} {live₂} {class₂} {next₂} {heads₂} {links₂} {shared₂} el fl hl ll zero found m made =
-      let before : Held = record { entries = entries₁; flags = finals₁; work = live ∷ (class ∷ (next ∷ (heads₁ ∷ (links₁ ∷ (shared ∷ []))))) } in
-      let after : Held = record { entries = entries₂; flags = finals₂; work = live₂ ∷ (class₂ ∷ (next₂ ∷ (heads₂ ∷ (links₂ ∷ (shared₂ ∷ []))))) } in
+  pub calls-outcome : {n : ℕ} {table : Minimised} {answer : Compiled} {entries₁ finals₁ heads₁ links₁ keys₂ : List ℕ} {after : GraphTables}
+      → length entries₁ ≡ length entries → length finals₁ ≡ length finals → length heads₁ ≡ length heads → length links₁ ≡ length links → keys₂ ≡ zeros (length keys) → n ≤ limit → SituationsFound s limit n entries₁ finals₁
+      → MinimiseOutcome (record { entries = entries₁; flags = finals₁; work = live ∷ (class ∷ (next ∷ (heads₁ ∷ (links₁ ∷ (shared ∷ []))))) }) letters n (table .refusal) (table .states) after
+      → answer ≡ madeOf rows (min n situationBound) table → SheetOutcome s lentRoom (answerOf answer) (record { entries = after .entries; finals = after .flags; work = keys₂ ∷ after .work })
+  calls-outcome {n} {table} {answer} {entries₁} {finals₁} {heads₁} {links₁} {keys₂} {after} el fl hl ll zero within found m answers =
+      let before : GraphTables = record { entries = entries₁; flags = finals₁; work = live ∷ (class ∷ (next ∷ (heads₁ ∷ (links₁ ∷ (shared ∷ []))))) } in
       let m′ = subst (λ l. MinimiseOutcome before l n (table .refusal) (table .states) after) same m in
-      let o = sheet-outcome accepted entries finals keys live class next heads links shared limit n (table .refusal) (table .states) entries₁ finals₁ heads₁ links₁ after el fl hl ll limit-is found m′ in
-      let answered = subst (λ a. SheetOutcome A s lentRoom (answerOf a) (tablesOf entries₂ finals₂ (zeros (length keys)) live₂ class₂ next₂ heads₂ links₂ shared₂)) (sym (made ∙ ap (λ r. madeOf r n table) rows-are)) o in
-      subst (λ x. SheetOutcome A s lentRoom (answerOf answer) (tablesOf entries₂ finals₂ x live₂ class₂ next₂ heads₂ links₂ shared₂)) (sym zero) answered
+      let o = sheet-outcome entries finals keys live class next heads links shared n (table .refusal) (table .states) entries₁ finals₁ heads₁ links₁ after el fl hl ll accepted limit limit-is found m′ in
+      let counted = all-counted rows n table (within-bound rows situationBound limit cut n within) in
+      let answered = subst (λ a. SheetOutcome s lentRoom (answerOf a) (record { entries = after .entries; finals = after .flags; work = zeros (length keys) ∷ after .work })) (sym (answers ∙ counted ∙ ap (λ r. madeOf r n table) rows-are)) o in
+      subst (λ x. SheetOutcome s lentRoom (answerOf answer) (record { entries = after .entries; finals = after .flags; work = x ∷ after .work })) (sym zero) answered

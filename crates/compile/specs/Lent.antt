@@ -2,12 +2,12 @@
 use Prim.Native.Nat.{ℕ}
 use mathlib.Core.List.{List, [], _∷_}
 use lib.ListN.{length}
-use Rattle.outcome.specs.Room.{Lent}
+use Rattle.outcome.specs.Room.{LentTable}
 use Rattle.outcome.specs.Compile.{CompileAnswer, Room, Tables}
 use Rattle.compiled.specs.declared.Compiled.{Compiled}
 
 -- A table with this many numbers a row.
-abbrev pub lent : ℕ → List ℕ → Lent
+abbrev pub lent : ℕ → List ℕ → LentTable
 lent perRow list = record { perRow = perRow; size = length list }
 
 -- A key takes 16 numbers. Each of the other work tables has one number a row.

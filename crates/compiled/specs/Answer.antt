@@ -10,6 +10,10 @@ use Rattle.compiled.specs.declared.Compiled.{Compiled}
 abbrev pub refusedWith : ℕ → Compiled
 refusedWith n = record { refusal = n; states = 0; situations = 0 }
 
+-- The answer to a text that is refused with this number, and to one that is read where the number is 0.
+abbrev pub answered : ℕ → Compiled → Compiled
+answered n made = cond (eqb n 0) made (refusedWith n)
+
 -- The answer after the situations were explored, 0 where they do not fit, and the table was made of them: a refusal other than 9 says that
 -- there was nothing to make it of.
 abbrev pub madeOf : (rows situations : ℕ) → Minimised → Compiled

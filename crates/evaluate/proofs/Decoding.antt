@@ -7,8 +7,7 @@ use lib.IntN.{ℤ, pos, negsuc}
 use lib.ListN.{getD}
 use mir.Syntax.{w64}
 use mir.Val.{SFits}
-use Rattle.meaning.specs.Value.{truth}
-use Rattle.meaning.specs.Arithmetic.{cutTowardZero}
+use Rattle.meaning.specs.Value.{nonzero}
 use Rattle.nodes.specs.Bounded.{inBound, noValue, someValue, bounded, appliedByKind}
 use Rattle.nodes.specs.Evaluate.{Nodes, View, places, Kind, integerNode, nameNode, firstNode, nextNode, negationNode, conditionalNode, fbyNode, operatorNode, kindOf, leftEnd, answerUpTo, lookup, operated, valueByKind, valueStep, valueBefore}
 use Rattle.nodes.specs.declared.Evaluated.{Evaluated}
@@ -23,16 +22,16 @@ decodes-lookup n get (pos k) = decodes-cond (ltb k n) (decodes-bounded (get k)) 
 decodes-lookup n get (negsuc k) = decodes-none
 
 module _ (N : Nodes) (W : View) where
-  decodes-kind : (before : ℕ → ℕ → Evaluated) → ((e p : ℕ) → Decodes (before e p)) → (k : Kind) (i p : ℕ) → Decodes (valueByKind cutTowardZero N W k before i p)
+  decodes-kind : (before : ℕ → ℕ → Evaluated) → ((e p : ℕ) → Decodes (before e p)) → (k : Kind) (i p : ℕ) → Decodes (valueByKind N W k before i p)
   decodes-kind before d integerNode i p = decodes-bounded (getD (N .values) i (pos 0))
   decodes-kind before d nameNode i p = decodes-lookup _ _ (getD (N .values) i (pos 0))
   decodes-kind before d firstNode i p = decodes-cond (W .whole) (d i 0) (decodes-lookup _ _ (getD (N .values) i (pos 0)))
   decodes-kind before d nextNode i p = decodes-cond (ltb (suc p) (places W)) (d i (suc p)) decodes-none
-  decodes-kind before d negationNode i p = decodes-cond (before i p .ok) (decodes-bit (not (truth (before i p .value)))) decodes-none
+  decodes-kind before d negationNode i p = decodes-cond (before i p .ok) (decodes-bit (not (nonzero (before i p .value)))) decodes-none
   decodes-kind before d conditionalNode i p =
       let m = leftEnd (N .starts) i in
       let c = before (leftEnd (N .starts) m) p in
-      decodes-cond (c .ok) (decodes-cond (truth (c .value)) (d m p) (d i p)) decodes-none
+      decodes-cond (c .ok) (decodes-cond (nonzero (c .value)) (d m p) (d i p)) decodes-none
   decodes-kind before d fbyNode i zero = decodes-cond (W .whole) (d (leftEnd (N .starts) i) 0) refl
   decodes-kind before d fbyNode i (suc p) = d i p
   decodes-kind before d operatorNode i p =
@@ -40,27 +39,27 @@ module _ (N : Nodes) (W : View) where
       let b = before i p in
       decodes-cond (a .ok && b .ok) (decodes-applied (getD (N .kinds) i 0) (a .value) (b .value)) decodes-none
 
-  decodes-up-to : (n e p : ℕ) → Decodes (answerUpTo (λ p. noValue) (valueStep cutTowardZero N W) n e p)
+  decodes-up-to : (n e p : ℕ) → Decodes (answerUpTo (λ p. noValue) (valueStep N W) n e p)
   unfolding answerUpTo valueStep
   decodes-up-to zero e p = decodes-none
   decodes-up-to (suc n) e p =
-      by (answerUpTo (λ p. noValue) (valueStep cutTowardZero N W) n) (decodes-up-to n) (eqb e (suc n))
+      by (answerUpTo (λ p. noValue) (valueStep N W) n) (decodes-up-to n) (eqb e (suc n))
     where
       by : (before : ℕ → ℕ → Evaluated) → ((e p : ℕ) → Decodes (before e p)) → (t : Bool)
-          → Decodes (cond t (valueStep cutTowardZero N W before n) (before e) p)
+          → Decodes (cond t (valueStep N W before n) (before e) p)
       by before d true = decodes-kind before d (kindOf (getD (N .kinds) n 0)) n p
       by before d false = d e p
 
-  pub decodes-before : (e p : ℕ) → Decodes (valueBefore cutTowardZero N W e p)
+  pub decodes-before : (e p : ℕ) → Decodes (valueBefore N W e p)
   unfolding valueBefore
   decodes-before e p = decodes-up-to e e p
 
   -- The value of a part, read back from the number that a call gave.
-  pub held-before : (e p : ℕ) {r : ℤ} → SFits w64 r → r ≡ coded (valueBefore cutTowardZero N W e p) → bounded (held r) ≡ valueBefore cutTowardZero N W e p
-  held-before e p f h = held-decoded (valueBefore cutTowardZero N W e p) f h (decodes-before e p)
+  pub held-before : (e p : ℕ) {r : ℤ} → SFits w64 r → r ≡ coded (valueBefore N W e p) → bounded (held r) ≡ valueBefore N W e p
+  held-before e p f h = held-decoded (valueBefore N W e p) f h (decodes-before e p)
 
   -- The same from a number that is already known to be its own, whether a leaf or a call gave it.
-  pub read-before : (e p : ℕ) {z : ℤ} → z ≡ coded (valueBefore cutTowardZero N W e p) → bounded z ≡ valueBefore cutTowardZero N W e p
+  pub read-before : (e p : ℕ) {z : ℤ} → z ≡ coded (valueBefore N W e p) → bounded z ≡ valueBefore N W e p
   read-before e p h = ap bounded h ∙ decodes-before e p
 
 -- ---- a number that was tested against the bound
@@ -80,11 +79,11 @@ absent-operand true false x = refl
 absent-operand false u x = refl
 
 -- An operand without value has a number beyond the bound, of which an operator gives no value.
-pub applied-coded : (k : ℕ) (x y : Evaluated) → appliedByKind cutTowardZero k (coded x) (coded y) ≡ operated cutTowardZero k x y
+pub applied-coded : (k : ℕ) (x y : Evaluated) → appliedByKind k (coded x) (coded y) ≡ operated k x y
 applied-coded k x y = by (x .ok) (y .ok)
   where
     by : (s t : Bool)
-        → appliedByKind cutTowardZero k (cond s (x .value) (pos 2000000000)) (cond t (y .value) (pos 2000000000)) ≡ cond (s && t) (appliedByKind cutTowardZero k (x .value) (y .value)) noValue
+        → appliedByKind k (cond s (x .value) (pos 2000000000)) (cond t (y .value) (pos 2000000000)) ≡ cond (s && t) (appliedByKind k (x .value) (y .value)) noValue
     by true true = refl
     by true false = absent-operand (leb 7 k && ltb k 20) (inBound (x .value)) _
     by false t = absent-operand (leb 7 k && ltb k 20) false noValue

@@ -13,9 +13,9 @@ use borrow.Author.Tests.{leb-false, lt-ltb, le-ltb, eq-eqb, ne-eqb}
 use mir.Syntax.{w64}
 use mir.Val.{SFits}
 use mir.ValLaws.{toZ-ofZ}
-use Rattle.meaning.specs.Value.{truth, bit}
+use Rattle.meaning.specs.Value.{nonzero, bit}
 use Rattle.nodes.specs.Bounded.{inBound, noValue, bounded}
-use Rattle.nodes.specs.Evaluate.{lookup, streamAt, negated}
+use Rattle.nodes.specs.Evaluate.{lookup, streamAt, negatedResult}
 use Rattle.arithmetic.specs.Coded.{coded}
 use Rattle.arithmetic.proofs.Machine.{held, number-natural, number-negative}
 use Rattle.evaluate.specs.Leaf.{isLeaf, leafValue}
@@ -49,10 +49,10 @@ zero-places length streams e = sym (ap (λ s. length / s) e ∙ div-zero length)
 -- ---- negation
 
 module _ (z : ℤ) (f : SFits w64 z) where
-  pub negated-there : inBound z ≡ true → {t : Bool} → t ≡ truth (held z) → bit (not t) ≡ coded (negated (bounded z))
-  negated-there h e = ap (λ t. bit (not t)) (e ∙ ap truth (toZ-ofZ w64 z f)) ∙ sym (simp h)
+  pub negated-there : inBound z ≡ true → {t : Bool} → t ≡ nonzero (held z) → bit (not t) ≡ coded (negatedResult (bounded z))
+  negated-there h e = ap (λ t. bit (not t)) (e ∙ ap nonzero (toZ-ofZ w64 z f)) ∙ sym (simp h)
 
-  pub negated-absent : inBound z ≡ false → coded noValue ≡ coded (negated (bounded z))
+  pub negated-absent : inBound z ≡ false → coded noValue ≡ coded (negatedResult (bounded z))
   negated-absent h = sym (simp h)
 
 -- ---- leaves

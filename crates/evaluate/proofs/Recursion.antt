@@ -11,10 +11,10 @@ use borrow.Author.Tests.{leb-true, lt-ltb, le-ltb, eq-eqb, ne-eqb}
 use mir.Syntax.{w64}
 use mir.Val.{SFits, toZ, ofZ}
 use mir.ValLaws.{toZ-ofZ}
-use Rattle.meaning.specs.Value.{truth}
-use Rattle.meaning.specs.Arithmetic.{cutTowardZero}
+use Rattle.meaning.specs.Value.{nonzero}
+use Rattle.nodes.proofs.ByKind.{part-by-kind}
 use Rattle.nodes.specs.Bounded.{noValue, bounded, appliedByKind}
-use Rattle.nodes.specs.Evaluate.{Nodes, View, hasNode, places, Kind, operatorNode, kindOf, leftEnd, numbered, negated, chosen, operated, followed, valueByKind, valueBefore, nodeValue}
+use Rattle.nodes.specs.Evaluate.{Nodes, View, hasNode, places, Kind, operatorNode, kindOf, leftEnd, numbered, negatedResult, chosenResult, operated, followed, valueByKind, valueBefore, nodeValue}
 use Rattle.nodes.specs.declared.Evaluated.{Evaluated}
 use Rattle.nodes.proofs.Parts.{kindOf-operator}
 use Rattle.nodes.proofs.Evaluate.{valueBefore-node, valueBefore-none}
@@ -38,20 +38,18 @@ ready-leaf d r h = (omega arith, omega arith)
 
 module _ (N : Nodes) (W : View) (p : ℕ) where
   abbrev before : ℕ → ℕ → Evaluated
-  before = valueBefore cutTowardZero N W
+  before = valueBefore N W
 
   pub none-before : {e : ℕ} → e ≡ 0 → noValue ≡ before e p
-  none-before {e} z = sym (ap (λ d. before d p) z ∙ valueBefore-none cutTowardZero N W p)
+  none-before {e} z = sym (ap (λ d. before d p) z ∙ valueBefore-none N W p)
 
   module _ (e : ℕ) (h : e ≡ 0 → ⊥) where
     -- The value by the kind of the last node.
-    by-kind : {x : Evaluated} (k : Kind) → kindOf (getD (N .kinds) (e - 1) 0) ≡ k → x ≡ valueByKind cutTowardZero N W k before (e - 1) p → x ≡ before e p
-    by-kind k q r =
-        let s : suc (e - 1) ≡ e = omega arith in
-        r ∙ sym (ap (λ j. valueByKind cutTowardZero N W j before (e - 1) p) q) ∙ sym (valueBefore-node cutTowardZero N W (e - 1) p) ∙ ap (λ d. before d p) s
+    by-kind : {x : Evaluated} (k : Kind) → kindOf (getD (N .kinds) (e - 1) 0) ≡ k → x ≡ valueByKind N W k before (e - 1) p → x ≡ before e p
+    by-kind k q r = r ∙ part-by-kind (N .kinds) (λ d. before d p) (λ j i. valueByKind N W j before i p) (λ i. valueBefore-node N W i p) e h k q
 
     module _ (k : ℕ) (q : getD (N .kinds) (e - 1) 0 ≡ k) where
-      by-number : {x : Evaluated} → x ≡ valueByKind cutTowardZero N W (kindOf k) before (e - 1) p → x ≡ before e p
+      by-number : {x : Evaluated} → x ≡ valueByKind N W (kindOf k) before (e - 1) p → x ≡ before e p
       by-number r = by-kind (kindOf k) (ap kindOf q) r
 
     -- The stored value was held on the way.
@@ -69,19 +67,19 @@ module _ (N : Nodes) (W : View) (p : ℕ) where
     pub next-none-arm : {count : ℕ} → getD (N .kinds) (e - 1) 0 ≡ 3 → count ≡ places W → count ≤ p + 1 → noValue ≡ before e p
     next-none-arm q c l = by-number 3 q (sym (simp (le-ltb (suc p) (places W) (omega arith))))
 
-    pub negation-arm : {a : Evaluated} → getD (N .kinds) (e - 1) 0 ≡ 4 → a ≡ before (e - 1) p → negated a ≡ before e p
-    negation-arm q r = by-number 4 q (ap negated r)
+    pub negation-arm : {a : Evaluated} → getD (N .kinds) (e - 1) 0 ≡ 4 → a ≡ before (e - 1) p → negatedResult a ≡ before e p
+    negation-arm q r = by-number 4 q (ap negatedResult r)
 
     module _ (q : getD (N .kinds) (e - 1) 0 ≡ 5) {m l : ℕ} (em : m ≡ leftEnd (N .starts) (e - 1)) (el : l ≡ leftEnd (N .starts) m) {c : Evaluated} (r : c ≡ before l p) where
-      chosen-arm : {x : Evaluated} → x ≡ chosen c (before m p) (before (e - 1) p) → x ≡ before e p
+      chosen-arm : {x : Evaluated} → x ≡ chosenResult c (before m p) (before (e - 1) p) → x ≡ before e p
       chosen-arm s =
-          by-number 5 q (s ∙ ap (λ y. chosen y (before m p) (before (e - 1) p)) (r ∙ ap (λ d. before d p) (el ∙ ap (leftEnd (N .starts)) em))
-          ∙ ap (λ d. chosen (before (leftEnd (N .starts) (leftEnd (N .starts) (e - 1))) p) (before d p) (before (e - 1) p)) em)
+          by-number 5 q (s ∙ ap (λ y. chosenResult y (before m p) (before (e - 1) p)) (r ∙ ap (λ d. before d p) (el ∙ ap (leftEnd (N .starts)) em))
+          ∙ ap (λ d. chosenResult (before (leftEnd (N .starts) (leftEnd (N .starts) (e - 1))) p) (before d p) (before (e - 1) p)) em)
 
-      pub then-arm : c .ok ≡ true → truth (c .value) ≡ true → before m p ≡ before e p
+      pub then-arm : c .ok ≡ true → nonzero (c .value) ≡ true → before m p ≡ before e p
       then-arm o t = chosen-arm (sym (simp (o, t)))
 
-      pub else-arm : c .ok ≡ true → truth (c .value) ≡ false → before (e - 1) p ≡ before e p
+      pub else-arm : c .ok ≡ true → nonzero (c .value) ≡ false → before (e - 1) p ≡ before e p
       else-arm o t = chosen-arm (sym (simp (o, t)))
 
       pub untested-arm : c .ok ≡ false → noValue ≡ before e p
@@ -89,23 +87,23 @@ module _ (N : Nodes) (W : View) (p : ℕ) where
 
     module _ (q : getD (N .kinds) (e - 1) 0 ≡ 6) where
       pub fby-left-arm : p ≡ 0 → W .whole ≡ true → {l : ℕ} → l ≡ leftEnd (N .starts) (e - 1) → before l 0 ≡ before e p
-      fby-left-arm z w el = by-number 6 q (ap (λ d. before d 0) el ∙ sym (ap (followed cutTowardZero N W before (leftEnd (N .starts) (e - 1)) (e - 1)) z ∙ simp w))
+      fby-left-arm z w el = by-number 6 q (ap (λ d. before d 0) el ∙ sym (ap (followed N W before (leftEnd (N .starts) (e - 1)) (e - 1)) z ∙ simp w))
 
       pub fby-window-arm : p ≡ 0 → W .whole ≡ false → bounded (pos 0) ≡ before e p
-      fby-window-arm z w = by-number 6 q (sym (ap (followed cutTowardZero N W before (leftEnd (N .starts) (e - 1)) (e - 1)) z ∙ simp w))
+      fby-window-arm z w = by-number 6 q (sym (ap (followed N W before (leftEnd (N .starts) (e - 1)) (e - 1)) z ∙ simp w))
 
       pub fby-right-arm : (p ≡ 0 → ⊥) → before (e - 1) (p - 1) ≡ before e p
       fby-right-arm z =
           let s : p ≡ suc (p - 1) = omega arith in
-          by-number 6 q (sym (ap (followed cutTowardZero N W before (leftEnd (N .starts) (e - 1)) (e - 1)) s))
+          by-number 6 q (sym (ap (followed N W before (leftEnd (N .starts) (e - 1)) (e - 1)) s))
 
     pub operator-arm : 7 ≤ getD (N .kinds) (e - 1) 0 → {l : ℕ} → l ≡ leftEnd (N .starts) (e - 1) → {a b : ℤ} → a ≡ coded (before l p) → b ≡ coded (before (e - 1) p)
-        → appliedByKind cutTowardZero (getD (N .kinds) (e - 1) 0) a b ≡ before e p
+        → appliedByKind (getD (N .kinds) (e - 1) 0) a b ≡ before e p
     operator-arm k {l} el r s =
-        ap₂ (appliedByKind cutTowardZero (getD (N .kinds) (e - 1) 0)) r s
+        ap₂ (appliedByKind (getD (N .kinds) (e - 1) 0)) r s
         ∙ applied-coded (getD (N .kinds) (e - 1) 0) (before l p) (before (e - 1) p)
         ∙ by-kind operatorNode (kindOf-operator (getD (N .kinds) (e - 1) 0) k)
-        (ap (λ d. operated cutTowardZero (getD (N .kinds) (e - 1) 0) (before d p) (before (e - 1) p)) el)
+        (ap (λ d. operated (getD (N .kinds) (e - 1) 0) (before d p) (before (e - 1) p)) el)
 
   -- The value of a leaf.
   pub leaf-before : (e : ℕ) → isLeaf (N .kinds) e ≡ true → leafValue (N .kinds) (N .values) (W .window) (W .streams) e p ≡ before e p
@@ -136,7 +134,7 @@ pub record Arrays (N : Nodes) : Type 0 where
   pub starts : length (N .starts) ≡ 1024
 
 module _ {N : Nodes} (arrays : Arrays N) (W : View) (root p : ℕ) where
-  pub no-node : 1024 ≤ root → noValue ≡ nodeValue cutTowardZero N W root p
+  pub no-node : 1024 ≤ root → noValue ≡ nodeValue N W root p
   unfolding nodeValue
   no-node h = sym (simp (le-ltb root (length (N .kinds)) (omega arith)))
 
@@ -144,10 +142,10 @@ module _ {N : Nodes} (arrays : Arrays N) (W : View) (root p : ℕ) where
     there : hasNode N root ≡ true
     there = simp (lt-ltb root (length (N .kinds)) (omega arith), lt-ltb root (length (N .values)) (omega arith), lt-ltb root (length (N .starts)) (omega arith))
 
-    pub no-place : count ≤ p → noValue ≡ nodeValue cutTowardZero N W root p
+    pub no-place : count ≤ p → noValue ≡ nodeValue N W root p
     unfolding nodeValue
     no-place h = sym (simp (there, le-ltb p (places W) (omega arith)))
 
-    pub root-value : p < count → valueBefore cutTowardZero N W (root + 1) p ≡ nodeValue cutTowardZero N W root p
+    pub root-value : p < count → valueBefore N W (root + 1) p ≡ nodeValue N W root p
     unfolding nodeValue
-    root-value h = ap (λ e. valueBefore cutTowardZero N W e p) (add-one root) ∙ sym (simp (there, lt-ltb p (places W) (omega arith)))
+    root-value h = ap (λ e. valueBefore N W e p) (add-one root) ∙ sym (simp (there, lt-ltb p (places W) (omega arith)))

@@ -5,15 +5,14 @@ use arithmetic::bounded;
 use arithmetic::bounded_coded;
 use arithmetic::in_bound;
 use arithmetic::no_value;
-use arithmetic::truth;
+use arithmetic::nonzero;
 use nodes::Evaluated;
 use nodes::left_end;
 ghost use mathlib.Core.Path.{_≡_};
 ghost use Prim.Native.Nat.{_/_, _≤_, _<_};
 ghost use lib.ListN.{length};
-ghost use Rattle.meaning.specs.Arithmetic.{cutTowardZero};
 ghost use Rattle.nodes.specs.Bounded.{bounded};
-ghost use Rattle.nodes.specs.Evaluate.{stored, view, places, numbered, streamAt, negated, valueBefore, nodeValue};
+ghost use Rattle.nodes.specs.Evaluate.{stored, view, places, numbered, streamAt, negatedResult, valueBefore, nodeValue};
 ghost use Rattle.arithmetic.specs.Coded.{coded};
 ghost use Rattle.evaluate.specs.Leaf.{isLeaf, leafValue};
 ghost use Rattle.evaluate.specs.Negation.{negatedBy, Negates};
@@ -64,10 +63,10 @@ fn stream_at(window: &[i64], streams: usize, place: usize, number: i64) -> i64
 
 // The negation of a value that is given as one number.
 fn negated(a: i64) -> i64
-    ensures { λ r. ⌜ r ≡ coded (negated (bounded a)) ⌝ }
+    ensures { λ r. ⌜ r ≡ coded (negatedResult (bounded a)) ⌝ }
 {
     if in_bound(a) {
-        bit(!truth(a))
+        bit(!nonzero(a))
     } else {
         absent()
     }
@@ -89,7 +88,7 @@ fn is_leaf(kinds: &[u8; 1024], end: usize) -> bool
     if end == 0 {
         return true;
     }
-    kinds[end - 1] <= 1
+    kinds[end - 1] <= nodes::NAME_NODE
 }
 
 // The value of the leaf that ends before `end`.
@@ -108,7 +107,7 @@ fn leaf(
         return absent();
     }
     let i = end - 1;
-    if kinds[i] == 0 {
+    if kinds[i] == nodes::INTEGER_NODE {
         bounded_coded(values[i])
     } else {
         stream_at(window, streams, place, values[i])
@@ -131,7 +130,7 @@ fn shifted(kinds: &[u8; 1024], count: usize, end: usize, place: usize) -> Part
     let mut at = place;
     while inner != 0 {
         let kind = kinds[inner - 1];
-        if kind == 3 {
+        if kind == nodes::NEXT_NODE {
             if count <= at + 1 {
                 return Part {
                     end: inner,
@@ -140,7 +139,7 @@ fn shifted(kinds: &[u8; 1024], count: usize, end: usize, place: usize) -> Part
             }
             at += 1;
         } else {
-            if kind != 6 {
+            if kind != nodes::FBY_NODE {
                 return Part {
                     end: inner,
                     place: at,
@@ -177,7 +176,7 @@ fn negations(kinds: &[u8; 1024], end: usize) -> NegatedPart
     let mut inner = end;
     let mut again = false;
     while inner != 0 {
-        if kinds[inner - 1] != 4 {
+        if kinds[inner - 1] != nodes::NEGATION_NODE {
             return NegatedPart {
                 end: inner,
                 again: again,
@@ -207,7 +206,7 @@ fn value_before(
     place: usize,
 ) -> i64
     requires { ⌜ Ready (view (now window) streams (now firsts) whole) count end place ⌝ }
-    ensures { λ r. ⌜ r ≡ coded (valueBefore cutTowardZero (stored (now (kinds .entry)) (now (values .entry)) (now (starts .entry))) (view (now (window .entry)) streams (now (firsts .entry)) whole) end place) ⌝ }
+    ensures { λ r. ⌜ r ≡ coded (valueBefore (stored (now (kinds .entry)) (now (values .entry)) (now (starts .entry))) (view (now (window .entry)) streams (now (firsts .entry)) whole) end place) ⌝ }
 {
     let inner = shifted(kinds, count, end, place);
     let last = inner.end;
@@ -218,7 +217,7 @@ fn value_before(
     let i = last - 1;
     let kind = kinds[i];
     match kind {
-        2 => {
+        nodes::FIRST_NODE => {
             if whole {
                 if is_leaf(kinds, i) {
                     leaf(kinds, values, window, streams, i, 0)
@@ -241,8 +240,8 @@ fn value_before(
             }
         }
         // A `next` is left only where the window has no next letter, and a `fby` only at place 0.
-        3 => absent(),
-        4 => {
+        nodes::NEXT_NODE => absent(),
+        nodes::NEGATION_NODE => {
             let inside = negations(kinds, i);
             let a = value_before(
                 kinds,
@@ -258,7 +257,7 @@ fn value_before(
             );
             negated_by(inside.again, a)
         }
-        5 => {
+        nodes::CONDITIONAL_NODE => {
             let middle = left_end(starts, i);
             let left = left_end(starts, middle);
             let test = if is_leaf(kinds, left) {
@@ -278,7 +277,7 @@ fn value_before(
                 )
             };
             if in_bound(test) {
-                let branch = if truth(test) { middle } else { i };
+                let branch = if nonzero(test) { middle } else { i };
                 if is_leaf(kinds, branch) {
                     leaf(kinds, values, window, streams, branch, at)
                 } else {
@@ -299,7 +298,7 @@ fn value_before(
                 absent()
             }
         }
-        6 => {
+        nodes::FBY_NODE => {
             if whole {
                 let left = left_end(starts, i);
                 value_before(
@@ -369,7 +368,7 @@ pub fn evaluate(
     place: usize,
     whole: bool,
 ) -> Evaluated
-    ensures { λ r. ⌜ r ≡ nodeValue cutTowardZero (stored (now (kinds .entry)) (now (values .entry)) (now (starts .entry))) (view (now (window .entry)) streams (now (firsts .entry)) whole) root place ⌝ }
+    ensures { λ r. ⌜ r ≡ nodeValue (stored (now (kinds .entry)) (now (values .entry)) (now (starts .entry))) (view (now (window .entry)) streams (now (firsts .entry)) whole) root place ⌝ }
 {
     // The proof learns how many elements an array has where a slice is made of it. These three are only for that and take no time.
     let kind_list: &[u8] = kinds;
@@ -389,7 +388,7 @@ pub fn evaluate(
         return bounded(leaf(kinds, values, window, streams, end, at));
     }
     let i = end - 1;
-    if kinds[i] == 2 {
+    if kinds[i] == nodes::FIRST_NODE {
         if !whole {
             return bounded(numbered(firsts, values[i]));
         }

@@ -1,15 +1,17 @@
 -- Chains of keys: what a step along a chain keeps, and what a new row makes of the chains. From the laws of lists alone.
-use mathlib.Core.Path.{_≡_, refl, sym, ap, _∙_, subst}
-use mathlib.Core.Logic.{_≢_, ⊎-elim}
-use mathlib.Core.List.{List, [], _∷_, _++_}
-use Prim.Native.Nat.{ℕ, _+_, _-_, _*_, _%_, _≤_, _<_}
+use mathlib.Core.Path.{_≡_, sym, ap, _∙_, subst}
+use mathlib.Core.Logic.{_≢_}
+use mathlib.Core.List.{List, _++_}
+use Prim.Native.Nat.{ℕ, _+_, _-_, _*_, _≤_, _<_}
 use native.Mathlib.Nat.{mod-lt, not-suc-le-zero}
 use native.Mathlib.Omega.{arith}
 use native.Mathlib.Decide.{ℕ-discrete}
-use lib.ListN.{length, getD, set, take, drop, length-take, length-drop, length-set, List·getD-append, replicate, length-replicate}
-use lib.Seq.{getD-set-same, getD-set-other, getD-take, getD-drop, length-take-le, ext-getD, paste, length-paste, length-paste-head, getD-append-add, take-paste}
+use lib.ListN.{length, getD, set, take, drop, length-drop, length-set, List·getD-append, replicate, length-replicate}
+use lib.Seq.{getD-set-same, getD-set-other, getD-take, getD-drop, length-take-le, ext-getD, paste, length-paste, getD-append-add, take-paste}
 use Rattle.marks.proofs.Clearing.{zeros}
-use Rattle.explore.specs.Chains.{keySize, rowAt, bucketOf, Chained, Tables, Finds, Inserts}
+use Rattle.extend.proofs.Parts.{part-size}
+use Rattle.sizes.specs.Room.{keySize}
+use Rattle.explore.specs.Chains.{rowAt, bucketOf, Chained, KeyTables, Inserts}
 
 pub bucket-lt : (m : ℕ) (key : List ℕ) → 0 < m → bucketOf m key < m
 unfolding bucketOf
@@ -21,7 +23,7 @@ pub record Left (links keys : List ℕ) (n m : ℕ) (key : List ℕ) (j : ℕ) :
   pub bucket : 0 < j → bucketOf m (rowAt keys (j - 1)) ≡ bucketOf m key
   pub all : (i : ℕ) → i < n → rowAt keys i ≡ key → i < j
 
-pub left-first : {heads links keys : List ℕ} {n : ℕ} → Tables heads links keys n → (key : List ℕ)
+pub left-first : {heads links keys : List ℕ} {n : ℕ} → KeyTables heads links keys n → (key : List ℕ)
     → Left links keys n (length heads) key (getD heads (bucketOf (length heads) key) 0)
 left-first {heads} {links} {keys} {n} t key =
     record {
@@ -30,7 +32,7 @@ left-first {heads} {links} {keys} {n} t key =
       all = λ i h e. rw (← e) (t .chained .head-all i h);
     }
 
-pub left-next : {heads links keys : List ℕ} {n m : ℕ} {key : List ℕ} {j : ℕ} → Tables heads links keys n → m ≡ length heads → Left links keys n m key j → 0 < j
+pub left-next : {heads links keys : List ℕ} {n m : ℕ} {key : List ℕ} {j : ℕ} → KeyTables heads links keys n → m ≡ length heads → Left links keys n m key j → 0 < j
     → (rowAt keys (j - 1) ≡ key → ⊥) → Left links keys n m key (getD links (j - 1) 0)
 left-next {heads} {links} {keys} {n} {m} {key} {j} t e l pos no-row =
     let lt : j - 1 < n = omega (arith, l .at-most) in
@@ -76,12 +78,6 @@ chain-more heads links b b′ n k hk hn new old c =
     heads-all i h (yes q) = rw (q, new, getD-set-same heads k (n + 1) 0 hk) (omega arith)
     heads-all i h (no q) = on-head (λ z x. b i ≡ z → i < x) (λ e. omega arith) (λ z r e. rw (← e) (c .head-all i (omega arith))) (b′ i) (sym (old i (omega arith)))
 
-pub part-size : (x w : ℕ) → x + w - x ≡ w
-part-size x w = omega arith
-
-pub part-long : {X : Type 0} (keys : List X) (x w : ℕ) → x + w ≤ length keys → length (take (x + w - x) (drop x keys)) ≡ w
-part-long keys x w h = rw part-size (length-take-le w (drop x keys) (simp length-drop (omega arith)))
-
 -- the part of the rows that is row i
 pub row-part : (keys : List ℕ) (i : ℕ) → take (i * keySize + keySize - i * keySize) (drop (i * keySize) keys) ≡ rowAt keys i
 row-part keys i = ap (λ n. take n (drop (i * keySize) keys)) (part-size (i * keySize) keySize)
@@ -118,7 +114,7 @@ stored keys n key long room =
     }
 
 pub inserted : (heads links keys : List ℕ) (n : ℕ) (key keys′ : List ℕ) (h : ℕ) → h ≡ bucketOf (length heads) key → h < length heads → n < length links → n * keySize + keySize ≤ length keys → length keys′ ≡ length keys
-    → Inserts keys keys′ n key → Tables heads links keys n → Tables (set heads h (n + 1)) (set links n (getD heads h 0)) keys′ (n + 1)
+    → Inserts keys keys′ n key → KeyTables heads links keys n → KeyTables (set heads h (n + 1)) (set links n (getD heads h 0)) keys′ (n + 1)
 inserted heads links keys n key keys′ h e lt room fits long i t =
     record {
       buckets = simp length-set (t .buckets);
@@ -128,7 +124,7 @@ inserted heads links keys n key keys′ h e lt room fits long i t =
     }
 
 -- Chains that are all empty hold no row.
-pub none-chained : (heads links keys : List ℕ) → 0 < length heads → ((k : ℕ) → getD heads k 0 ≡ 0) → Tables heads links keys 0
+pub none-chained : (heads links keys : List ℕ) → 0 < length heads → ((k : ℕ) → getD heads k 0 ≡ 0) → KeyTables heads links keys 0
 none-chained heads links keys some empty =
     record {
       buckets = some;
@@ -144,6 +140,6 @@ none-chained heads links keys some empty =
       };
     }
 
-pub cleared-chained : (heads heads′ links keys : List ℕ) → 0 < length heads → heads′ ≡ replicate (length heads) 0 → Tables heads′ links keys 0
+pub cleared-chained : (heads heads′ links keys : List ℕ) → 0 < length heads → heads′ ≡ replicate (length heads) 0 → KeyTables heads′ links keys 0
 cleared-chained heads heads′ links keys some e =
     none-chained heads′ links keys (omega (arith, ap length e, length-replicate {A = ℕ} (length heads) 0)) (λ k. ap (λ l. getD l k 0) e ∙ zeros (length heads) k)

@@ -1,8 +1,8 @@
 -- Judged constraints, in terms of the values of their sides: the answer is lawful exactly if every constraint permits it, and then the marks are
 -- those before with those of the untils whose right side is not 0 now. From the definition, constraint by constraint.
-use Prim.Native.Nat.{ℕ, zero, suc, _+_, _*_, _/_, _%_}
+use Prim.Native.Nat.{ℕ, suc, _+_, _*_, _/_, _%_}
 use native.Mathlib.Omega.{arith}
-use mathlib.Core.Path.{_≡_, refl, sym, _∙_, ap, ap₂, subst}
+use mathlib.Core.Path.{_≡_, refl, _∙_, ap}
 use mathlib.Core.Bool.{Bool, true, false, cond, _&&_, _||_}
 use mathlib.Core.List.{List, [], _∷_}
 use lib.Dec.{eqb}
@@ -11,12 +11,12 @@ use borrow.Author.Tests.{eq-eqb, ne-eqb}
 use Rattle.meaning.specs.Value.{Value, truth}
 use Rattle.meaning.specs.Expression.{Constraint, always, until, holds}
 use Rattle.meaning.specs.Window.{allUntils}
-use Rattle.nodes.specs.Code.{relationCode, signCode, signAt}
+use Rattle.nodes.specs.Code.{relationCode, signAt}
 use Rattle.nodes.proofs.SignCodes.{sign-code}
-use Rattle.explore.specs.Key.{digit, marksNumber}
+use Rattle.extend.specs.Key.{digit, marksNumber}
 use Rattle.sides.specs.Mark.{odd}
-use Rattle.explore.specs.Step.{unlawful, marked, withDigit, judgedFrom}
-use Rattle.explore.specs.declared.judge.Judged.{Judged}
+use Rattle.extend.specs.Step.{unlawful, marked, withDigit, judgedFrom}
+use Rattle.extend.specs.declared.judge.Judged.{Judged}
 
 first-digit : (b : Bool) (m : ℕ) → odd (digit b + 2 * m) ≡ b
 first-digit true m = eq-eqb ((1 + 2 * m) % 2) 1 (omega arith)

@@ -10,8 +10,9 @@ use lib.IntN.{ℤ}
 use lib.ListN.{length, take, drop, length-drop}
 use lib.Seq.{take-take, take-at, drop-at}
 use borrow.Author.Tests.{le-leb, lt-leb}
+use Rattle.sheet.specs.Refusal.{windowBound, firstBound}
 use Rattle.automaton.specs.Words.{AllBelow}
-use Rattle.meaning.specs.Arithmetic.{Arithmetic, LawfulArithmetic}
+use Rattle.automaton.proofs.ReachedRows.{below-snoc}
 use Rattle.meaning.specs.Expression.{Sheet}
 use Rattle.meaning.specs.Letter.{letterCount, recordOf}
 use Rattle.meaning.specs.Situation.{firstValues}
@@ -20,38 +21,37 @@ use Rattle.sheet.specs.Accepted.{Accepted}
 use Rattle.nodes.specs.Postfix.{Node}
 use Rattle.nodes.specs.Evaluate.{view}
 use Rattle.nodes.proofs.Record.{flat}
-use Rattle.explore.specs.Key.{letterRoom, firstRoom, padded, encoded, raised, lowered, sizeIn, lettersIn, firstsIn, width, keyOf}
-use Rattle.explore.specs.Step.{windowOf, lettersAfter, viewAfter}
+use Rattle.extend.specs.Key.{withZeros, encodedKey, raised, lowered, sizeIn, lettersIn, firstsIn, width, keyOf}
+use Rattle.extend.specs.Step.{windowOf, lettersAfter, viewAfter}
 use Rattle.explore.specs.Rows.{letterNumbers}
 use Rattle.nodes.specs.FirstPlaces.{allFirstPlaces}
 use Rattle.nodes.proofs.FirstPlaces.{allPlaces-long}
 use Rattle.explore.specs.StoredSheet.{storedSheet, HasLetters}
-use Rattle.explore.proofs.KeyLists.{length-padded}
+use Rattle.extend.proofs.KeyLists.{length-padded}
 use Rattle.explore.proofs.KeySituations.{padded-take, lowered-all, drop-below, firsts-long, key-cut}
-use Rattle.explore.proofs.RowLaws.{below-snoc}
 use Rattle.explore.proofs.StoredFirsts.{firsts-bounded}
-use Rattle.explore.proofs.StepLaws.{encoded-size}
+use Rattle.extend.proofs.StepLaws.{encoded-size}
 
 -- ---- the parts of a key
 
-encoded-letters : (size : ℕ) (letters firsts : List ℕ) (marks m : ℕ) → m ≡ length letters → length letters ≤ letterRoom → take m (drop 1 (encoded size letters firsts marks)) ≡ letters
-unfolding encoded
+encoded-letters : (size : ℕ) (letters firsts : List ℕ) (marks m : ℕ) → m ≡ length letters → length letters ≤ windowBound → take m (drop 1 (encodedKey size letters firsts marks)) ≡ letters
+unfolding encodedKey
 encoded-letters size letters firsts marks m e h =
-    let rest = padded firstRoom firsts ++ (marks ∷ []) in
-    ap (λ n. take n (padded letterRoom letters ++ rest)) e
-    ∙ sym (take-take (length letters) letterRoom (padded letterRoom letters ++ rest) h)
-    ∙ ap (take (length letters)) (take-at (padded letterRoom letters) rest letterRoom (length-padded letterRoom letters))
-    ∙ padded-take letterRoom letters h
+    let rest = withZeros firstBound firsts ++ (marks ∷ []) in
+    ap (λ n. take n (withZeros windowBound letters ++ rest)) e
+    ∙ sym (take-take (length letters) windowBound (withZeros windowBound letters ++ rest) h)
+    ∙ ap (take (length letters)) (take-at (withZeros windowBound letters) rest windowBound (length-padded windowBound letters))
+    ∙ padded-take windowBound letters h
 
-encoded-firsts : (size : ℕ) (letters firsts : List ℕ) (marks m : ℕ) → m ≡ length firsts → length firsts ≤ firstRoom → firstsIn m (encoded size letters firsts marks) ≡ firsts
-unfolding encoded
+encoded-firsts : (size : ℕ) (letters firsts : List ℕ) (marks m : ℕ) → m ≡ length firsts → length firsts ≤ firstBound → firstsIn m (encodedKey size letters firsts marks) ≡ firsts
+unfolding encodedKey
 encoded-firsts size letters firsts marks m e h =
-    let rest = padded firstRoom firsts ++ (marks ∷ []) in
-    ap (λ n. take n (drop letterRoom (padded letterRoom letters ++ rest))) e
-    ∙ ap (take (length firsts)) (drop-at (padded letterRoom letters) rest letterRoom (length-padded letterRoom letters))
-    ∙ sym (take-take (length firsts) firstRoom rest h)
-    ∙ ap (take (length firsts)) (take-at (padded firstRoom firsts) (marks ∷ []) firstRoom (length-padded firstRoom firsts))
-    ∙ padded-take firstRoom firsts h
+    let rest = withZeros firstBound firsts ++ (marks ∷ []) in
+    ap (λ n. take n (drop windowBound (withZeros windowBound letters ++ rest))) e
+    ∙ ap (take (length firsts)) (drop-at (withZeros windowBound letters) rest windowBound (length-padded windowBound letters))
+    ∙ sym (take-take (length firsts) firstBound rest h)
+    ∙ ap (take (length firsts)) (take-at (withZeros firstBound firsts) (marks ∷ []) firstBound (length-padded firstBound firsts))
+    ∙ padded-take firstBound firsts h
 
 -- ---- the letters of a window
 
@@ -63,9 +63,9 @@ module _ (s : Sheet) (values : List ℤ) (has : HasLetters s values) where
 
 -- ---- the key of a record, and one more letter
 
-module _ {A : Arithmetic} (lawful : LawfulArithmetic A) (s : Sheet) (accepted : Accepted A s) (behind : List Node) (values : List ℤ) (has : HasLetters s values) where
+module _ (s : Sheet) (accepted : Accepted s) (behind : List Node) (values : List ℤ) (has : HasLetters s values) where
   abbrev w : ℕ
-  w = width A s
+  w = width s
 
   abbrev recent : List ℕ → List ℕ
   recent r = drop (length r - w) r
@@ -73,47 +73,47 @@ module _ {A : Arithmetic} (lawful : LawfulArithmetic A) (s : Sheet) (accepted : 
   recent-long : (r : List ℕ) → length (recent r) ≡ min (length r) w
   recent-long r = omega (arith, length-drop (length r - w) r)
 
-  pub key-size : (r : List ℕ) → sizeIn (keyOf A s r) ≡ min (length r) (suc w)
+  pub key-size : (r : List ℕ) → sizeIn (keyOf s r) ≡ min (length r) (suc w)
   unfolding keyOf
   key-size r = encoded-size _ _ _ _
 
-  pub key-letters : (r : List ℕ) → lettersIn w (keyOf A s r) ≡ recent r
+  pub key-letters : (r : List ℕ) → lettersIn w (keyOf s r) ≡ recent r
   unfolding keyOf
   key-letters r = encoded-letters (min (length r) (suc w)) (recent r) _ _ _ (ap (λ n. min n w) (encoded-size (min (length r) (suc w)) (recent r) _ _) ∙ omega (arith, recent-long r)) (omega (arith, recent-long r, accepted .window))
 
-  pub key-firsts : (r : List ℕ) → w < length r → firstsIn (length (allFirstPlaces 0 (s .constraints))) (keyOf A s r) ≡ map raised (firstValues A (s .constraints) (recordOf (s .streams) r))
+  pub key-firsts : (r : List ℕ) → w < length r → firstsIn (length (allFirstPlaces 0 (s .constraints))) (keyOf s r) ≡ map raised (firstValues (s .constraints) (recordOf (s .streams) r))
   key-firsts r h =
-      let long = firsts-long A s r in
-      ap (firstsIn (length (allFirstPlaces 0 (s .constraints)))) (key-cut A s r h)
-      ∙ encoded-firsts (suc w) (recent r) (map raised (firstValues A (s .constraints) (recordOf (s .streams) r))) _ _ (allPlaces-long 0 (s .constraints) ∙ sym long) (omega (arith, long, accepted .firsts))
+      let long = firsts-long s r in
+      ap (firstsIn (length (allFirstPlaces 0 (s .constraints)))) (key-cut s r h)
+      ∙ encoded-firsts (suc w) (recent r) (map raised (firstValues (s .constraints) (recordOf (s .streams) r))) _ _ (allPlaces-long 0 (s .constraints) ∙ sym long) (omega (arith, long, accepted .firsts))
 
-  module _ (r : List ℕ) (a : ℕ) (below : AllBelow (letterNumbers A s) r) (here : a < letterNumbers A s) where
-    pub after-letters : lettersAfter (storedSheet s behind values) (keyOf A s r) a ≡ recent r ++ (a ∷ [])
+  module _ (r : List ℕ) (a : ℕ) (below : AllBelow (letterNumbers s) r) (here : a < letterNumbers s) where
+    pub after-letters : lettersAfter (storedSheet s behind values) (keyOf s r) a ≡ recent r ++ (a ∷ [])
     after-letters = ap (_++ (a ∷ [])) (key-letters r)
 
     -- As many letters of the record are there as it has, up to D+B.
-    pub after-known : length (lettersAfter (storedSheet s behind values) (keyOf A s r) a) - 1 ≡ min (length r) w
+    pub after-known : length (lettersAfter (storedSheet s behind values) (keyOf s r) a) - 1 ≡ min (length r) w
     after-known = omega (arith, ap length after-letters, length-snoc (recent r) a, recent-long r)
 
-    after-window : windowOf (length (s .streams)) values (lettersAfter (storedSheet s behind values) (keyOf A s r) a) ≡ flat (recordOf (s .streams) (recent r ++ (a ∷ [])))
-    after-window = ap (windowOf (length (s .streams)) values) after-letters ∙ window-flat s values has (recent r ++ (a ∷ [])) (below-snoc (letterNumbers A s) (recent r) a (drop-below (letterNumbers A s) (length r - w) r below) here)
+    after-window : windowOf (length (s .streams)) values (lettersAfter (storedSheet s behind values) (keyOf s r) a) ≡ flat (recordOf (s .streams) (recent r ++ (a ∷ [])))
+    after-window = ap (windowOf (length (s .streams)) values) after-letters ∙ window-flat s values has (recent r ++ (a ∷ [])) (below-snoc (letterNumbers s) (recent r) a (drop-below (letterNumbers s) (length r - w) r below) here)
 
     -- A whole record's letters are all there, and the firsts are evaluated.
     pub view-whole : length r ≤ w
-        → viewAfter (storedSheet s behind values) (keyOf A s r) a
-        ≡ view (flat (recordOf (s .streams) (r ++ (a ∷ [])))) (length (s .streams)) (map lowered (firstsIn (length (allFirstPlaces 0 (s .constraints))) (keyOf A s r))) true
+        → viewAfter (storedSheet s behind values) (keyOf s r) a
+        ≡ view (flat (recordOf (s .streams) (r ++ (a ∷ [])))) (length (s .streams)) (map lowered (firstsIn (length (allFirstPlaces 0 (s .constraints))) (keyOf s r))) true
     view-whole h =
         let none : length r - w ≡ 0 = omega arith in
-        let size : leb (sizeIn (keyOf A s r)) w ≡ true = le-leb (sizeIn (keyOf A s r)) w (omega (arith, key-size r)) in
+        let size : leb (sizeIn (keyOf s r)) w ≡ true = le-leb (sizeIn (keyOf s r)) w (omega (arith, key-size r)) in
         let all : recent r ≡ r = ap (λ n. drop n r) none in
-        (λ i. view ((after-window ∙ ap (λ l. flat (recordOf (s .streams) (l ++ (a ∷ [])))) all) i) (length (s .streams)) (map lowered (firstsIn (length (allFirstPlaces 0 (s .constraints))) (keyOf A s r))) (size i))
+        (λ i. view ((after-window ∙ ap (λ l. flat (recordOf (s .streams) (l ++ (a ∷ [])))) all) i) (length (s .streams)) (map lowered (firstsIn (length (allFirstPlaces 0 (s .constraints))) (keyOf s r))) (size i))
 
     -- Of a cut record the last letters and the values of the firsts are there.
     pub view-cut : w < length r
-        → viewAfter (storedSheet s behind values) (keyOf A s r) a
-        ≡ view (flat (recordOf (s .streams) (recent r ++ (a ∷ [])))) (length (s .streams)) (firstValues A (s .constraints) (recordOf (s .streams) r)) false
+        → viewAfter (storedSheet s behind values) (keyOf s r) a
+        ≡ view (flat (recordOf (s .streams) (recent r ++ (a ∷ [])))) (length (s .streams)) (firstValues (s .constraints) (recordOf (s .streams) r)) false
     view-cut h =
-        let size : leb (sizeIn (keyOf A s r)) w ≡ false = lt-leb (sizeIn (keyOf A s r)) w (omega (arith, key-size r)) in
-        let firsts : map lowered (firstsIn (length (allFirstPlaces 0 (s .constraints))) (keyOf A s r)) ≡ firstValues A (s .constraints) (recordOf (s .streams) r) =
-        ap (map lowered) (key-firsts r h) ∙ lowered-all (firstValues A (s .constraints) (recordOf (s .streams) r)) (firsts-bounded s accepted lawful r below h) in
+        let size : leb (sizeIn (keyOf s r)) w ≡ false = lt-leb (sizeIn (keyOf s r)) w (omega (arith, key-size r)) in
+        let firsts : map lowered (firstsIn (length (allFirstPlaces 0 (s .constraints))) (keyOf s r)) ≡ firstValues (s .constraints) (recordOf (s .streams) r) =
+        ap (map lowered) (key-firsts r h) ∙ lowered-all (firstValues (s .constraints) (recordOf (s .streams) r)) (firsts-bounded s accepted r below h) in
         (λ i. view (after-window i) (length (s .streams)) (firsts i) (size i))

@@ -1,27 +1,26 @@
 -- The key of the empty record, and the flag of a key: it says whether every until is done. From the digits of the marks.
 use Prim.Native.Nat.{ℕ, zero, suc, _+_, _-_, _*_, _≤_}
 use native.Mathlib.Omega.{arith}
-use native.Mathlib.Decide.{decLe}
-use mathlib.Core.Path.{_≡_, refl, sym, _∙_, ap, ap₂, subst}
-use mathlib.Core.Bool.{Bool, true, false, cond, _&&_}
+use mathlib.Core.Path.{_≡_, refl, sym, _∙_, ap, ap₂}
+use mathlib.Core.Bool.{Bool, true, false}
 use mathlib.Core.List.{List, [], _∷_, _++_, map}
 use lib.Dec.{eqb}
-use lib.ListN.{length, getD, replicate, length-append, length-map}
+use lib.ListN.{length, getD, length-map}
 use lib.Seq.{getD-append-add}
 use borrow.Author.Tests.{eq-eqb, ne-eqb, eqb-true, eqb-false}
+use Rattle.sheet.specs.Refusal.{windowBound, firstBound}
 use Rattle.meaning.specs.Value.{less, atMost, equal, atLeast, greater, different}
-use Rattle.meaning.specs.Arithmetic.{Arithmetic}
 use Rattle.meaning.specs.Expression.{comparison, implies, Constraint, always, until, Sheet}
 use Rattle.meaning.specs.Letter.{recordOf, streamsOf}
 use Rattle.meaning.specs.Window.{D, allUntils}
-use Rattle.meaning.specs.Situation.{all, done, untilMarks, situation}
-use Rattle.meaning.specs.Evaluation.{marksOf, allDone}
+use Rattle.meaning.specs.Situation.{all, done, untilMarks}
+use Rattle.meaning.specs.Evaluation.{allDone}
 use Rattle.meaning.proofs.Congruence.{marksOf-situation}
 use Rattle.nodes.specs.Code.{relationCode}
-use Rattle.explore.specs.Key.{letterRoom, firstRoom, padded, encoded, digit, marksNumber, marksIn, width, keyOf}
+use Rattle.extend.specs.Key.{withZeros, encodedKey, digit, marksNumber, marksIn, keyOf}
 use Rattle.explore.specs.Search.{startKey, everyMark, flagOf}
 use Rattle.explore.specs.Rows.{situationOf}
-use Rattle.explore.proofs.KeyLists.{length-padded}
+use Rattle.extend.proofs.KeyLists.{length-padded}
 use Rattle.explore.proofs.KeySituations.{key-whole}
 
 -- ---- the number of the marks of n untils that are all done
@@ -69,31 +68,31 @@ everyMark-ones (until a b ∷ cs) k =
 
 -- ---- keys
 
-pub encoded-marks : (size : ℕ) (letters firsts : List ℕ) (m : ℕ) → marksIn (encoded size letters firsts m) ≡ m
-unfolding encoded
+pub encoded-marks : (size : ℕ) (letters firsts : List ℕ) (m : ℕ) → marksIn (encodedKey size letters firsts m) ≡ m
+unfolding encodedKey
 encoded-marks size letters firsts m =
-    let p = length-padded letterRoom letters in
-    let q = length-padded firstRoom firsts in
-    let i : 14 ≡ length (padded letterRoom letters) + (length (padded firstRoom firsts) + 0) = omega arith in
-    ap (λ n. getD (padded letterRoom letters ++ (padded firstRoom firsts ++ (m ∷ []))) n 0) i
-    ∙ getD-append-add (padded letterRoom letters) (padded firstRoom firsts ++ (m ∷ [])) (length (padded firstRoom firsts) + 0) 0
-    ∙ getD-append-add (padded firstRoom firsts) (m ∷ []) 0 0
+    let p = length-padded windowBound letters in
+    let q = length-padded firstBound firsts in
+    let i : 14 ≡ length (withZeros windowBound letters) + (length (withZeros firstBound firsts) + 0) = omega arith in
+    ap (λ n. getD (withZeros windowBound letters ++ (withZeros firstBound firsts ++ (m ∷ []))) n 0) i
+    ∙ getD-append-add (withZeros windowBound letters) (withZeros firstBound firsts ++ (m ∷ [])) (length (withZeros firstBound firsts) + 0) 0
+    ∙ getD-append-add (withZeros firstBound firsts) (m ∷ []) 0 0
 
-module _ (A : Arithmetic) (s : Sheet) where
-  pub key-marks : (r : List ℕ) → marksIn (keyOf A s r) ≡ marksNumber (untilMarks A (s .constraints) (recordOf (s .streams) r))
+module _ (s : Sheet) where
+  pub key-marks : (r : List ℕ) → marksIn (keyOf s r) ≡ marksNumber (untilMarks (s .constraints) (recordOf (s .streams) r))
   unfolding keyOf
   key-marks r = encoded-marks _ _ _ _
 
-  marks-long : (r : List ℕ) → length (untilMarks A (s .constraints) (recordOf (s .streams) r)) ≡ length (allUntils (s .constraints))
+  marks-long : (r : List ℕ) → length (untilMarks (s .constraints) (recordOf (s .streams) r)) ≡ length (allUntils (s .constraints))
   unfolding untilMarks
   marks-long r = length-map (allUntils (s .constraints)) _
 
   -- The flag of a record's key says whether every until is done in its situation.
-  pub key-flag : (every : ℕ) → every ≡ ones (length (allUntils (s .constraints))) → (r : List ℕ) → flagOf every (keyOf A s r) ≡ digit (allDone A (s .constraints) (situationOf A s r))
+  pub key-flag : (every : ℕ) → every ≡ ones (length (allUntils (s .constraints))) → (r : List ℕ) → flagOf every (keyOf s r) ≡ digit (allDone (s .constraints) (situationOf s r))
   unfolding allDone
   key-flag every e r =
-      let m = untilMarks A (s .constraints) (recordOf (s .streams) r) in
-      ap digit (ap₂ eqb (key-marks r) (e ∙ ap ones (sym (marks-long r))) ∙ marks-all m ∙ ap (all (λ b. b)) (sym (marksOf-situation A (s .constraints) (recordOf (s .streams) r))))
+      let m = untilMarks (s .constraints) (recordOf (s .streams) r) in
+      ap digit (ap₂ eqb (key-marks r) (e ∙ ap ones (sym (marks-long r))) ∙ marks-all m ∙ ap (all (λ b. b)) (sym (marksOf-situation (s .constraints) (recordOf (s .streams) r))))
 
   none-marked : (cs : List Constraint) (f : Constraint → Bool) → ((c : Constraint) → f c ≡ false) → marksNumber (map f cs) ≡ 0
   unfolding marksNumber
@@ -101,9 +100,9 @@ module _ (A : Arithmetic) (s : Sheet) where
   none-marked (c ∷ cs) f h = ap₂ (λ b n. digit b + 2 * n) (h c) (none-marked cs f h) ∙ refl
 
   -- The key of the empty record is all zero.
-  pub key-empty : keyOf A s [] ≡ startKey
-  unfolding encoded untilMarks done
+  pub key-empty : keyOf s [] ≡ startKey
+  unfolding encodedKey untilMarks done
   key-empty =
       let zero-times : 0 - D (s .constraints) ≡ 0 = omega arith in
-      let m : marksNumber (untilMarks A (s .constraints) []) ≡ 0 = none-marked (allUntils (s .constraints)) (λ c. done A (streamsOf []) c (0 - D (s .constraints))) (λ c. ap (λ n. done A (streamsOf []) c n) zero-times) in
-      key-whole A s [] (omega arith) ∙ ap (encoded 0 [] []) m
+      let m : marksNumber (untilMarks (s .constraints) []) ≡ 0 = none-marked (allUntils (s .constraints)) (λ c. done (streamsOf []) c (0 - D (s .constraints))) (λ c. ap (λ n. done (streamsOf []) c n) zero-times) in
+      key-whole s [] (omega arith) ∙ ap (encodedKey 0 [] []) m

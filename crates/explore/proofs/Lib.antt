@@ -1,9 +1,4 @@
 pub mod ChainLaws
-pub mod JudgeLaws
-pub mod KeyLists
-pub mod KeyNumbers
-pub mod PreparedLaws
-pub mod StepLaws
 pub mod SearchLaws
 pub mod RowLaws
 pub mod KeySituations

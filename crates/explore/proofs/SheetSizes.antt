@@ -8,7 +8,7 @@ use mathlib.Core.Bool.{Bool, true, false}
 use mathlib.Core.List.{List, map}
 use lib.IntN.{ℤ}
 use lib.ListN.{length, length-map}
-use Rattle.meaning.specs.Arithmetic.{Arithmetic, LawfulArithmetic}
+use Rattle.sheet.specs.Refusal.{streamBound}
 use Rattle.meaning.specs.Expression.{Constraint, Stream, Sheet}
 use Rattle.meaning.specs.Letter.{letterCount}
 use Rattle.sheet.specs.Accepted.{Accepted}
@@ -16,10 +16,10 @@ use Rattle.nodes.specs.Bounds.{lowsOf, highsOf}
 use Rattle.nodes.specs.Postfix.{Node, StoredConstraint, storedConstraints}
 use Rattle.letters.specs.Described.{described, hasRoom, withLetters}
 use Rattle.letters.proofs.AllLetters.{room-there, hasRoom-unnamed, withLetters-unnamed, withLetters-letter}
-use Rattle.explore.specs.Chains.{keySize}
-use Rattle.explore.specs.Step.{Store, streamRoom, IsReady}
+use Rattle.sizes.specs.Room.{keySize}
+use Rattle.extend.specs.Step.{Store, IsReady}
 use Rattle.explore.specs.Search.{everyMark, Searched}
-use Rattle.explore.specs.Exploration.{Lent, IsExplorable, ExploresStored}
+use Rattle.explore.specs.Exploration.{ExploreTables, IsExplorable, ExploresStored}
 use Rattle.explore.specs.Rows.{ExploreOutcome}
 use Rattle.explore.specs.StoredSheet.{storedSheet, HasLetters, IsStored}
 use Rattle.nodes.proofs.FirstPlaces.{allPlaces-long}
@@ -32,7 +32,7 @@ use Rattle.marks.proofs.Laws.{says-holds}
 part-long : (cs : List Constraint) (f : StoredConstraint → ℕ) → length (map f (storedConstraints 0 0 cs)) ≡ length cs
 part-long cs f = length-map (storedConstraints 0 0 cs) f ∙ constraints-long 0 0 cs
 
-pub accepted-ready : {A : Arithmetic} (s : Sheet) (behind : List Node) (values : List ℤ) → Accepted A s → IsReady (storedSheet s behind values)
+pub accepted-ready : (s : Sheet) (behind : List Node) (values : List ℤ) → Accepted s → IsReady (storedSheet s behind values)
 accepted-ready s behind values accepted =
     let cs = s .constraints in
     let relations = part-long cs (λ (t : StoredConstraint). t .relation) in
@@ -45,12 +45,12 @@ accepted-ready s behind values accepted =
       few-firsts = subst (λ n. n ≤ 8) (sym (allPlaces-long 0 cs)) (accepted .firsts);
     }
 
-module _ {A : Arithmetic} (s : Sheet) (accepted : Accepted A s) where
+module _ (s : Sheet) (accepted : Accepted s) where
   abbrev ss : List Stream
   ss = s .streams
 
   -- The sheet can be explored in tables with room for as many rows as the limit.
-  pub accepted-explorable : (behind : List Node) (values : List ℤ) (limit : ℕ) (t : Lent) → letterCount ss * length ss + streamRoom ≤ length values → 0 < limit → limit ≤ 4096 → limit * keySize ≤ length (t .keys)
+  pub accepted-explorable : (behind : List Node) (values : List ℤ) (limit : ℕ) (t : ExploreTables) → letterCount ss * length ss + streamBound ≤ length values → 0 < limit → limit ≤ 4096 → limit * keySize ≤ length (t .keys)
       → limit ≤ length (t .heads) → limit ≤ length (t .links) → limit * letterCount ss ≤ length (t .entries) → limit ≤ length (t .flags) → IsExplorable (storedSheet s behind values) (letterCount ss) limit t
   accepted-explorable behind values limit t letters some few keys heads links entries flags = (
     accepted-ready s behind values accepted,
@@ -70,7 +70,7 @@ module _ {A : Arithmetic} (s : Sheet) (accepted : Accepted A s) where
   -- ---- the letters' values
 
   -- Where there are at most so many letters, a list with 8 numbers for each, and 8 more, has room for their values.
-  pub letters-fit : (most room : ℕ) → letterCount ss ≤ most → most * streamRoom + streamRoom ≤ room → letterCount ss * length ss + streamRoom ≤ room
+  pub letters-fit : (most room : ℕ) → letterCount ss ≤ most → most * streamBound + streamBound ≤ room → letterCount ss * length ss + streamBound ≤ room
   letters-fit most room few h = omega (arith, mul-le-mul few (accepted .streamCount))
 
   module _ {lows highs : List ℤ} (out : List ℤ) (l : lows ≡ lowsOf ss) (h : highs ≡ highsOf ss) (fits : letterCount ss * length ss ≤ length out) where
@@ -89,20 +89,20 @@ module _ {A : Arithmetic} (s : Sheet) (accepted : Accepted A s) where
 -- ---- the exploration
 
 -- What `explore_stored` leaves for the stored form of an accepted sheet, in tables with room, is the exploration of the sheet.
-pub stored-explored : {A : Arithmetic} → LawfulArithmetic A → {s : Sheet} → Accepted A s → {K : Store} → IsStored s K → {letters limit count : ℕ} {before after : Lent} {ready full : Bool}
-    → letters ≡ letterCount (s .streams) → IsExplorable K letters limit before → ExploresStored A K letters limit before after ready full count
-    → (ready ≡ true) × ExploreOutcome A s full limit count (after .entries) (after .flags)
-stored-explored {A} lawful {s} accepted {K} stored {letters} {limit} {count} {before} {after} {ready} {full} same explorable found =
+pub stored-explored : {s : Sheet} → Accepted s → {K : Store} → IsStored s K → {letters limit count : ℕ} {before after : ExploreTables} {ready full : Bool}
+    → letters ≡ letterCount (s .streams) → IsExplorable K letters limit before → ExploresStored K letters limit before after ready full count
+    → (ready ≡ true) × ExploreOutcome s full limit count (after .entries) (after .flags)
+stored-explored {s} accepted {K} stored {letters} {limit} {count} {before} {after} {ready} {full} same explorable found =
     let yes = says-holds ready (found .answer) explorable in (yes, by full refl)
   where
-    by : (b : Bool) → full ≡ b → ExploreOutcome A s full limit count (after .entries) (after .flags)
+    by : (b : Bool) → full ≡ b → ExploreOutcome s full limit count (after .entries) (after .flags)
     by true e =
-        subst (λ b. ExploreOutcome A s b limit count (after .entries) (after .flags)) (sym e)
-        (stored-outcome lawful accepted stored true
+        subst (λ b. ExploreOutcome s b limit count (after .entries) (after .flags)) (sym e)
+        (stored-outcome accepted stored true
         (let more = found .more (says-holds ready (found .answer) explorable) e .0 in
-        subst (λ n. Searched A K n limit (everyMark 0 (K .relations)) (more .keys) (more .entries) (more .flags) true count) same (more .searched)))
+        subst (λ n. Searched K n limit (everyMark 0 (K .relations)) (more .keys) (more .entries) (more .flags) true count) same (more .searched)))
     by false e =
-        subst (λ b. ExploreOutcome A s b limit count (after .entries) (after .flags)) (sym e)
-        (stored-outcome lawful accepted stored false
+        subst (λ b. ExploreOutcome s b limit count (after .entries) (after .flags)) (sym e)
+        (stored-outcome accepted stored false
         (let rows = found .rows (says-holds ready (found .answer) explorable) e in
-        subst (λ n. Searched A K n limit (everyMark 0 (K .relations)) (rows .keys) (after .entries) (after .flags) false count) same (rows .searched)))
+        subst (λ n. Searched K n limit (everyMark 0 (K .relations)) (rows .keys) (after .entries) (after .flags) false count) same (rows .searched)))

@@ -7,13 +7,13 @@ use mathlib.Core.Path.{_≡_, refl, sym, _∙_, ap, ap₂, subst}
 use mathlib.Core.Bool.{true}
 use mathlib.Core.List.{List, [], _∷_, _++_, map, map-append}
 use lib.ListN.{length, length-append, length-map, List·getD-eq-default}
+use Rattle.basics.proofs.Lists.{All-append, All-member, member-All}
+use Rattle.basics.specs.Lists.{All}
 use Rattle.meaning.specs.Value.{Value}
-use Rattle.meaning.specs.Arithmetic.{Arithmetic, LawfulArithmetic}
 use Rattle.meaning.specs.Expression.{Expression, first, Constraint, leftSide, rightSide, Stream, Sheet, value}
 use Rattle.meaning.specs.Interval.{subexpressions}
 use Rattle.meaning.specs.Letter.{Record, OfLetters, streamsOf}
 use Rattle.meaning.specs.Window.{reach, firsts, sideFirsts, allFirsts, D}
-use Rattle.meaning.proofs.Lists.{All, All-append, All-member, member-All}
 use Rattle.meaning.proofs.Bounds.{first-within}
 use Rattle.meaning.proofs.Window.{value-near}
 use Rattle.sheet.specs.Accepted.{Accepted}
@@ -94,7 +94,7 @@ first-inside l {p = p} (storedFirst s x) = by (decLt p (length l))
         let e : _≡_ {A = ℕ} 2 0 = sym (x .kind) ∙ List·getD-eq-default (map (λ (y : Node). y .kind) l) 0 {n = p} (omega (arith, length-map l (λ (y : Node). y .kind))) in
         absurd (omega arith)
 
-module _ {A : Arithmetic} (lawful : LawfulArithmetic A) (s : Sheet) (accepted : Accepted A s) (lawfulRecord : Record) (letters : OfLetters (s .streams) lawfulRecord) (long : D (s .constraints) < length lawfulRecord) (behind : List Node) (stored : List Value) where
+module _ (s : Sheet) (accepted : Accepted s) (lawfulRecord : Record) (letters : OfLetters (s .streams) lawfulRecord) (long : D (s .constraints) < length lawfulRecord) (behind : List Node) (stored : List Value) where
   abbrev ss : List Stream
   ss = s .streams
 
@@ -108,23 +108,23 @@ module _ {A : Arithmetic} (lawful : LawfulArithmetic A) (s : Sheet) (accepted : 
   W = view (flat lawfulRecord) (length ss) stored true
 
   abbrev Known : Expression → Type 0
-  Known e = Fine A ss (first e) × (reach e ≤ D cs)
+  Known e = Fine ss (first e) × (reach e ≤ D cs)
 
-  first-node : {n k p : ℕ} {e : Expression} → StoredAt (nodesOf nodes) n k (first e) (suc p) → Known e → nodeValue A (nodesOf nodes) W p 0 .value ≡ value A (streamsOf lawfulRecord) e 0
+  first-node : {n k p : ℕ} {e : Expression} → StoredAt (nodesOf nodes) n k (first e) (suc p) → Known e → nodeValue (nodesOf nodes) W p 0 .value ≡ value (streamsOf lawfulRecord) e 0
   unfolding value reach
   first-node {n} {k} {p} {e} st h =
-      let w = endless s accepted lawful lawfulRecord letters long in
+      let w = endless s accepted lawfulRecord letters long in
       let all-places = record-places ss (accepted .someStream) lawfulRecord letters stored true in
       let shown = record-letters ss (accepted .someStream) lawfulRecord letters stored true in
       let near : 0 + reach (first e) < places W = omega (arith, all-places, h .1) in
       ap (λ v. v .value)
-      (nodeValue-value A nodes W w (λ k q b l. shown .shows k q b l ∙ sym (lasting-same (streamsOf lawfulRecord) (length lawfulRecord) k q (omega (arith, all-places)))) 0 (first e) st (first-inside nodes st) refl (h .0 .names) near
-      (whole-met lawful ss w (endless-ranged s accepted lawful lawfulRecord letters long) (first e) 0 (h .0 .names) (h .0 .bounds)))
-      ∙ value-near A w (streamsOf lawfulRecord) (length lawfulRecord) (lasting-same (streamsOf lawfulRecord) (length lawfulRecord)) e 0 (omega (arith, h .1))
+      (nodeValue-value nodes W w (λ k q b l. shown .shows k q b l ∙ sym (lasting-same (streamsOf lawfulRecord) (length lawfulRecord) k q (omega (arith, all-places)))) 0 (first e) st (first-inside nodes st) refl (h .0 .names) near
+      (whole-met ss w (endless-ranged s accepted lawfulRecord letters long) (first e) 0 (h .0 .names) (h .0 .bounds)))
+      ∙ value-near w (streamsOf lawfulRecord) (length lawfulRecord) (lasting-same (streamsOf lawfulRecord) (length lawfulRecord)) e 0 (omega (arith, h .1))
 
   -- In a whole record each first's node has its value.
-  pub first-nodes : {Y : Type 0} (f : Value → Y) → map (λ p. f (nodeValue A (nodesOf nodes) W p 0 .value)) (allFirstPlaces 0 cs) ≡ map (λ e. f (value A (streamsOf lawfulRecord) e 0)) (allFirsts cs)
+  pub first-nodes : {Y : Type 0} (f : Value → Y) → map (λ p. f (nodeValue (nodesOf nodes) W p 0 .value)) (allFirstPlaces 0 cs) ≡ map (λ e. f (value (streamsOf lawfulRecord) e 0)) (allFirsts cs)
   first-nodes f =
       allPlaces-map (nodesOf nodes) Known _ _ (λ n k p e st h. ap f (first-node st h)) 0 0 cs
       (nodes-hold [] (allNodes 0 0 cs) behind)
-      (member-All Known (allFirsts cs) (λ e m. (All-member (λ f. Fine A ss (first f)) (firsts-fine s accepted) m, first-within cs e m)))
+      (member-All Known (allFirsts cs) (λ e m. (All-member (λ f. Fine ss (first f)) (firsts-fine s accepted) m, first-within cs e m)))

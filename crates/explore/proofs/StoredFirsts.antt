@@ -7,15 +7,16 @@ use mathlib.Core.List.{List, [], _∷_, _++_, map, List·Memᴰ, List·Memᴰ·h
 use lib.ListN.{length, getD, length-map}
 use borrow.Author.Tests.{le-leb}
 use lib.IntN.{natAbs}
+use Rattle.basics.proofs.Lists.{All-append, member-All, All-member}
+use Rattle.basics.specs.Lists.{All}
 use Rattle.automaton.specs.Words.{AllBelow}
 use Rattle.meaning.specs.Value.{Streams}
-use Rattle.meaning.specs.Arithmetic.{Within, Arithmetic, LawfulArithmetic}
+use Rattle.meaning.specs.Arithmetic.{Within}
 use Rattle.meaning.specs.Expression.{Expression, integer, name, first, next, negation, binary, conditional, fby, Constraint, leftSide, rightSide, Stream, Sheet, rangeOf, value}
 use Rattle.meaning.specs.Interval.{interval, subexpressions, NamesBelow}
 use Rattle.meaning.specs.Letter.{Record, OfLetters, letterOf, recordOf, streamsOf}
 use Rattle.meaning.specs.Window.{firsts, sideFirsts, allFirsts, D}
 use Rattle.meaning.specs.Situation.{firstValues}
-use Rattle.meaning.proofs.Lists.{All, All-append, member-All, All-member}
 use Rattle.meaning.proofs.Facts.{getD-member}
 use Rattle.meaning.proofs.Bounds.{first-within}
 use Rattle.meaning.proofs.Window.{value-near}
@@ -24,19 +25,19 @@ use Rattle.meaning.proofs.Interval.{interval-sound}
 use Rattle.sheet.specs.Refusal.{magnitudeBound, onLeft, onRight, InBounds}
 use Rattle.sheet.specs.Accepted.{Accepted}
 use Rattle.nodes.proofs.Accepted.{inBounds-small, lasting, lasting-same, lasting-ranged}
-use Rattle.explore.specs.Key.{width}
+use Rattle.extend.specs.Key.{width}
 use Rattle.explore.specs.Rows.{letterNumbers}
 use Rattle.explore.proofs.KeySituations.{AllBounded}
 use Rattle.explore.proofs.RowLaws.{below-letters}
 
-module _ (A : Arithmetic) (ss : List Stream) where
+module _ (ss : List Stream) where
   -- Its names are those of streams, and the intervals of its subexpressions are within the bound.
   pub record Fine (e : Expression) : Type 0 where
     pub names : NamesBelow (length ss) e
-    pub bounds : All (λ f. InBounds (interval A ss f)) (subexpressions e)
+    pub bounds : All (λ f. InBounds (interval ss f)) (subexpressions e)
 
   -- The firsts inside such an expression are such expressions.
-  firsts-inside : (e : Expression) → NamesBelow (length ss) e → All (λ f. InBounds (interval A ss f)) (subexpressions e) → All (λ f. Fine (first f)) (firsts e)
+  firsts-inside : (e : Expression) → NamesBelow (length ss) e → All (λ f. InBounds (interval ss f)) (subexpressions e) → All (λ f. Fine (first f)) (firsts e)
   unfolding firsts subexpressions
   firsts-inside (integer z) n b = tt
   firsts-inside (name k) n b = tt
@@ -44,32 +45,32 @@ module _ (A : Arithmetic) (ss : List Stream) where
   firsts-inside (next e) n b = firsts-inside e n (b .1)
   firsts-inside (negation e) n b = firsts-inside e n (b .1)
   firsts-inside (binary o x y) n b =
-      let p = All-append (λ f. InBounds (interval A ss f)) (subexpressions x) (subexpressions y) .0 (b .1) in
+      let p = All-append (λ f. InBounds (interval ss f)) (subexpressions x) (subexpressions y) .0 (b .1) in
       All-append (λ f. Fine (first f)) (firsts x) (firsts y) .1 (firsts-inside x (n .0) (p .0), firsts-inside y (n .1) (p .1))
   firsts-inside (conditional c x y) n b =
-      let p = All-append (λ f. InBounds (interval A ss f)) (subexpressions c) (subexpressions x ++ subexpressions y) .0 (b .1) in
-      let q = All-append (λ f. InBounds (interval A ss f)) (subexpressions x) (subexpressions y) .0 (p .1) in
+      let p = All-append (λ f. InBounds (interval ss f)) (subexpressions c) (subexpressions x ++ subexpressions y) .0 (b .1) in
+      let q = All-append (λ f. InBounds (interval ss f)) (subexpressions x) (subexpressions y) .0 (p .1) in
       All-append (λ f. Fine (first f)) (firsts c) (firsts x ++ firsts y) .1
       (firsts-inside c (n .0) (p .0), All-append (λ f. Fine (first f)) (firsts x) (firsts y) .1 (firsts-inside x (n .1) (q .0), firsts-inside y (n .2) (q .1)))
   firsts-inside (fby x y) n b =
-      let p = All-append (λ f. InBounds (interval A ss f)) (subexpressions x) (subexpressions y) .0 (b .1) in
+      let p = All-append (λ f. InBounds (interval ss f)) (subexpressions x) (subexpressions y) .0 (b .1) in
       All-append (λ f. Fine (first f)) (firsts x) (firsts y) .1 (firsts-inside x (n .0) (p .0), firsts-inside y (n .1) (p .1))
 
-module _ {A : Arithmetic} (s : Sheet) (accepted : Accepted A s) where
-  firsts-of : (l : List Constraint) → ((c : Constraint) → List·Memᴰ c l → List·Memᴰ c (s .constraints)) → All (λ f. Fine A (s .streams) (first f)) (allFirsts l)
+module _ (s : Sheet) (accepted : Accepted s) where
+  firsts-of : (l : List Constraint) → ((c : Constraint) → List·Memᴰ c l → List·Memᴰ c (s .constraints)) → All (λ f. Fine (s .streams) (first f)) (allFirsts l)
   firsts-of [] h = tt
   firsts-of (c ∷ l) h =
       let m = h c (List·Memᴰ·head refl) in
       let n = accepted .namesKnown c m in
-      let left = firsts-inside A (s .streams) (leftSide c) (n .left) (member-All _ (subexpressions (leftSide c)) (λ f k. accepted .intervalsInBounds f (onLeft m k))) in
-      let right = firsts-inside A (s .streams) (rightSide c) (n .right) (member-All _ (subexpressions (rightSide c)) (λ f k. accepted .intervalsInBounds f (onRight m k))) in
-      All-append (λ f. Fine A (s .streams) (first f)) (sideFirsts c) (allFirsts l) .1
-      (All-append (λ f. Fine A (s .streams) (first f)) (firsts (leftSide c)) (firsts (rightSide c)) .1 (left, right), firsts-of l (λ d k. h d (List·Memᴰ·tail k)))
+      let left = firsts-inside (s .streams) (leftSide c) (n .left) (member-All _ (subexpressions (leftSide c)) (λ f k. accepted .intervalsInBounds f (onLeft m k))) in
+      let right = firsts-inside (s .streams) (rightSide c) (n .right) (member-All _ (subexpressions (rightSide c)) (λ f k. accepted .intervalsInBounds f (onRight m k))) in
+      All-append (λ f. Fine (s .streams) (first f)) (sideFirsts c) (allFirsts l) .1
+      (All-append (λ f. Fine (s .streams) (first f)) (firsts (leftSide c)) (firsts (rightSide c)) .1 (left, right), firsts-of l (λ d k. h d (List·Memᴰ·tail k)))
 
-  pub firsts-fine : All (λ f. Fine A (s .streams) (first f)) (allFirsts (s .constraints))
+  pub firsts-fine : All (λ f. Fine (s .streams) (first f)) (allFirsts (s .constraints))
   firsts-fine = firsts-of (s .constraints) (λ c m. m)
 
-  module _ (lawful : LawfulArithmetic A) (wholeRecord : Record) (letters : OfLetters (s .streams) wholeRecord) (long : D (s .constraints) < length wholeRecord) where
+  module _ (wholeRecord : Record) (letters : OfLetters (s .streams) wholeRecord) (long : D (s .constraints) < length wholeRecord) where
     -- The course that stays at the record's last letter.
     abbrev pub endless : Streams
     endless = lasting (streamsOf wholeRecord) (length wholeRecord)
@@ -78,27 +79,27 @@ module _ {A : Arithmetic} (s : Sheet) (accepted : Accepted A s) where
     endless-ranged = lasting-ranged (streamsOf wholeRecord) (length wholeRecord) (s .streams) (λ k i b h. letter-within (letters (getD wholeRecord i []) (getD-member wholeRecord i [] h)) k b) (omega arith)
 
     -- The value of what a first stands before lies in its interval.
-    pub first-value : (e : Expression) → List·Memᴰ e (allFirsts (s .constraints)) → Within (interval A (s .streams) e) (value A (streamsOf wholeRecord) e 0)
+    pub first-value : (e : Expression) → List·Memᴰ e (allFirsts (s .constraints)) → Within (interval (s .streams) e) (value (streamsOf wholeRecord) e 0)
     first-value e m =
-        let f = All-member (λ f. Fine A (s .streams) (first f)) firsts-fine m in
+        let f = All-member (λ f. Fine (s .streams) (first f)) firsts-fine m in
         let r = first-within (s .constraints) e m in
-        subst (Within (interval A (s .streams) e)) (value-near A endless (streamsOf wholeRecord) (length wholeRecord) (lasting-same (streamsOf wholeRecord) (length wholeRecord)) e 0 (omega arith))
-        (interval-sound lawful (s .streams) endless endless-ranged e (f .names) 0)
+        subst (Within (interval (s .streams) e)) (value-near endless (streamsOf wholeRecord) (length wholeRecord) (lasting-same (streamsOf wholeRecord) (length wholeRecord)) e 0 (omega arith))
+        (interval-sound (s .streams) endless endless-ranged e (f .names) 0)
 
-    values-bounded : (l : List Expression) → ((e : Expression) → List·Memᴰ e l → List·Memᴰ e (allFirsts (s .constraints))) → AllBounded (map (λ e. value A (streamsOf wholeRecord) e 0) l)
+    values-bounded : (l : List Expression) → ((e : Expression) → List·Memᴰ e l → List·Memᴰ e (allFirsts (s .constraints))) → AllBounded (map (λ e. value (streamsOf wholeRecord) e 0) l)
     unfolding interval subexpressions
     values-bounded [] h = tt
     values-bounded (e ∷ l) h =
         let m = h e (List·Memᴰ·head refl) in
-        let f = All-member (λ f. Fine A (s .streams) (first f)) firsts-fine m in (
-          le-leb (natAbs (value A (streamsOf wholeRecord) e 0)) magnitudeBound (inBounds-small {I = interval A (s .streams) e} (f .bounds .0) (first-value e m)),
+        let f = All-member (λ f. Fine (s .streams) (first f)) firsts-fine m in (
+          le-leb (natAbs (value (streamsOf wholeRecord) e 0)) magnitudeBound (inBounds-small {I = interval (s .streams) e} (f .bounds .0) (first-value e m)),
           values-bounded l (λ d k. h d (List·Memᴰ·tail k)),
         )
 
-    pub record-bounded : AllBounded (firstValues A (s .constraints) wholeRecord)
+    pub record-bounded : AllBounded (firstValues (s .constraints) wholeRecord)
     unfolding firstValues
     record-bounded = values-bounded (allFirsts (s .constraints)) (λ e m. m)
 
   -- The values of the firsts of a cut record are within the bound.
-  pub firsts-bounded : LawfulArithmetic A → (r : List ℕ) → AllBelow (letterNumbers A s) r → width A s < length r → AllBounded (firstValues A (s .constraints) (recordOf (s .streams) r))
-  firsts-bounded lawful r h l = record-bounded lawful (recordOf (s .streams) r) (below-letters (s .streams) r h) (omega (arith, length-map r (letterOf (s .streams))))
+  pub firsts-bounded : (r : List ℕ) → AllBelow (letterNumbers s) r → width s < length r → AllBounded (firstValues (s .constraints) (recordOf (s .streams) r))
+  firsts-bounded r h l = record-bounded (recordOf (s .streams) r) (below-letters (s .streams) r h) (omega (arith, length-map r (letterOf (s .streams))))

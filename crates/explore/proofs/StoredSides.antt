@@ -9,15 +9,16 @@ use mathlib.Core.List.{List, [], _∷_, _++_, map, map-append, List·Memᴰ, Lis
 use lib.IntN.{ℤ, pos}
 use lib.ListN.{length, getD, drop, length-append, length-drop, length-map}
 use lib.Seq.{drop-append-le, getD-drop}
+use Rattle.basics.proofs.Lists.{getD-map}
 use Rattle.automaton.specs.Words.{AllBelow}
+use Rattle.automaton.proofs.ReachedRows.{below-snoc}
 use Rattle.meaning.specs.Value.{Value}
-use Rattle.meaning.specs.Arithmetic.{Within, Arithmetic, LawfulArithmetic}
+use Rattle.meaning.specs.Arithmetic.{Within}
 use Rattle.meaning.specs.Expression.{Expression, Constraint, until, integer, leftSide, rightSide, Stream, Sheet, value}
 use Rattle.meaning.specs.Interval.{interval}
 use Rattle.meaning.specs.Letter.{Record, letterOf, recordOf, streamsOf}
 use Rattle.meaning.specs.Window.{reach, back, firsts, sideFirsts, allFirsts, B, D}
 use Rattle.meaning.specs.Situation.{firstValues}
-use Rattle.meaning.proofs.Lists.{getD-map}
 use Rattle.meaning.proofs.Facts.{length-snoc, getD-member, joinOver-member}
 use Rattle.meaning.proofs.Bounds.{sides-within}
 use Rattle.meaning.proofs.Stored.{Stored, Stored-left, Stored-right, Stored-map}
@@ -30,12 +31,12 @@ use Rattle.nodes.specs.Evaluate.{Nodes, nodesOf, View, view, nodeValue}
 use Rattle.nodes.proofs.Postfix.{firstsBefore}
 use Rattle.nodes.proofs.Accepted.{FirstsWithin, IsSide, leftOf, rightOf, accepted-value, accepted-windowValue}
 use Rattle.nodes.proofs.Record.{flat, record-places, record-letters}
-use Rattle.explore.specs.Key.{width, keyOf}
-use Rattle.explore.specs.Step.{viewAfter, lettersAfter, valueAt}
+use Rattle.extend.specs.Key.{width, keyOf}
+use Rattle.extend.specs.Step.{viewAfter, lettersAfter, valueAt}
 use Rattle.explore.specs.Rows.{letterNumbers}
 use Rattle.explore.specs.StoredSheet.{storedSheet, HasLetters}
 use Rattle.explore.proofs.KeySituations.{drop-below, drop-record}
-use Rattle.explore.proofs.RowLaws.{below-letters, below-snoc}
+use Rattle.explore.proofs.RowLaws.{below-letters}
 use Rattle.explore.proofs.StoredFirsts.{first-value}
 use Rattle.explore.proofs.KeyDecoding.{after-known, view-whole, view-cut}
 use Rattle.explore.proofs.JudgeMeaning.{Reads}
@@ -128,8 +129,8 @@ reads-all relations lefts rights val left right (c ∷ cs) n h =
 
 -- ---- the sides after a key and one more letter
 
-module _ {A : Arithmetic} (lawful : LawfulArithmetic A) (s : Sheet) (accepted : Accepted A s) (behind : List Node) (values : List ℤ) (has : HasLetters s values)
-    (r : List ℕ) (a : ℕ) (below : AllBelow (letterNumbers A s) r) (here : a < letterNumbers A s) (judged : D (s .constraints) ≤ length r) where
+module _ (s : Sheet) (accepted : Accepted s) (behind : List Node) (values : List ℤ) (has : HasLetters s values)
+    (r : List ℕ) (a : ℕ) (below : AllBelow (letterNumbers s) r) (here : a < letterNumbers s) (judged : D (s .constraints) ≤ length r) where
   abbrev ss : List Stream
   ss = s .streams
 
@@ -137,7 +138,7 @@ module _ {A : Arithmetic} (lawful : LawfulArithmetic A) (s : Sheet) (accepted : 
   cs = s .constraints
 
   abbrev w : ℕ
-  w = width A s
+  w = width s
 
   abbrev longer : Record
   longer = recordOf ss (r ++ (a ∷ []))
@@ -149,10 +150,10 @@ module _ {A : Arithmetic} (lawful : LawfulArithmetic A) (s : Sheet) (accepted : 
   window = recordOf ss (recent ++ (a ∷ []))
 
   abbrev known : ℕ
-  known = length (lettersAfter (storedSheet s behind values) (keyOf A s r) a) - 1
+  known = length (lettersAfter (storedSheet s behind values) (keyOf s r) a) - 1
 
   known-is : known ≡ min (length r) w
-  known-is = after-known lawful s accepted behind values has r a below here
+  known-is = after-known s accepted behind values has r a below here
 
   longer-long : length longer ≡ suc (length r)
   longer-long = length-map (r ++ (a ∷ [])) (letterOf ss) ∙ length-snoc r a
@@ -161,7 +162,7 @@ module _ {A : Arithmetic} (lawful : LawfulArithmetic A) (s : Sheet) (accepted : 
   window-long = length-map (recent ++ (a ∷ [])) (letterOf ss) ∙ length-snoc recent a ∙ omega (arith, length-drop (length r - w) r)
 
   abbrev W : View
-  W = viewAfter (storedSheet s behind values) (keyOf A s r) a
+  W = viewAfter (storedSheet s behind values) (keyOf s r) a
 
   abbrev nodes : Nodes
   nodes = nodesOf (allNodes 0 0 cs ++ behind)
@@ -173,73 +174,73 @@ module _ {A : Arithmetic} (lawful : LawfulArithmetic A) (s : Sheet) (accepted : 
 
   -- The stored values of the firsts are those in the longer record, and lie in their intervals.
   module _ (cut : w < length r) where
-    stored-firsts : Stored (λ f. value A (streamsOf longer) f 0) (pos 0) (firstValues A cs (recordOf ss r)) 0 (allFirsts cs)
+    stored-firsts : Stored (λ f. value (streamsOf longer) f 0) (pos 0) (firstValues cs (recordOf ss r)) 0 (allFirsts cs)
     stored-firsts =
         let e : recordOf ss r ++ (letterOf ss a ∷ []) ≡ longer = sym (map-append (letterOf ss) r (a ∷ [])) in
-        let v = firstValues-begins A cs (streamsOf (recordOf ss r ++ (letterOf ss a ∷ []))) (recordOf ss r) (append-begins (recordOf ss r) (letterOf ss a ∷ [])) (omega (arith, length-map r (letterOf ss)))
-        ∙ ap (λ x. map (λ f. value A (streamsOf x) f 0) (allFirsts cs)) e in
-        subst (λ x. Stored (λ f. value A (streamsOf longer) f 0) (pos 0) x 0 (allFirsts cs)) (sym v) (Stored-map (λ f. value A (streamsOf longer) f 0) (pos 0) (allFirsts cs))
+        let v = firstValues-begins cs (streamsOf (recordOf ss r ++ (letterOf ss a ∷ []))) (recordOf ss r) (append-begins (recordOf ss r) (letterOf ss a ∷ [])) (omega (arith, length-map r (letterOf ss)))
+        ∙ ap (λ x. map (λ f. value (streamsOf x) f 0) (allFirsts cs)) e in
+        subst (λ x. Stored (λ f. value (streamsOf longer) f 0) (pos 0) x 0 (allFirsts cs)) (sym v) (Stored-map (λ f. value (streamsOf longer) f 0) (pos 0) (allFirsts cs))
 
-    stored-long : length (firstValues A cs (recordOf ss r)) ≡ length (allFirsts cs)
+    stored-long : length (firstValues cs (recordOf ss r)) ≡ length (allFirsts cs)
     unfolding firstValues
     stored-long = length-map (allFirsts cs) _
 
     firsts-within : (f : ℕ) (es : List Expression) → ((e : Expression) → List·Memᴰ e es → List·Memᴰ e (allFirsts cs))
-        → Stored (λ f. value A (streamsOf longer) f 0) (pos 0) (firstValues A cs (recordOf ss r)) f es → FirstsWithin lawful ss (firstValues A cs (recordOf ss r)) f es
+        → Stored (λ f. value (streamsOf longer) f 0) (pos 0) (firstValues cs (recordOf ss r)) f es → FirstsWithin ss (firstValues cs (recordOf ss r)) f es
     firsts-within f [] m h = tt
     firsts-within f (e ∷ es) m h = (
-      subst (Within (interval A ss e)) (sym (h .0)) (first-value s accepted lawful longer (below-letters ss (r ++ (a ∷ [])) (below-snoc (letterNumbers A s) r a below here)) (omega (arith, longer-long)) e (m e (List·Memᴰ·head refl))),
+      subst (Within (interval ss e)) (sym (h .0)) (first-value s accepted longer (below-letters ss (r ++ (a ∷ [])) (below-snoc (letterNumbers s) r a below here)) (omega (arith, longer-long)) e (m e (List·Memᴰ·head refl))),
       firsts-within (suc f) es (λ d k. m d (List·Memᴰ·tail k)) (h .1),
     )
 
-    side-cut : {e : Expression} {i f : ℕ} → IsSide cs c₀ t₀ e i f → nodeValue A nodes W i (known - D cs) .value ≡ value A (streamsOf longer) e (length r - D cs)
+    side-cut : {e : Expression} {i f : ℕ} → IsSide cs c₀ t₀ e i f → nodeValue nodes W i (known - D cs) .value ≡ value (streamsOf longer) e (length r - D cs)
     side-cut {e} {i} {f} side =
         let x = side-looks cs side in
-        let stored = firstValues A cs (recordOf ss r) in
-        let st = x .stored (λ f. value A (streamsOf longer) f 0) stored stored-firsts in
-        let letters = below-letters ss (recent ++ (a ∷ [])) (below-snoc (letterNumbers A s) recent a (drop-below (letterNumbers A s) (length r - w) r below) here) in
+        let stored = firstValues cs (recordOf ss r) in
+        let st = x .stored (λ f. value (streamsOf longer) f 0) stored stored-firsts in
+        let letters = below-letters ss (recent ++ (a ∷ [])) (below-snoc (letterNumbers s) recent a (drop-below (letterNumbers s) (length r - w) r below) here) in
         let seen = view (flat window) (length ss) stored false in
         let place : known - D cs ≡ B cs = omega (arith, known-is) in
         let time : length r - w + B cs ≡ length r - D cs = omega arith in
-        (λ j. nodeValue A nodes (view-cut lawful s accepted behind values has r a below here cut j) i (place j) .value)
-        ∙ ap (λ v. v .value) (accepted-windowValue lawful s accepted seen (streamsOf window) (record-letters ss (accepted .someStream) window letters stored false) behind c₀ t₀ side refl (B cs) (x .backward)
+        (λ j. nodeValue nodes (view-cut s accepted behind values has r a below here cut j) i (place j) .value)
+        ∙ ap (λ v. v .value) (accepted-windowValue s accepted seen (streamsOf window) (record-letters ss (accepted .someStream) window letters stored false) behind c₀ t₀ side refl (B cs) (x .backward)
         (omega (arith, record-places ss (accepted .someStream) window letters stored false, window-long, x .ahead)) (omega (arith, stored-long, x .numbered)) (firsts-within f (firsts e) (x .member) st))
-        ∙ windowValue-value A (streamsOf longer) (streamsOf window) stored (length r - w) (B cs + D cs) (λ k t h. window-shows k t) e f (B cs) (x .backward) (omega (arith, x .ahead)) st
-        ∙ ap (value A (streamsOf longer) e) time
+        ∙ windowValue-value (streamsOf longer) (streamsOf window) stored (length r - w) (B cs + D cs) (λ k t h. window-shows k t) e f (B cs) (x .backward) (omega (arith, x .ahead)) st
+        ∙ ap (value (streamsOf longer) e) time
 
-  side-whole : length r ≤ w → {e : Expression} {i f : ℕ} → IsSide cs c₀ t₀ e i f → nodeValue A nodes W i (known - D cs) .value ≡ value A (streamsOf longer) e (length r - D cs)
+  side-whole : length r ≤ w → {e : Expression} {i f : ℕ} → IsSide cs c₀ t₀ e i f → nodeValue nodes W i (known - D cs) .value ≡ value (streamsOf longer) e (length r - D cs)
   side-whole h {e} {i} {f} side =
       let x = side-looks cs side in
-      let letters = below-letters ss (r ++ (a ∷ [])) (below-snoc (letterNumbers A s) r a below here) in
+      let letters = below-letters ss (r ++ (a ∷ [])) (below-snoc (letterNumbers s) r a below here) in
       let place : known - D cs ≡ length r - D cs = omega (arith, known-is) in
-      (λ j. nodeValue A nodes (view-whole lawful s accepted behind values has r a below here h j) i (place j) .value)
-      ∙ ap (λ v. v .value) (accepted-value lawful s accepted _ (streamsOf longer) (record-letters ss (accepted .someStream) longer letters _ true) behind c₀ t₀ side refl (length r - D cs)
+      (λ j. nodeValue nodes (view-whole s accepted behind values has r a below here h j) i (place j) .value)
+      ∙ ap (λ v. v .value) (accepted-value s accepted _ (streamsOf longer) (record-letters ss (accepted .someStream) longer letters _ true) behind c₀ t₀ side refl (length r - D cs)
       (omega (arith, record-places ss (accepted .someStream) longer letters (W .firsts) true, longer-long, x .ahead)))
 
-  side-value : {e : Expression} {i f : ℕ} → IsSide cs c₀ t₀ e i f → nodeValue A nodes W i (known - D cs) .value ≡ value A (streamsOf longer) e (length r - D cs)
+  side-value : {e : Expression} {i f : ℕ} → IsSide cs c₀ t₀ e i f → nodeValue nodes W i (known - D cs) .value ≡ value (streamsOf longer) e (length r - D cs)
   side-value {e} {i} {f} side = by (decLe (length r) w)
     where
-      by : Dec (length r ≤ w) → nodeValue A nodes W i (known - D cs) .value ≡ value A (streamsOf longer) e (length r - D cs)
+      by : Dec (length r ≤ w) → nodeValue nodes W i (known - D cs) .value ≡ value (streamsOf longer) e (length r - D cs)
       by (yes h) = side-whole h side
       by (no h) = side-cut (omega arith) side
 
   abbrev leftNow : Constraint → Value
-  leftNow c = value A (streamsOf longer) (leftSide c) (length r - D cs)
+  leftNow c = value (streamsOf longer) (leftSide c) (length r - D cs)
 
   abbrev rightNow : Constraint → Value
-  rightNow c = value A (streamsOf longer) (rightSide c) (length r - D cs)
+  rightNow c = value (streamsOf longer) (rightSide c) (length r - D cs)
 
   -- Every stored constraint reads as the sheet's, with the values of its sides at the time newly judged.
-  pub constraints-read : Reads (storedSheet s behind values .relations) (storedSheet s behind values .lefts) (storedSheet s behind values .rights) (valueAt A (storedSheet s behind values) W (known - D cs)) leftNow rightNow 0 cs
+  pub constraints-read : Reads (storedSheet s behind values .relations) (storedSheet s behind values .lefts) (storedSheet s behind values .rights) (valueAt (storedSheet s behind values) W (known - D cs)) leftNow rightNow 0 cs
   constraints-read =
-      reads-all (storedSheet s behind values .relations) (storedSheet s behind values .lefts) (storedSheet s behind values .rights) (valueAt A (storedSheet s behind values) W (known - D cs)) leftNow rightNow cs 0
+      reads-all (storedSheet s behind values .relations) (storedSheet s behind values .lefts) (storedSheet s behind values .rights) (valueAt (storedSheet s behind values) W (known - D cs)) leftNow rightNow cs 0
       (λ j b.
       let stored = storedConstraints 0 0 cs in
       let e : 0 + j ≡ j = omega arith in
       let l : j < length stored = omega (arith, constraints-long 0 0 cs) in (
         ap₂ (λ l k. getD l k 0) (stored-relations 0 0 cs) e ∙ getD-map relationCode cs j c₀ 0 b,
-        ap (λ k. nodeValue A nodes W (getD (storedSheet s behind values .lefts) k 0) (known - D cs) .value) e
-            ∙ ap (λ i. nodeValue A nodes W i (known - D cs) .value) (getD-map (λ (t : StoredConstraint). t .left) stored j t₀ 0 l) ∙ side-value (leftOf j b),
-        ap (λ k. nodeValue A nodes W (getD (storedSheet s behind values .rights) k 0) (known - D cs) .value) e
-            ∙ ap (λ i. nodeValue A nodes W i (known - D cs) .value) (getD-map (λ (t : StoredConstraint). t .right) stored j t₀ 0 l) ∙ side-value (rightOf j b),
+        ap (λ k. nodeValue nodes W (getD (storedSheet s behind values .lefts) k 0) (known - D cs) .value) e
+            ∙ ap (λ i. nodeValue nodes W i (known - D cs) .value) (getD-map (λ (t : StoredConstraint). t .left) stored j t₀ 0 l) ∙ side-value (leftOf j b),
+        ap (λ k. nodeValue nodes W (getD (storedSheet s behind values .rights) k 0) (known - D cs) .value) e
+            ∙ ap (λ i. nodeValue nodes W i (known - D cs) .value) (getD-map (λ (t : StoredConstraint). t .right) stored j t₀ 0 l) ∙ side-value (rightOf j b),
       ))

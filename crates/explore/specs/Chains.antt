@@ -4,10 +4,7 @@ use Prim.Native.Nat.{ℕ, _+_, _-_, _*_, _%_, _≤_, _<_}
 use mathlib.Core.Path.{_≡_}
 use mathlib.Core.List.{List, [], _∷_}
 use lib.ListN.{getD, length, take, drop}
-
--- how many numbers a key has
-abbrev pub keySize : ℕ
-keySize = 16
+use Rattle.sizes.specs.Room.{keySize}
 
 abbrev pub rowAt : List ℕ → ℕ → List ℕ
 rowAt keys i = take keySize (drop (i * keySize) keys)
@@ -33,7 +30,7 @@ pub record Chained (heads links : List ℕ) (b : ℕ → ℕ) (n : ℕ) : Type 0
   pub link-all : (i j : ℕ) → i < j → j < n → b i ≡ b j → i < getD links j 0
 
 -- the tables hold n keys, in chains
-pub record Tables (heads links keys : List ℕ) (n : ℕ) : Type 0 where
+pub record KeyTables (heads links keys : List ℕ) (n : ℕ) : Type 0 where
   pub buckets : 0 < length heads
   pub links-room : n ≤ length links
   pub keys-room : n * keySize ≤ length keys

@@ -2,9 +2,9 @@
 ghost use mathlib.Core.Path.{_≡_};
 ghost use Prim.Native.Nat.{_+_, _*_, _<_, _≤_};
 ghost use lib.ListN.{length};
-ghost use lib.Seq.{paste};
 ghost use Rattle.marks.specs.Answers.{Says};
-ghost use Rattle.explore.specs.Chains.{keySize, mixOf, hashFrom, bucketOf, Tables, Finds, Inserts};
+ghost use Rattle.sizes.specs.Room.{keySize};
+ghost use Rattle.explore.specs.Chains.{mixOf, hashFrom, bucketOf, KeyTables, Finds, Inserts};
 
 // Whether two keys are equal. Every place is compared, also after a difference: a loop without an early exit is compiled to vector instructions.
 fn same(a: &[u32], b: &[u32]) -> bool
@@ -51,7 +51,7 @@ pub fn bucket(key: &[u32], m: usize) -> usize
 
 // One more than the row that holds the key, or 0. `h` is the key's bucket.
 pub fn find(heads: &[u32], links: &[u32], keys: &[u32], n: usize, h: usize, key: &[u32]) -> usize
-    requires { ⌜ Tables (now heads) (now links) (now keys) n ⌝ }
+    requires { ⌜ KeyTables (now heads) (now links) (now keys) n ⌝ }
     requires { ⌜ (length (now key) ≡ keySize) × (h ≡ bucketOf (length (now heads)) (now key)) × (h < length (now heads)) ⌝ }
     ensures { λ r. ⌜ Finds (now (keys .entry)) n (now (key .entry)) r ⌝ }
 {
@@ -68,18 +68,6 @@ pub fn find(heads: &[u32], links: &[u32], keys: &[u32], n: usize, h: usize, key:
     0
 }
 
-// Copies a key into the rows from a place on.
-pub fn put(keys: &mut [u32], at: usize, key: &[u32])
-    requires { ⌜ at + length (now key) ≤ length (now keys) ⌝ }
-    ensures { λ r. ⌜ now (keys .exit) ≡ paste (now (keys .entry)) at (now (key .entry)) (length (now (key .entry))) ⌝ }
-{
-    let mut i = 0;
-    while i < key.len() {
-        keys[at + i] = key[i];
-        i += 1;
-    }
-}
-
 // Stores the key as row n. `h` is the key's bucket.
 pub fn insert(
     heads: &mut [u32],
@@ -89,13 +77,13 @@ pub fn insert(
     h: usize,
     key: &[u32],
 )
-    requires { ⌜ Tables (now heads) (now links) (now keys) n ⌝ }
+    requires { ⌜ KeyTables (now heads) (now links) (now keys) n ⌝ }
     requires { ⌜ (h ≡ bucketOf (length (now heads)) (now key)) × (h < length (now heads)) ⌝ }
     requires { ⌜ (length (now key) ≡ keySize) × (n < 65535) × (n < length (now links)) × (n * keySize + keySize ≤ length (now keys)) ⌝ }
-    ensures { λ r. ⌜ Tables (now (heads .exit)) (now (links .exit)) (now (keys .exit)) (n + 1) ⌝ }
+    ensures { λ r. ⌜ KeyTables (now (heads .exit)) (now (links .exit)) (now (keys .exit)) (n + 1) ⌝ }
     ensures { λ r. ⌜ Inserts (now (keys .entry)) (now (keys .exit)) n (now (key .entry)) ⌝ }
 {
-    put(keys, n * 16, key);
+    marks::put(keys, n * 16, key);
     links[n] = heads[h];
     heads[h] = (n + 1) as u32;
 }

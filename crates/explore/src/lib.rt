@@ -1,33 +1,39 @@
 // Finds all situations of a sheet: their keys in rows, and the graph of their successors.
 mod chains;
-mod extend;
-mod judge;
-mod keys;
-mod sizes;
 
 use chains::bucket;
 use chains::find;
 use chains::insert;
+use extend::Dimensions;
 use extend::extend;
 use extend::prepare;
+use sizes::Lengths;
 use sizes::is_lent;
 use sizes::is_ready;
 ghost use mathlib.Core.Path.{_≡_};
 ghost use mathlib.Core.Bool.{false};
-ghost use Prim.Native.Nat.{_*_, _≤_, _<_};
+ghost use Prim.Native.Nat.{_+_, _*_, _≤_, _<_};
 ghost use lib.Dec.{eqb};
 ghost use lib.ListN.{length};
-ghost use Rattle.meaning.specs.Arithmetic.{cutTowardZero};
-ghost use Rattle.explore.specs.Chains.{keySize, rowAt, Tables};
-ghost use Rattle.explore.specs.Key.{digit};
-ghost use Rattle.explore.specs.Step.{storeOf, IsReady, HasValues, IsKey, Prepared};
-ghost use Rattle.explore.specs.Search.{everyMark, Settled, Known, Followed, Searched, KeptBehind, IsLent};
-ghost use Rattle.explore.specs.Exploration.{lent, Explores, Discards, ExploresStored};
+ghost use Rattle.sheet.specs.Refusal.{windowBound, firstBound, streamBound};
+ghost use Rattle.sizes.specs.Room.{keySize};
+ghost use Rattle.extend.specs.Key.{digit};
+ghost use Rattle.extend.specs.Step.{storeOf, IsReady, HasValues, IsKey, lettersStore, preparedSize, Prepared};
+ghost use Rattle.explore.specs.Chains.{rowAt, KeyTables};
+ghost use Rattle.explore.specs.Search.{everyMark, Settled, Known, LetterFollowed, Searched, KeptBehind, IsLent};
+ghost use Rattle.explore.specs.Exploration.{exploreTables, Explores, Discards, ExploresStored};
 
 // The number of situations, or that there are more than the limit.
 struct Explored {
     full: bool,
     count: usize,
+}
+
+// How many letters there are, how many rows there may be, and the marks of all untils.
+struct Bounds {
+    letters: usize,
+    limit: usize,
+    every: u32,
 }
 
 // The answer: whether the sheet and the tables have the sizes that the search depends on, and what it finds if so.
@@ -45,7 +51,7 @@ fn every_mark(relations: &[u8]) -> u32
     let mut marks: u64 = 0;
     let mut j = 0;
     while j < relations.len() {
-        if relations[j] == 7 {
+        if relations[j] == nodes::UNTIL_RELATION {
             marks = marks * 2 + 1;
         }
         j += 1;
@@ -70,7 +76,7 @@ fn settle(
     every: u32,
     key: &[u32],
 ) -> usize
-    requires { ⌜ Tables (now heads) (now links) (now keys) n ⌝ }
+    requires { ⌜ KeyTables (now heads) (now links) (now keys) n ⌝ }
     requires { ⌜ (length (now key) ≡ keySize) × (limit ≤ 4096) × (limit ≤ length (now links)) × (limit * keySize ≤ length (now keys)) × (limit ≤ length (now flags)) ⌝ }
     ensures { λ r. ⌜ Settled limit every n (now (key .entry)) (now (keys .entry)) (now (flags .entry)) (now (heads .exit)) (now (links .exit)) (now (keys .exit)) (now (flags .exit)) r ⌝ }
 {
@@ -97,29 +103,24 @@ fn follow(
     rights: &[u16],
     first_nodes: &[u16],
     letter_values: &[i64],
-    streams: usize,
-    ahead: usize,
-    width: usize,
-    limit: usize,
+    dimensions: Dimensions,
+    bounds: Bounds,
     keys: &mut [u32],
     heads: &mut [u32],
     links: &mut [u32],
     flags: &mut [u8],
-    every: u32,
     n: usize,
     s: usize,
     a: u32,
-    recent: &mut [u32],
-    window: &mut [i64],
-    firsts: &[i64],
+    prepared: &mut [i64; 64],
 ) -> usize
-    requires { ⌜ IsReady (storeOf (now kinds) (now values) (now starts) (now relations) (now lefts) (now rights) (now «first_nodes») (now «letter_values») streams ahead width) ⌝ }
-    requires { ⌜ IsKey (storeOf (now kinds) (now values) (now starts) (now relations) (now lefts) (now rights) (now «first_nodes») (now «letter_values») streams ahead width) (rowAt (now keys) s) × HasValues (storeOf (now kinds) (now values) (now starts) (now relations) (now lefts) (now rights) (now «first_nodes») (now «letter_values») streams ahead width) a × (s < n) ⌝ }
-    requires { ⌜ Tables (now heads) (now links) (now keys) n ⌝ }
-    requires { ⌜ (limit ≤ 4096) × (limit ≤ length (now links)) × (limit * keySize ≤ length (now keys)) × (limit ≤ length (now flags)) ⌝ }
-    requires { ⌜ Prepared (now «letter_values») streams width (length (now «first_nodes»)) (rowAt (now keys) s) (now recent) (now window) (now firsts) ⌝ }
-    ensures { λ r. ⌜ Followed cutTowardZero (storeOf (now (kinds .entry)) (now (values .entry)) (now (starts .entry)) (now (relations .entry)) (now (lefts .entry)) (now (rights .entry)) (now («first_nodes» .entry)) (now («letter_values» .entry)) streams ahead width) limit every n s a (now (keys .entry)) (now (flags .entry)) (now (heads .exit)) (now (links .exit)) (now (keys .exit)) (now (flags .exit)) r ⌝ }
-    ensures { λ r. ⌜ Prepared (now («letter_values» .entry)) streams width (length (now («first_nodes» .entry))) (rowAt (now (keys .exit)) s) (now (recent .exit)) (now (window .exit)) (now (firsts .entry)) ⌝ }
+    requires { ⌜ IsReady (storeOf (now kinds) (now values) (now starts) (now relations) (now lefts) (now rights) (now «first_nodes») (now «letter_values») (dimensions .streams) (dimensions .ahead) (dimensions .width)) ⌝ }
+    requires { ⌜ IsKey (storeOf (now kinds) (now values) (now starts) (now relations) (now lefts) (now rights) (now «first_nodes») (now «letter_values») (dimensions .streams) (dimensions .ahead) (dimensions .width)) (rowAt (now keys) s) × HasValues (storeOf (now kinds) (now values) (now starts) (now relations) (now lefts) (now rights) (now «first_nodes») (now «letter_values») (dimensions .streams) (dimensions .ahead) (dimensions .width)) a × (s < n) ⌝ }
+    requires { ⌜ KeyTables (now heads) (now links) (now keys) n ⌝ }
+    requires { ⌜ (bounds .limit ≤ 4096) × (bounds .limit ≤ length (now links)) × (bounds .limit * keySize ≤ length (now keys)) × (bounds .limit ≤ length (now flags)) ⌝ }
+    requires { ⌜ Prepared (now «letter_values») (dimensions .streams) (dimensions .width) (length (now «first_nodes»)) (rowAt (now keys) s) (now prepared) ⌝ }
+    ensures { λ r. ⌜ LetterFollowed (storeOf (now (kinds .entry)) (now (values .entry)) (now (starts .entry)) (now (relations .entry)) (now (lefts .entry)) (now (rights .entry)) (now («first_nodes» .entry)) (now («letter_values» .entry)) (dimensions .streams) (dimensions .ahead) (dimensions .width)) (bounds .limit) (bounds .every) n s a (now (keys .entry)) (now (flags .entry)) (now (heads .exit)) (now (links .exit)) (now (keys .exit)) (now (flags .exit)) r ⌝ }
+    ensures { λ r. ⌜ Prepared (now («letter_values» .entry)) (dimensions .streams) (dimensions .width) (length (now («first_nodes» .entry))) (rowAt (now (keys .exit)) s) (now (prepared .exit)) ⌝ }
 {
     let start = s * 16;
     let end = start + 16;
@@ -133,19 +134,48 @@ fn follow(
         rights,
         first_nodes,
         letter_values,
-        streams,
-        ahead,
-        width,
+        dimensions,
         &keys[start..end],
         a,
-        recent,
-        window,
-        firsts,
+        prepared,
         &mut fresh,
     ) {
-        return settle(heads, links, keys, flags, n, limit, every, &fresh);
+        return settle(
+            heads,
+            links,
+            keys,
+            flags,
+            n,
+            bounds.limit,
+            bounds.every,
+            &fresh,
+        );
     }
     65535
+}
+
+// What every letter after the key of row s needs. `count` is the number of firsts.
+fn prepare_row(
+    letter_values: &[i64],
+    dimensions: Dimensions,
+    count: usize,
+    keys: &[u32],
+    s: usize,
+    prepared: &mut [i64; 64],
+)
+    requires { ⌜ (dimensions .width ≤ windowBound) × (dimensions .streams ≤ streamBound) × (count ≤ firstBound) ⌝ }
+    requires { ⌜ IsKey (lettersStore (now «letter_values») (dimensions .streams) (dimensions .width)) (rowAt (now keys) s) × (s * keySize + keySize ≤ length (now keys)) × (length (now prepared) ≡ preparedSize) ⌝ }
+    ensures { λ r. ⌜ Prepared (now («letter_values» .entry)) (dimensions .streams) (dimensions .width) count (rowAt (now (keys .entry)) s) (now (prepared .exit)) ⌝ }
+{
+    let start = s * 16;
+    let end = start + 16;
+    prepare(
+        letter_values,
+        dimensions,
+        count,
+        &keys[start..end],
+        prepared,
+    );
 }
 
 // Explores row by row and letter by letter from the first row until every row is done, or rows run out. What the letters of a row need is prepared
@@ -159,43 +189,35 @@ fn search(
     rights: &[u16],
     first_nodes: &[u16],
     letter_values: &[i64],
-    streams: usize,
-    ahead: usize,
-    width: usize,
-    letters: usize,
-    limit: usize,
+    dimensions: Dimensions,
+    bounds: Bounds,
     keys: &mut [u32],
     heads: &mut [u32],
     links: &mut [u32],
     entries: &mut [u16],
     flags: &mut [u8],
-    every: u32,
 ) -> Explored
-    requires { ⌜ IsReady (storeOf (now kinds) (now values) (now starts) (now relations) (now lefts) (now rights) (now «first_nodes») (now «letter_values») streams ahead width) ⌝ }
-    requires { ⌜ IsLent (storeOf (now kinds) (now values) (now starts) (now relations) (now lefts) (now rights) (now «first_nodes») (now «letter_values») streams ahead width) letters limit (now keys) (now heads) (now links) (now entries) (now flags) ⌝ }
-    requires { ⌜ Tables (now heads) (now links) (now keys) 1 × Known cutTowardZero (storeOf (now kinds) (now values) (now starts) (now relations) (now lefts) (now rights) (now «first_nodes») (now «letter_values») streams ahead width) letters every (now keys) (now flags) 1 ⌝ }
-    ensures { λ r. ⌜ Searched cutTowardZero (storeOf (now (kinds .entry)) (now (values .entry)) (now (starts .entry)) (now (relations .entry)) (now (lefts .entry)) (now (rights .entry)) (now («first_nodes» .entry)) (now («letter_values» .entry)) streams ahead width) letters limit every (now (keys .exit)) (now (entries .exit)) (now (flags .exit)) (r .full) (r .count) ⌝ }
-    ensures { λ r. ⌜ (r .full ≡ false → KeptBehind letters (r .count) (now (entries .entry)) (now (flags .entry)) (now (entries .exit)) (now (flags .exit))) ⌝ }
+    requires { ⌜ IsReady (storeOf (now kinds) (now values) (now starts) (now relations) (now lefts) (now rights) (now «first_nodes») (now «letter_values») (dimensions .streams) (dimensions .ahead) (dimensions .width)) ⌝ }
+    requires { ⌜ IsLent (storeOf (now kinds) (now values) (now starts) (now relations) (now lefts) (now rights) (now «first_nodes») (now «letter_values») (dimensions .streams) (dimensions .ahead) (dimensions .width)) (bounds .letters) (bounds .limit) (now keys) (now heads) (now links) (now entries) (now flags) ⌝ }
+    requires { ⌜ KeyTables (now heads) (now links) (now keys) 1 × Known (storeOf (now kinds) (now values) (now starts) (now relations) (now lefts) (now rights) (now «first_nodes») (now «letter_values») (dimensions .streams) (dimensions .ahead) (dimensions .width)) (bounds .letters) (bounds .every) (now keys) (now flags) 1 ⌝ }
+    ensures { λ r. ⌜ Searched (storeOf (now (kinds .entry)) (now (values .entry)) (now (starts .entry)) (now (relations .entry)) (now (lefts .entry)) (now (rights .entry)) (now («first_nodes» .entry)) (now («letter_values» .entry)) (dimensions .streams) (dimensions .ahead) (dimensions .width)) (bounds .letters) (bounds .limit) (bounds .every) (now (keys .exit)) (now (entries .exit)) (now (flags .exit)) (r .full) (r .count) ⌝ }
+    ensures { λ r. ⌜ (r .full ≡ false → KeptBehind (bounds .letters) (r .count) (now (entries .entry)) (now (flags .entry)) (now (entries .exit)) (now (flags .exit))) ⌝ }
 {
+    let letters = bounds.letters;
+    let limit = bounds.limit;
     let mut full = false;
     let mut n = 1;
     let mut s = 0;
     let mut at = 0;
     'rows: while s < n {
-        let start = s * 16;
-        let end = start + 16;
-        let mut recent = [0u32; 7];
-        let mut window = [0i64; 56];
-        let mut firsts = [0i64; 8];
-        prepare(
+        let mut prepared = [0i64; 64];
+        prepare_row(
             letter_values,
-            streams,
-            width,
+            dimensions,
             first_nodes.len(),
-            &keys[start..end],
-            &mut recent,
-            &mut window,
-            &mut firsts,
+            keys,
+            s,
+            &mut prepared,
         );
         let mut a = 0;
         while a < letters {
@@ -208,21 +230,16 @@ fn search(
                 rights,
                 first_nodes,
                 letter_values,
-                streams,
-                ahead,
-                width,
-                limit,
+                dimensions,
+                bounds,
                 keys,
                 heads,
                 links,
                 flags,
-                every,
                 n,
                 s,
                 a as u32,
-                &mut recent,
-                &mut window,
-                &firsts,
+                &mut prepared,
             );
             if row == n {
                 if n == limit {
@@ -262,7 +279,7 @@ fn explore(
     entries: &mut [u16],
     flags: &mut [u8],
 ) -> Exploration
-    ensures { λ r. ⌜ Explores cutTowardZero (storeOf (now (kinds .entry)) (now (values .entry)) (now (starts .entry)) (now (relations .entry)) (now (lefts .entry)) (now (rights .entry)) (now («first_nodes» .entry)) (now («letter_values» .entry)) streams ahead width) letters limit (lent (now (keys .entry)) (now (heads .entry)) (now (links .entry)) (now (entries .entry)) (now (flags .entry))) (lent (now (keys .exit)) (now (heads .exit)) (now (links .exit)) (now (entries .exit)) (now (flags .exit))) (r .ready) (r .full) (r .count) ⌝ }
+    ensures { λ r. ⌜ Explores (storeOf (now (kinds .entry)) (now (values .entry)) (now (starts .entry)) (now (relations .entry)) (now (lefts .entry)) (now (rights .entry)) (now («first_nodes» .entry)) (now («letter_values» .entry)) streams ahead width) letters limit (exploreTables (now (keys .entry)) (now (heads .entry)) (now (links .entry)) (now (entries .entry)) (now (flags .entry))) (exploreTables (now (keys .exit)) (now (heads .exit)) (now (links .exit)) (now (entries .exit)) (now (flags .exit))) (r .ready) (r .full) (r .count) ⌝ }
 {
     if !is_ready(
         relations.len(),
@@ -278,17 +295,14 @@ fn explore(
             count: 0,
         };
     }
-    if !is_lent(
-        letters,
-        limit,
-        streams,
-        letter_values.len(),
-        keys.len(),
-        heads.len(),
-        links.len(),
-        entries.len(),
-        flags.len(),
-    ) {
+    let tables = Lengths {
+        keys: keys.len(),
+        heads: heads.len(),
+        links: links.len(),
+        entries: entries.len(),
+        flags: flags.len(),
+    };
+    if !is_lent(letters, limit, streams, letter_values.len(), tables) {
         return Exploration {
             ready: false,
             full: false,
@@ -308,17 +322,21 @@ fn explore(
         rights,
         first_nodes,
         letter_values,
-        streams,
-        ahead,
-        width,
-        letters,
-        limit,
+        Dimensions {
+            streams,
+            ahead,
+            width,
+        },
+        Bounds {
+            letters,
+            limit,
+            every,
+        },
         keys,
         heads,
         links,
         entries,
         flags,
-        every,
     );
     Exploration {
         ready: true,
@@ -362,7 +380,7 @@ pub fn explore_stored(
     entries: &mut [u16],
     flags: &mut [u8],
 ) -> Exploration
-    ensures { λ r. ⌜ ExploresStored cutTowardZero (storeOf (now (kinds .entry)) (now (values .entry)) (now (starts .entry)) (now (relations .entry)) (now (lefts .entry)) (now (rights .entry)) (now («first_nodes» .entry)) (now («letter_values» .entry)) streams ahead width) letters limit (lent (now (keys .entry)) (now (heads .entry)) (now (links .entry)) (now (entries .entry)) (now (flags .entry))) (lent (now (keys .exit)) (now (heads .exit)) (now (links .exit)) (now (entries .exit)) (now (flags .exit))) (r .ready) (r .full) (r .count) ⌝ }
+    ensures { λ r. ⌜ ExploresStored (storeOf (now (kinds .entry)) (now (values .entry)) (now (starts .entry)) (now (relations .entry)) (now (lefts .entry)) (now (rights .entry)) (now («first_nodes» .entry)) (now («letter_values» .entry)) streams ahead width) letters limit (exploreTables (now (keys .entry)) (now (heads .entry)) (now (links .entry)) (now (entries .entry)) (now (flags .entry))) (exploreTables (now (keys .exit)) (now (heads .exit)) (now (links .exit)) (now (entries .exit)) (now (flags .exit))) (r .ready) (r .full) (r .count) ⌝ }
 {
     let found = explore(
         kinds,

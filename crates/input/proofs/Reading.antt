@@ -7,6 +7,7 @@ use mathlib.Core.Bool.{Bool, true, false}
 use lib.Dec.{ltb}
 use lib.IntN.{ℤ, pos, negsuc}
 use borrow.Author.Tests.{ltb-true}
+use Rattle.basics.proofs.Tests.{not-both}
 use Rattle.input.specs.Input.{afterRead}
 
 pub record HasRead (room size : ℕ) (failed more : Bool) : Type 0 where
@@ -19,24 +20,21 @@ abbrev pub leftBy : Bool → ℕ → ℕ
 leftBy true n = n
 leftBy false n = 0
 
-impossible : {A : Type 0} → false ≡ true → A
-impossible e = absurd (let z : _≡_ {A = ℕ} 0 1 = cc in omega arith)
-
 pub nothing-read : (room : ℕ) → HasRead room 0 false (ltb 0 room)
-nothing-read room = record { within = omega arith; empty = impossible; left = λ e. ltb-true 0 room e }
+nothing-read room = record { within = omega arith; empty = not-both; left = λ e. ltb-true 0 room e }
 
 module _ (room size : ℕ) (h : size < room) where
   pub read-on : (got : ℤ) → HasRead room (afterRead got size room .size) (afterRead got size room .failed) (afterRead got size room .more)
-  read-on (negsuc k) = record { within = omega arith; empty = λ e. refl; left = impossible }
+  read-on (negsuc k) = record { within = omega arith; empty = λ e. refl; left = not-both }
   read-on (pos k) =
       record {
         within = omega arith;
-        empty = impossible;
+        empty = not-both;
         left = λ e. let l = ltb-true 0 (min (min k (room - size)) (room - size - min k (room - size))) e in omega arith;
       }
 
   less-by : (got : ℤ) (more : Bool) → afterRead got size room .more ≡ more → leftBy more (room - afterRead got size room .size) < room - size
-  less-by (negsuc k) true e = impossible e
+  less-by (negsuc k) true e = not-both e
   less-by (negsuc k) false e = omega arith
   less-by (pos k) true e = let l = ltb-true 0 (min (min k (room - size)) (room - size - min k (room - size))) e in omega arith
   less-by (pos k) false e = omega arith

@@ -1,5 +1,5 @@
 // Reads a whole input into lent bytes. "a file it cannot read counts as empty" (document 02, S-1): where a read fails, nothing counts as read.
-use arithmetic::fewer;
+use basics::fewer;
 ghost use mathlib.Core.Path.{_≡_};
 ghost use Prim.Native.Nat.{_≤_};
 ghost use lib.ListN.{length};

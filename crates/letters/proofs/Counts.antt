@@ -14,9 +14,9 @@ use borrow.Author.Tests.{ltb-true, lt-leb, lt-ltb}
 use mir.Syntax.{w64}
 use mir.Val.{SFits, toZ}
 use mir.ValLaws.{toZ-ofZ}
+use Rattle.basics.proofs.Tests.{true-of-T}
 use Rattle.meaning.specs.Expression.{noStream}
 use Rattle.meaning.specs.Letter.{size, letterCount}
-use Rattle.meaning.proofs.Facts.{true-of-T}
 use Rattle.arithmetic.proofs.Machine.{held, held-both}
 use Rattle.letters.specs.Described.{ranged, described, cutCount}
 use Rattle.letters.proofs.Above.{ltZ-false}

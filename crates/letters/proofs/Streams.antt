@@ -8,11 +8,11 @@ use mathlib.Core.List.{List, [], _∷_}
 use lib.Dec.{T}
 use lib.IntN.{pos, natAbs, _+ℤ_, _-ℤ_}
 use lib.Signed.{leZ, leZ-yes}
+use Rattle.basics.proofs.Tests.{true-of-T}
 use Rattle.meaning.specs.Expression.{Stream}
 use Rattle.meaning.specs.Letter.{Letter, IsLetter, none, more, size, letterCount, letterNumber, letterOf}
-use Rattle.meaning.proofs.Facts.{true-of-T}
 use Rattle.nodes.specs.Bounds.{lowsOf, highsOf}
-use Rattle.nodes.proofs.Parts.{and-left, and-right}
+use Rattle.nodes.proofs.Parts.{and-true-left, and-true-right}
 use Rattle.letters.specs.Described.{described, isLetter}
 
 -- ---- the sheet's streams
@@ -57,9 +57,9 @@ isLetter-sound [] [] e = none
 isLetter-sound [] (v ∷ l) e = let y : _≡_ {A = ℕ} 0 1 = cc in absurd (omega arith)
 isLetter-sound (s ∷ ss) [] e = let y : _≡_ {A = ℕ} 0 1 = cc in absurd (omega arith)
 isLetter-sound (s ∷ ss) (v ∷ l) e =
-    let r = and-right (leZ (s .range .low) v) (leZ v (s .range .high) && isLetter ss l) e in
-    more (record { above = leZ-yes (T-of (and-left (leZ (s .range .low) v) _ e)); below = leZ-yes (T-of (and-left (leZ v (s .range .high)) _ r)) })
-    (isLetter-sound ss l (and-right (leZ v (s .range .high)) (isLetter ss l) r))
+    let r = and-true-right (leZ (s .range .low) v) (leZ v (s .range .high) && isLetter ss l) e in
+    more (record { above = leZ-yes (T-of (and-true-left (leZ (s .range .low) v) _ e)); below = leZ-yes (T-of (and-true-left (leZ v (s .range .high)) _ r)) })
+    (isLetter-sound ss l (and-true-right (leZ v (s .range .high)) (isLetter ss l) r))
 
 pub isLetter-complete : {ss : List Stream} {l : Letter} → IsLetter ss l → isLetter ss l ≡ true
 unfolding isLetter

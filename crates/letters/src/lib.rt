@@ -1,4 +1,4 @@
-use arithmetic::fewer;
+use basics::fewer;
 ghost use mathlib.Core.Path.{_≡_};
 ghost use Prim.Native.Nat.{_+_, _*_, _≤_, min};
 ghost use lib.IntN.{pos, natAbs, _+ℤ_, _-ℤ_};

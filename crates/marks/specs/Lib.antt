@@ -1,4 +1,6 @@
 pub mod Answers
 pub mod Marks
-pub mod Rounds
+pub mod Tests
+pub mod Sweeps
 pub mod Clearing
+pub mod Copying

@@ -1,12 +1,13 @@
 // Sets of rows of a stored graph: a number for each row, 1 where the row is marked. Each row of the graph has one entry for each
-// letter; an entry that is no row's number names no row. And lists that are filled or cleared.
+// letter; an entry that is no row's number names no row. And lists that are filled, copied into or cleared.
 ghost use mathlib.Core.Path.{_≡_};
-ghost use Prim.Native.Nat.{_+_, _*_, _≤_};
-ghost use lib.ListN.{length, replicate};
+ghost use Prim.Native.Nat.{_+_, _*_, _<_, _≤_};
+ghost use lib.ListN.{length, getD, replicate};
 ghost use Rattle.marks.specs.Answers.{Says};
 ghost use Rattle.marks.specs.Clearing.{ClearedFrom};
+ghost use Rattle.marks.specs.Copying.{Put};
 ghost use Rattle.marks.specs.Marks.{HasMarked, Pruned, Grown, IfFits};
-ghost use Rattle.marks.specs.Rounds.{PruneRound, GrowRound};
+ghost use Rattle.marks.specs.Sweeps.{Swept, Closed};
 
 // Whether `rows` rows of `letters` entries fit into `room` entries. Tested by a division, since the product can be too large.
 pub fn rows_fit(rows: usize, letters: usize, room: usize) -> bool
@@ -25,6 +26,23 @@ pub fn fill(list: &mut [u32], value: u32)
     let mut i = 0;
     while i < list.len() {
         list[i] = value;
+        i += 1;
+    }
+}
+
+// Copies numbers into the list from a place on. If they do not fit there, nothing changes.
+pub fn put(list: &mut [u32], at: usize, numbers: &[u32])
+    ensures { λ r. ⌜ Put (now (list .entry)) at (now (numbers .entry)) (now (list .exit)) ⌝ }
+{
+    if list.len() < at {
+        return;
+    }
+    if list.len() - at < numbers.len() {
+        return;
+    }
+    let mut i = 0;
+    while i < numbers.len() {
+        list[at + i] = numbers[i];
         i += 1;
     }
 }
@@ -51,6 +69,14 @@ pub fn clear_bytes(list: &mut [u8], from: usize)
     }
 }
 
+// The number of the row that an entry names, 0 for none.
+pub fn number_at(numbers: &[u32], entry: u16) -> u32
+    ensures { λ r. ⌜ r ≡ getD (now (numbers .entry)) entry 0 ⌝ }
+{
+    let row = entry as usize;
+    if row < numbers.len() { numbers[row] } else { 0 }
+}
+
 // Whether some of the `letters` entries from `start` on names a marked row.
 fn has_marked(entries: &[u16], start: usize, letters: usize, marks: &[u32]) -> bool
     requires { ⌜ start + letters ≤ length (now entries) ⌝ }
@@ -69,25 +95,67 @@ fn has_marked(entries: &[u16], start: usize, letters: usize, marks: &[u32]) -> b
     false
 }
 
-// One round of `prune`, from the last row to the first: a marked row without a marked successor is cleared. Whether one was.
-fn prune_round(entries: &[u16], letters: usize, marks: &mut [u32]) -> bool
+// Turns the mark of one row to `to`: a row with a marked successor is marked, or a marked row without one is cleared. Whether it was.
+fn turn_row(entries: &[u16], letters: usize, to: bool, row: usize, marks: &mut [u32]) -> bool
+    requires { ⌜ (row < length (now marks)) × (length (now marks) * letters ≤ length (now entries)) ⌝ }
+    ensures { λ r. ⌜ Swept to letters (now (entries .entry)) (λ s. s ≡ row) (now (marks .entry)) (now (marks .exit)) r ⌝ }
+{
+    if (marks[row] == 1) == to {
+        return false;
+    }
+    if has_marked(entries, row * letters, letters, marks) != to {
+        return false;
+    }
+    marks[row] = to as u32;
+    true
+}
+
+// A sweep from the last row to the first. Whether a mark was turned.
+fn sweep_down(entries: &[u16], letters: usize, to: bool, marks: &mut [u32]) -> bool
     requires { ⌜ length (now marks) * letters ≤ length (now entries) ⌝ }
-    ensures { λ r. ⌜ PruneRound letters (now (entries .entry)) (now (marks .entry)) (now (marks .exit)) r ⌝ }
+    ensures { λ r. ⌜ Swept to letters (now (entries .entry)) (λ s. s < length (now (marks .entry))) (now (marks .entry)) (now (marks .exit)) r ⌝ }
 {
     let mut changed = false;
     let mut row = marks.len();
-    let mut start = row * letters;
     while row > 0 {
         row -= 1;
-        start -= letters;
-        if marks[row] == 1 {
-            if !has_marked(entries, start, letters, marks) {
-                marks[row] = 0;
-                changed = true;
-            }
+        if turn_row(entries, letters, to, row, marks) {
+            changed = true;
         }
     }
     changed
+}
+
+// A sweep from the first row to the last. Whether a mark was turned.
+fn sweep_up(entries: &[u16], letters: usize, to: bool, marks: &mut [u32]) -> bool
+    requires { ⌜ length (now marks) * letters ≤ length (now entries) ⌝ }
+    ensures { λ r. ⌜ Swept to letters (now (entries .entry)) (λ s. s < length (now (marks .entry))) (now (marks .entry)) (now (marks .exit)) r ⌝ }
+{
+    let mut changed = false;
+    let mut row = 0;
+    while row < marks.len() {
+        let at = row;
+        row += 1;
+        if turn_row(entries, letters, to, at, marks) {
+            changed = true;
+        }
+    }
+    changed
+}
+
+// Sweeps down and up by turns until one turns nothing. Each of the others leaves fewer rows to turn.
+fn sweeps(entries: &[u16], letters: usize, to: bool, marks: &mut [u32])
+    requires { ⌜ length (now marks) * letters ≤ length (now entries) ⌝ }
+    ensures { λ r. ⌜ Closed to letters (now (entries .entry)) (now (marks .entry)) (now (marks .exit)) ⌝ }
+{
+    loop {
+        if !sweep_down(entries, letters, to, marks) {
+            break;
+        }
+        if !sweep_up(entries, letters, to, marks) {
+            break;
+        }
+    }
 }
 
 // Clears each mark from which no endless path leads through marked rows. If the rows are more than the entries have,
@@ -96,58 +164,7 @@ pub fn prune(entries: &[u16], letters: usize, marks: &mut [u32])
     ensures { λ r. ⌜ IfFits letters (now (entries .entry)) (now (marks .entry)) (now (marks .exit)) (Pruned letters (now (entries .entry)) (now (marks .entry)) (now (marks .exit))) ⌝ }
 {
     if rows_fit(marks.len(), letters, entries.len()) {
-        prune_rounds(entries, letters, marks);
-    }
-}
-
-// Rounds until one clears nothing. Each of the others leaves fewer marks, so one for each row and one more are enough. Without
-// the count the compiler makes one loop of the rounds and their rows, which takes longer for each row.
-fn prune_rounds(entries: &[u16], letters: usize, marks: &mut [u32])
-    requires { ⌜ length (now marks) * letters ≤ length (now entries) ⌝ }
-    ensures { λ r. ⌜ Pruned letters (now (entries .entry)) (now (marks .entry)) (now (marks .exit)) ⌝ }
-{
-    let mut round = 0;
-    while round <= marks.len() {
-        if !prune_round(entries, letters, marks) {
-            return;
-        }
-        round += 1;
-    }
-}
-
-// One round of `grow`, from the last row to the first: a row with a marked successor is marked. Whether one was.
-fn grow_round(entries: &[u16], letters: usize, marks: &mut [u32]) -> bool
-    requires { ⌜ length (now marks) * letters ≤ length (now entries) ⌝ }
-    ensures { λ r. ⌜ GrowRound letters (now (entries .entry)) (now (marks .entry)) (now (marks .exit)) r ⌝ }
-{
-    let mut changed = false;
-    let mut row = marks.len();
-    let mut start = row * letters;
-    while row > 0 {
-        row -= 1;
-        start -= letters;
-        if marks[row] != 1 {
-            if has_marked(entries, start, letters, marks) {
-                marks[row] = 1;
-                changed = true;
-            }
-        }
-    }
-    changed
-}
-
-// Rounds until one marks nothing. Each of the others leaves more marks, so one for each row and one more are enough. Without
-// the count the compiler makes one loop of the rounds and their rows, which takes longer for each row.
-fn grow_rounds(entries: &[u16], letters: usize, marks: &mut [u32])
-    requires { ⌜ length (now marks) * letters ≤ length (now entries) ⌝ }
-    ensures { λ r. ⌜ Grown letters (now (entries .entry)) (now (marks .entry)) (now (marks .exit)) ⌝ }
-{
-    let mut round = 0;
-    while round <= marks.len() {
-        if !grow_round(entries, letters, marks) {
-            return;
-        }
-        round += 1;
+        sweeps(entries, letters, false, marks);
     }
 }
 
@@ -156,6 +173,6 @@ pub fn grow(entries: &[u16], letters: usize, marks: &mut [u32])
     ensures { λ r. ⌜ IfFits letters (now (entries .entry)) (now (marks .entry)) (now (marks .exit)) (Grown letters (now (entries .entry)) (now (marks .entry)) (now (marks .exit))) ⌝ }
 {
     if rows_fit(marks.len(), letters, entries.len()) {
-        grow_rounds(entries, letters, marks);
+        sweeps(entries, letters, true, marks);
     }
 }

@@ -1,15 +1,15 @@
--- What an operator gives lies in the operator's interval, for every lawful arithmetic; and the arithmetic that cuts quotients toward zero is lawful.
--- From the order of the integers (Order).
+-- What an operator gives lies in the operator's interval, and an operator's interval is not empty. From the order of the integers (Order).
 use Prim.Native.Nat.{ℕ, zero, suc, _/_, _%_, _≤_, max, zero-le}
 use native.Mathlib.Omega.{arith}
 use native.Mathlib.Nat.{le-trans, div-le-self, mod-le, le-of-suc-le-suc, not-suc-le-zero}
 use mathlib.Core.Path.{_≡_, refl, sym, _∙_, ap, subst, subst₂}
-use mathlib.Core.Bool.{Bool, true, false, cond, _&&_, _||_}
+use mathlib.Core.Bool.{Bool, true, false, not, cond, _&&_, _||_}
 use lib.Dec.{leb→le, le→leb}
 use lib.IntN.{ℤ, pos, negsuc, negℤ, natAbs, sucℤ, predℤ, _+ℤ_, _-ℤ_, _*ℤ_, sucℤ-+ℤ, +ℤ-sucℤ, +ℤ-predℤ, +ℤ-idr, sucℤ-*ℤ, *ℤ-comm, negℤ-sucℤ}
 use lib.Signed.{quotZ, remZ, _≤ℤ_, ≤ℤ-refl, leZ-yes}
-use Rattle.meaning.specs.Value.{truth, bit, compares}
-use Rattle.meaning.specs.Arithmetic.{Operator, add, subtract, multiply, divide, remainder, compare, and, or, Interval, Within, Arithmetic, least, greatest, hull, overEnds, magnitude, around, truthInterval, apply, operatorInterval, LawfulArithmetic, cutTowardZero}
+use Rattle.meaning.specs.Value.{Value, nonzero, truth, bit, compares}
+use Rattle.meaning.specs.Expression.{negated, chosen}
+use Rattle.meaning.specs.Arithmetic.{Operator, add, subtract, multiply, divide, remainder, compare, and, or, Interval, Within, least, greatest, hull, overEnds, magnitude, around, truthInterval, apply, operatorInterval}
 use Rattle.meaning.proofs.Order.{≤ℤ-trans, least-≤-left, least-≤-right, least-cases, greatest-≥-left, greatest-≥-right, greatest-cases, ≤-sucℤ, predℤ-≤, Rising, Falling, rising-≤, falling-≤, ≤-+ℤ-pos}
 
 -- ---- intervals
@@ -36,13 +36,19 @@ pub hull-smallest : {K : Interval} (I J : Interval) → K .low ≤ℤ I .low →
     → (K .low ≤ℤ hull I J .low) × (hull I J .high ≤ℤ K .high)
 hull-smallest {K} I J p q p′ q′ = (least-cases (λ z. K .low ≤ℤ z) p q, greatest-cases (λ z. z ≤ℤ K .high) p′ q′)
 
-pub hull-cond : (c : Bool) (I J : Interval) {x y : ℤ} → Within I x → Within J y → Within (hull I J) (cond c x y)
+hull-cond : (c : Bool) (I J : Interval) {x y : ℤ} → Within I x → Within J y → Within (hull I J) (cond c x y)
 hull-cond true I J h k = hull-left I J h
 hull-cond false I J h k = hull-right I J k
+
+pub hull-chosen : (c : Value) (I J : Interval) {x y : Value} → Within I x → Within J y → Within (hull I J) (chosen c x y)
+hull-chosen c I J h k = hull-cond (truth c) I J h k
 
 pub bit-within : (b : Bool) → Within truthInterval (bit b)
 bit-within true = record { above = leZ-yes tt; below = leZ-yes tt }
 bit-within false = record { above = leZ-yes tt; below = leZ-yes tt }
+
+pub negated-within : (v : Value) → Within truthInterval (negated v)
+negated-within v = bit-within (not (truth v))
 
 -- ---- `+ - *`: the least and greatest over the ends
 
@@ -166,22 +172,39 @@ guarded-within : (I : Interval) (c : Bool) {a : ℤ} (z : ℤ) → Within I a �
 guarded-within I true {a} z h l = around-within (magnitude I) z (le-trans l (magnitude-bounds I a h))
 guarded-within I false z h l = around-within (magnitude I) (pos 0) zero-le
 
-pub cutTowardZero-lawful : LawfulArithmetic cutTowardZero
-cutTowardZero-lawful =
-    record {
-      quotient-within = λ I J a b h k. guarded-within I (truth b) (quotZ a b) h (rw natAbs-quotZ (div-le-self (natAbs a) (natAbs b)));
-      modulus-within = λ I J a b h k. guarded-within I (truth b) (remZ a b) h (rw natAbs-remZ (mod-le (natAbs a) (natAbs b)));
-    }
-
 -- ---- every operator
 
-pub operator-within : {A : Arithmetic} → LawfulArithmetic A → (o : Operator) (I J : Interval) {x y : ℤ}
-    → Within I x → Within J y → Within (operatorInterval A o I J) (apply A o x y)
-operator-within lawful add I J h k = overEnds-within _+ℤ_ (λ y. rising (+ℤ-rising-left y)) (λ x. rising (+ℤ-rising-right x)) I J h k
-operator-within lawful subtract I J h k = overEnds-within _-ℤ_ (λ y. rising (+ℤ-rising-left (negℤ y))) (λ x. falling (-ℤ-falling-right x)) I J h k
-operator-within lawful multiply I J h k = overEnds-within _*ℤ_ *ℤ-monotone-left *ℤ-monotone-right I J h k
-operator-within lawful divide I J {x} {y} h k = lawful .quotient-within I J x y h k
-operator-within lawful remainder I J {x} {y} h k = lawful .modulus-within I J x y h k
-operator-within lawful (compare c) I J {x} {y} h k = bit-within (compares c x y)
-operator-within lawful and I J {x} {y} h k = bit-within (truth x && truth y)
-operator-within lawful or I J {x} {y} h k = bit-within (truth x || truth y)
+pub operator-within : (o : Operator) (I J : Interval) {x y : ℤ}
+    → Within I x → Within J y → Within (operatorInterval o I J) (apply o x y)
+operator-within add I J h k = overEnds-within _+ℤ_ (λ y. rising (+ℤ-rising-left y)) (λ x. rising (+ℤ-rising-right x)) I J h k
+operator-within subtract I J h k = overEnds-within _-ℤ_ (λ y. rising (+ℤ-rising-left (negℤ y))) (λ x. falling (-ℤ-falling-right x)) I J h k
+operator-within multiply I J h k = overEnds-within _*ℤ_ *ℤ-monotone-left *ℤ-monotone-right I J h k
+operator-within divide I J {x} {y} h k = guarded-within I (nonzero y) (quotZ x y) h (rw natAbs-quotZ (div-le-self (natAbs x) (natAbs y)))
+operator-within remainder I J {x} {y} h k = guarded-within I (nonzero y) (remZ x y) h (rw natAbs-remZ (mod-le (natAbs x) (natAbs y)))
+operator-within (compare c) I J {x} {y} h k = bit-within (compares c x y)
+operator-within and I J {x} {y} h k = bit-within (truth x && truth y)
+operator-within or I J {x} {y} h k = bit-within (truth x || truth y)
+
+-- ---- no operator's interval is empty
+
+around-ordered : (m : ℕ) → around m .low ≤ℤ around m .high
+around-ordered zero = leZ-yes tt
+around-ordered (suc m) = leZ-yes tt
+
+overEnds-ordered : (f : ℤ → ℤ → ℤ) (I J : Interval) → overEnds f I J .low ≤ℤ overEnds f I J .high
+overEnds-ordered f I J =
+    ≤ℤ-trans (≤ℤ-trans (least-≤-left _ _) (least-≤-left (f (I .low) (J .low)) (f (I .low) (J .high))))
+    (≤ℤ-trans (greatest-≥-left (f (I .low) (J .low)) (f (I .low) (J .high))) (greatest-≥-left _ _))
+
+pub operator-ordered : (o : Operator) (I J : Interval) → operatorInterval o I J .low ≤ℤ operatorInterval o I J .high
+operator-ordered add I J = overEnds-ordered _+ℤ_ I J
+operator-ordered subtract I J = overEnds-ordered _-ℤ_ I J
+operator-ordered multiply I J = overEnds-ordered _*ℤ_ I J
+operator-ordered divide I J = around-ordered (magnitude I)
+operator-ordered remainder I J = around-ordered (magnitude I)
+operator-ordered (compare c) I J = leZ-yes tt
+operator-ordered and I J = leZ-yes tt
+operator-ordered or I J = leZ-yes tt
+
+pub hull-ordered : (I J : Interval) → I .low ≤ℤ I .high → hull I J .low ≤ℤ hull I J .high
+hull-ordered I J h = ≤ℤ-trans (least-≤-left (I .low) (J .low)) (≤ℤ-trans h (greatest-≥-left (I .high) (J .high)))

@@ -8,9 +8,9 @@ use mathlib.Core.Logic.{_≢_}
 use lib.Dec.{leb→le, le→leb}
 use lib.IntN.{ℤ, pos, negsuc, negℤ, natAbs, _+ℤ_, _*ℤ_, negℤ-+ℤ}
 use lib.Signed.{quotZ, remZ, _≤ℤ_, leZ-yes}
+use Rattle.basics.proofs.Tests.{cond-true}
 use Rattle.meaning.specs.Value.{truth}
-use Rattle.meaning.specs.Arithmetic.{divide, remainder, apply, cutTowardZero}
-use Rattle.meaning.proofs.Lists.{cond-true}
+use Rattle.meaning.specs.Arithmetic.{divide, remainder, apply}
 use Rattle.meaning.proofs.Value.{truth-not-zero}
 use Rattle.meaning.proofs.Arithmetic.{natAbs-remZ}
 
@@ -56,16 +56,16 @@ remZ-below (pos a) b h = leZ-yes (le→leb (a % natAbs b) 0 (le-trans (mod-le a 
 remZ-below (negsuc a) b h = negℤ-below (suc a % natAbs b)
 
 -- "A quotient is cut toward zero and the remainder has the dividend's sign".
-pub division : (a b : ℤ) → b ≢ pos 0 → Division a b (apply cutTowardZero divide a b) (apply cutTowardZero remainder a b)
+pub division : (a b : ℤ) → b ≢ pos 0 → Division a b (apply divide a b) (apply remainder a b)
 division a b h =
     let t = truth-not-zero b .1 h in
     subst₂ (Division a b) (sym (cond-true (truth b) (quotZ a b) (pos 0) t)) (sym (cond-true (truth b) (remZ a b) (pos 0) t))
     record { whole = quotZ-remZ a b; small = rw natAbs-remZ (mod-lt (natAbs a) (natAbs-positive b h)); above = remZ-above a b; below = remZ-below a b }
 
 -- "With divisor 0 both are 0."
-pub division-by-zero : (a : ℤ) → (apply cutTowardZero divide a (pos 0) ≡ pos 0) × (apply cutTowardZero remainder a (pos 0) ≡ pos 0)
+pub division-by-zero : (a : ℤ) → (apply divide a (pos 0) ≡ pos 0) × (apply remainder a (pos 0) ≡ pos 0)
 division-by-zero a = (refl, refl)
 
 -- "−7 / 2 is −3, −7 % 2 is −1."
-division-example : (apply cutTowardZero divide (negℤ (pos 7)) (pos 2) ≡ negℤ (pos 3)) × (apply cutTowardZero remainder (negℤ (pos 7)) (pos 2) ≡ negℤ (pos 1))
+division-example : (apply divide (negℤ (pos 7)) (pos 2) ≡ negℤ (pos 3)) × (apply remainder (negℤ (pos 7)) (pos 2) ≡ negℤ (pos 1))
 division-example = (refl, refl)

@@ -1,11 +1,9 @@
 -- Worked examples of reach, back, the firsts, D, B and truth, by computation. They fix the figures that the general laws leave open.
-use Prim.Native.Nat.{ℕ}
 use mathlib.Core.Path.{_≡_, refl}
 use mathlib.Core.Bool.{true}
-use mathlib.Core.List.{List, [], _∷_}
+use mathlib.Core.List.{[], _∷_}
 use lib.IntN.{pos, negsuc}
 use Rattle.meaning.specs.Value.{truth, equal}
-use Rattle.meaning.specs.Arithmetic.{cutTowardZero}
 use Rattle.meaning.specs.Expression.{Expression, integer, name, first, next, fby, Constraint, always, until, comparison, value}
 use Rattle.meaning.specs.Situation.{done}
 use Rattle.meaning.specs.Window.{reach, back, firsts, B, D}
@@ -66,6 +64,6 @@ truth-minus-one : truth (negsuc 0) ≡ true
 truth-minus-one = refl
 
 -- An until is done where its right side is 2: any value but 0 counts.
-done-two : done cutTowardZero (λ k i. pos 2) (until (integer (pos 1)) x) 1 ≡ true
+done-two : done (λ k i. pos 2) (until (integer (pos 1)) x) 1 ≡ true
 unfolding done value
 done-two = refl

@@ -13,13 +13,13 @@ use lib.Dec.{T}
 use lib.ListN.{length}
 use lib.Seq.{append-snoc}
 use lib.IntN.{ℤ-discrete}
-use Rattle.meaning.specs.Arithmetic.{Arithmetic}
+use Rattle.basics.proofs.Tests.{cond-true}
+use Rattle.basics.specs.Count.{NoRepeats}
 use Rattle.meaning.specs.Expression.{Constraint, Stream, Sheet}
 use Rattle.meaning.specs.Letter.{Letter, Record, IsLetter, OfLetters, letterCount, letterNumber, letterOf}
-use Rattle.meaning.specs.Situation.{Situation, whole, cut, NoRepeats, lawful, situation, IsSituation, SituationCount, MoreSituations}
+use Rattle.meaning.specs.Situation.{Situation, whole, cut, lawful, situation, IsSituation, SituationCount, MoreSituations}
 use Rattle.meaning.specs.Evaluation.{successor}
 use Rattle.meaning.proofs.Letter.{letterOf-letter, letterNumber-bound, letterOf-letterNumber}
-use Rattle.meaning.proofs.Lists.{cond-true}
 use Rattle.meaning.proofs.Search.{search-list, search-below, member-decided}
 use Rattle.meaning.proofs.Lawful.{whole-injective, cut-injective, whole≢cut, lawful-short, lawful-beginning}
 use Rattle.meaning.proofs.Congruence.{successor-situation}
@@ -51,7 +51,7 @@ OfLetters-snoc ss r l h i m k = go (List·Memᴰ·append-cases r k)
     go (inl k) = h m k
     go (inr k) = subst (IsLetter ss) (sym (List·Memᴰ·eq-of-singleton k)) i
 
-module _ (A : Arithmetic) (s : Sheet) where
+module _ (s : Sheet) where
   abbrev ss : List Stream
   ss = s .streams
 
@@ -59,61 +59,61 @@ module _ (A : Arithmetic) (s : Sheet) where
   cs = s .constraints
 
   -- The situation of the empty record.
-  pub start-situation : IsSituation A s (situation A cs [])
-  start-situation = record { lawfulRecord = []; letters = λ l m. absurd (List·Memᴰ·not-nil m); isLawful = lawful-short A cs [] (omega arith); same = refl }
+  pub start-situation : IsSituation s (situation cs [])
+  start-situation = record { lawfulRecord = []; letters = λ l m. absurd (List·Memᴰ·not-nil m); isLawful = lawful-short cs [] (omega arith); same = refl }
 
   -- A successor of a situation by a letter is a situation.
-  pub successor-found : (t u : Situation) → IsSituation A s t → (a : ℕ) → a < letterCount ss → successor A cs t (letterOf ss a) ≡ some u → IsSituation A s u
+  pub successor-found : (t u : Situation) → IsSituation s t → (a : ℕ) → a < letterCount ss → successor cs t (letterOf ss a) ≡ some u → IsSituation s u
   successor-found t u h a l e =
       let x = letterOf ss a in
-      let p = some-of-cond (lawful A cs (h .lawfulRecord ++ (x ∷ []))) (situation A cs (h .lawfulRecord ++ (x ∷ []))) u
-      (sym (successor-situation A cs (h .lawfulRecord) x (h .isLawful)) ∙ ap (λ z. successor A cs z x) (h .same) ∙ e) in
+      let p = some-of-cond (lawful cs (h .lawfulRecord ++ (x ∷ []))) (situation cs (h .lawfulRecord ++ (x ∷ []))) u
+      (sym (successor-situation cs (h .lawfulRecord) x (h .isLawful)) ∙ ap (λ z. successor cs z x) (h .same) ∙ e) in
       record { lawfulRecord = h .lawfulRecord ++ (x ∷ []); letters = OfLetters-snoc ss (h .lawfulRecord) x (h .letters) (letterOf-letter ss a l); isLawful = p .0; same = p .1 }
 
   -- A list of situations, each once, that of the empty record among them.
   pub record Explored (list : List Situation) : Type 0 where
     pub distinct : NoRepeats list
-    pub found : (t : Situation) → List·Memᴰ t list → IsSituation A s t
-    pub start : List·Memᴰ (situation A cs []) list
+    pub found : (t : Situation) → List·Memᴰ t list → IsSituation s t
+    pub start : List·Memᴰ (situation cs []) list
 
   -- Every successor of a member is a member.
   pub record Closed (list : List Situation) : Type 0 where
     pub holds : (t : Situation) → List·Memᴰ t list → (a : ℕ) → a < letterCount ss → (u : Situation)
-        → successor A cs t (letterOf ss a) ≡ some u → List·Memᴰ u list
+        → successor cs t (letterOf ss a) ≡ some u → List·Memᴰ u list
 
   module _ (list : List Situation) (closed : Closed list) where
     -- From a record whose situation is in the list, letter by letter.
-    reaches : (u r : Record) → OfLetters ss u → T (lawful A cs (r ++ u)) → List·Memᴰ (situation A cs r) list
-        → List·Memᴰ (situation A cs (r ++ u)) list
+    reaches : (u r : Record) → OfLetters ss u → T (lawful cs (r ++ u)) → List·Memᴰ (situation cs r) list
+        → List·Memᴰ (situation cs (r ++ u)) list
     reaches [] r o t m = rw append-nil m
     reaches (l ∷ u) r o t m =
         let i = o l (List·Memᴰ·head refl) in
-        let t′ : T (lawful A cs ((r ++ (l ∷ [])) ++ u)) = rw append-snoc t in
-        let t″ = lawful-beginning A cs (r ++ (l ∷ [])) u t′ in
-        let e : successor A cs (situation A cs r) (letterOf ss (letterNumber ss l)) ≡ some (situation A cs (r ++ (l ∷ []))) =
-        ap (successor A cs (situation A cs r)) (letterOf-letterNumber i)
-        ∙ successor-situation A cs r l (lawful-beginning A cs r (l ∷ u) t)
-        ∙ cond-true (lawful A cs (r ++ (l ∷ []))) _ _ t″ in
-        let k = closed .holds (situation A cs r) m (letterNumber ss l) (letterNumber-bound i) (situation A cs (r ++ (l ∷ []))) e in
+        let t′ : T (lawful cs ((r ++ (l ∷ [])) ++ u)) = rw append-snoc t in
+        let t″ = lawful-beginning cs (r ++ (l ∷ [])) u t′ in
+        let e : successor cs (situation cs r) (letterOf ss (letterNumber ss l)) ≡ some (situation cs (r ++ (l ∷ []))) =
+        ap (successor cs (situation cs r)) (letterOf-letterNumber i)
+        ∙ successor-situation cs r l (lawful-beginning cs r (l ∷ u) t)
+        ∙ cond-true (lawful cs (r ++ (l ∷ []))) _ _ t″ in
+        let k = closed .holds (situation cs r) m (letterNumber ss l) (letterNumber-bound i) (situation cs (r ++ (l ∷ []))) e in
         rw append-snoc at (reaches u (r ++ (l ∷ [])) (λ x n. o x (List·Memᴰ·tail n)) t′ k)
 
     -- A closed list that holds the situation of the empty record holds every situation.
-    pub closed-every : List·Memᴰ (situation A cs []) list → (t : Situation) → IsSituation A s t → List·Memᴰ t list
+    pub closed-every : List·Memᴰ (situation cs []) list → (t : Situation) → IsSituation s t → List·Memᴰ t list
     closed-every m t h = Memᴰ·cast (sym (h .same)) (reaches (h .lawfulRecord) [] (h .letters) (h .isLawful) m)
 
     -- A closed list that has been explored counts the situations.
-    pub closed-count : Explored list → SituationCount A s (length list)
+    pub closed-count : Explored list → SituationCount s (length list)
     closed-count x = record { list = list; distinct = x .distinct; found = x .found; every = closed-every (x .start); count = refl }
 
   -- Where the successor of t by the letter a is a situation that is not in the list, and where it is in the list if there is one.
   abbrev LeadsOut : List Situation → Situation → ℕ → Type 0
-  LeadsOut list t a = (u : Situation) × (successor A cs t (letterOf ss a) ≡ some u) × (List·Memᴰ u list → ⊥)
+  LeadsOut list t a = (u : Situation) × (successor cs t (letterOf ss a) ≡ some u) × (List·Memᴰ u list → ⊥)
 
   abbrev StaysIn : List Situation → Situation → ℕ → Type 0
-  StaysIn list t a = (u : Situation) → successor A cs t (letterOf ss a) ≡ some u → List·Memᴰ u list
+  StaysIn list t a = (u : Situation) → successor cs t (letterOf ss a) ≡ some u → List·Memᴰ u list
 
   tell : (list : List Situation) (t : Situation) (a : ℕ) → LeadsOut list t a ⊎ StaysIn list t a
-  tell list t a = go (successor A cs t (letterOf ss a))
+  tell list t a = go (successor cs t (letterOf ss a))
     where
       go : (o : Option Situation) → ((u : Situation) × (o ≡ some u) × (List·Memᴰ u list → ⊥)) ⊎ ((u : Situation) → o ≡ some u → List·Memᴰ u list)
       go none = inr (λ u e. let z : _≡_ {A = ℕ} 0 1 = cc in absurd (omega arith))
@@ -138,13 +138,13 @@ module _ (A : Arithmetic) (s : Sheet) where
   grow : (list : List Situation) → Explored list → (w : WayOut list) → Explored (w .leads .0 ∷ list)
   grow list x w = record { distinct = (w .leads .2, x .distinct); found = found; start = List·Memᴰ·tail (x .start) }
     where
-      found : (t : Situation) → List·Memᴰ t (w .leads .0 ∷ list) → IsSituation A s t
-      found t (List·Memᴰ·head e) = subst (IsSituation A s) (sym e) (successor-found (w .old) (w .leads .0) (x .found (w .old) (w .member)) (w .letter) (w .below) (w .leads .1))
+      found : (t : Situation) → List·Memᴰ t (w .leads .0 ∷ list) → IsSituation s t
+      found t (List·Memᴰ·head e) = subst (IsSituation s) (sym e) (successor-found (w .old) (w .leads .0) (x .found (w .old) (w .member)) (w .letter) (w .below) (w .leads .1))
       found t (List·Memᴰ·tail m) = x .found t m
 
   -- At most r situations, counted, or more than r.
   abbrev pub CountedOrMore : ℕ → Type 0
-  CountedOrMore r = ((m : ℕ) × (m ≤ r) × SituationCount A s m) ⊎ MoreSituations A s r
+  CountedOrMore r = ((m : ℕ) × (m ≤ r) × SituationCount s m) ⊎ MoreSituations s r
 
   explore : (r rounds : ℕ) (list : List Situation) → Explored list → length list + rounds ≡ suc r → CountedOrMore r
   explore r zero list x e = inr (record { list = list; distinct = x .distinct; found = x .found; longer = omega arith })
@@ -155,7 +155,7 @@ module _ (A : Arithmetic) (s : Sheet) where
       go again (inr c) = inl (length list, omega arith, closed-count list c x)
 
   pub counted-or-more : (r : ℕ) → CountedOrMore r
-  counted-or-more r = explore r r (situation A cs [] ∷ []) (record { distinct = (List·Memᴰ·not-nil, tt); found = found; start = List·Memᴰ·head refl }) (omega arith)
+  counted-or-more r = explore r r (situation cs [] ∷ []) (record { distinct = (List·Memᴰ·not-nil, tt); found = found; start = List·Memᴰ·head refl }) (omega arith)
     where
-      found : (t : Situation) → List·Memᴰ t (situation A cs [] ∷ []) → IsSituation A s t
-      found t m = subst (IsSituation A s) (sym (List·Memᴰ·eq-of-singleton m)) start-situation
+      found : (t : Situation) → List·Memᴰ t (situation cs [] ∷ []) → IsSituation s t
+      found t m = subst (IsSituation s) (sym (List·Memᴰ·eq-of-singleton m)) start-situation

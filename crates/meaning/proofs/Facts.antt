@@ -1,4 +1,4 @@
--- Facts about Boolean tests, and about tests and numbers taken over the members of a list and over the times before one.
+-- Laws of tests and numbers taken over the members of a list and over the times before one.
 use Prim.Native.Nat.{ℕ, zero, suc, _≤_, _<_}
 use native.Mathlib.Omega.{arith}
 use native.Mathlib.Decide.{decLe, decLt}
@@ -9,52 +9,19 @@ use mathlib.Core.List.{List, [], _∷_, _++_, map, List·Memᴰ, List·Memᴰ·h
 use mathlib.Core.Logic.{_⊎_, inl, inr}
 use lib.Dec.{T}
 use lib.ListN.{length, getD, length-append}
+use Rattle.basics.proofs.Tests.{and-left, and-right, and-both, or-left, or-right}
 use Rattle.meaning.specs.Window.{largestOver, joinOver}
 use Rattle.meaning.specs.Situation.{someBefore, everyBefore, all}
-
--- Boolean tests
-
-pub T-dec : (b : Bool) → Dec (T b)
-T-dec true = yes tt
-T-dec false = no (λ t. t)
-
-pub &&-left : (a b : Bool) → T (a && b) → T a
-&&-left true b t = tt
-&&-left false b t = t
-
-pub &&-right : (a b : Bool) → T (a && b) → T b
-&&-right true b t = t
-&&-right false b t = absurd t
-
-pub &&-both : (a b : Bool) → T a → T b → T (a && b)
-&&-both true b s t = t
-&&-both false b s t = s
-
-pub ||-left : (a b : Bool) → T a → T (a || b)
-||-left true b t = tt
-||-left false b t = absurd t
-
-pub ||-right : (a b : Bool) → T b → T (a || b)
-||-right true b t = tt
-||-right false b t = t
-
-pub ||-cases : {X : Type 0} (a b : Bool) → T (a || b) → (T a → X) → (T b → X) → X
-||-cases true b t f g = f tt
-||-cases false b t f g = g t
-
-pub true-of-T : (b : Bool) → T b → b ≡ true
-true-of-T true t = refl
-true-of-T false t = absurd t
 
 -- Every member of a list
 
 pub all-at : {X : Type 0} (p : X → Bool) (xs : List X) → T (all p xs) → (x : X) → List·Memᴰ x xs → T (p x)
-all-at p (y ∷ xs) t x (List·Memᴰ·head e) = subst (λ z. T (p z)) (sym e) (&&-left (p y) (all p xs) t)
-all-at p (y ∷ xs) t x (List·Memᴰ·tail m) = all-at p xs (&&-right (p y) (all p xs) t) x m
+all-at p (y ∷ xs) t x (List·Memᴰ·head e) = subst (λ z. T (p z)) (sym e) (and-left (p y) (all p xs) t)
+all-at p (y ∷ xs) t x (List·Memᴰ·tail m) = all-at p xs (and-right (p y) (all p xs) t) x m
 
 pub all-of : {X : Type 0} (p : X → Bool) (xs : List X) → ((x : X) → List·Memᴰ x xs → T (p x)) → T (all p xs)
 all-of p [] h = tt
-all-of p (x ∷ xs) h = &&-both (p x) (all p xs) (h x (List·Memᴰ·head refl)) (all-of p xs (λ y m. h y (List·Memᴰ·tail m)))
+all-of p (x ∷ xs) h = and-both (p x) (all p xs) (h x (List·Memᴰ·head refl)) (all-of p xs (λ y m. h y (List·Memᴰ·tail m)))
 
 pub all-cong : {X : Type 0} (p q : X → Bool) (xs : List X) → ((x : X) → List·Memᴰ x xs → p x ≡ q x) → all p xs ≡ all q xs
 all-cong p q [] h = refl
@@ -114,15 +81,15 @@ joinOver-origin f (z ∷ xs) y m = go (joinOver-origin f xs y) (List·Memᴰ·ap
 
 pub everyBefore-at : (p : ℕ → Bool) (n : ℕ) → T (everyBefore p n) → (i : ℕ) → i < n → T (p i)
 everyBefore-at p zero t i h = absurd (not-suc-le-zero h)
-everyBefore-at p (suc n) t i h = go (everyBefore-at p n (&&-left (everyBefore p n) (p n) t) i) (decLt i n)
+everyBefore-at p (suc n) t i h = go (everyBefore-at p n (and-left (everyBefore p n) (p n) t) i) (decLt i n)
   where
     go : (i < n → T (p i)) → Dec (i < n) → T (p i)
     go again (yes l) = again l
-    go again (no l) = let e : i ≡ n = omega arith in rw e (&&-right (everyBefore p n) (p n) t)
+    go again (no l) = let e : i ≡ n = omega arith in rw e (and-right (everyBefore p n) (p n) t)
 
 pub everyBefore-of : (p : ℕ → Bool) (n : ℕ) → ((i : ℕ) → i < n → T (p i)) → T (everyBefore p n)
 everyBefore-of p zero h = tt
-everyBefore-of p (suc n) h = &&-both (everyBefore p n) (p n) (everyBefore-of p n (λ i l. h i (omega arith))) (h n (le-refl (suc n)))
+everyBefore-of p (suc n) h = and-both (everyBefore p n) (p n) (everyBefore-of p n (λ i l. h i (omega arith))) (h n (le-refl (suc n)))
 
 pub everyBefore-fewer : (p : ℕ → Bool) (n m : ℕ) → n ≤ m → T (everyBefore p m) → T (everyBefore p n)
 everyBefore-fewer p n m h t = everyBefore-of p n (λ i l. everyBefore-at p m t i (omega arith))
@@ -136,8 +103,8 @@ someBefore-of p zero i h t = absurd (not-suc-le-zero h)
 someBefore-of p (suc n) i h t = go (λ l. someBefore-of p n i l t) (decLt i n)
   where
     go : (i < n → T (someBefore p n)) → Dec (i < n) → T (someBefore p (suc n))
-    go again (yes l) = ||-left (someBefore p n) (p n) (again l)
-    go again (no l) = let e : i ≡ n = omega arith in ||-right (someBefore p n) (p n) (rw e at t)
+    go again (yes l) = or-left (someBefore p n) (p n) (again l)
+    go again (no l) = let e : i ≡ n = omega arith in or-right (someBefore p n) (p n) (rw e at t)
 
 pub someBefore-cong : (p q : ℕ → Bool) (n : ℕ) → ((i : ℕ) → i < n → p i ≡ q i) → someBefore p n ≡ someBefore q n
 someBefore-cong p q zero h = refl
@@ -148,5 +115,5 @@ someBefore-more p n zero h t = let e : n ≡ zero = omega arith in rw e at t
 someBefore-more p n (suc m) h t = go (λ l. someBefore-more p n m l t) (decLe n m)
   where
     go : (n ≤ m → T (someBefore p m)) → Dec (n ≤ m) → T (someBefore p (suc m))
-    go again (yes l) = ||-left (someBefore p m) (p m) (again l)
+    go again (yes l) = or-left (someBefore p m) (p m) (again l)
     go again (no l) = let e : n ≡ suc m = omega arith in rw e at t

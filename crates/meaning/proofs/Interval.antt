@@ -1,15 +1,15 @@
--- The value of an expression at every time lies in the expression's interval, where the streams lie in their ranges and the arithmetic is lawful.
+-- The value of an expression at every time lies in the expression's interval, where the streams lie in their ranges; and the interval is not empty.
 use Prim.Native.Nat.{ℕ, zero, suc, _<_}
-use mathlib.Core.Bool.{not}
 use mathlib.Core.List.{List, List·Memᴰ}
 use lib.ListN.{length}
-use lib.Signed.{≤ℤ-refl}
-use Rattle.meaning.specs.Value.{truth, Streams}
-use Rattle.meaning.specs.Arithmetic.{Within, Arithmetic, LawfulArithmetic}
+use lib.Signed.{_≤ℤ_, ≤ℤ-refl, leZ-yes}
+use Rattle.basics.proofs.Lists.{All-append, All-member}
+use Rattle.basics.specs.Lists.{All}
+use Rattle.meaning.specs.Value.{Streams}
+use Rattle.meaning.specs.Arithmetic.{Within}
 use Rattle.meaning.specs.Expression.{Expression, integer, name, first, next, negation, binary, conditional, fby, Stream, rangeOf, value}
 use Rattle.meaning.specs.Interval.{interval, subexpressions, NamesBelow}
-use Rattle.meaning.proofs.Lists.{All, All-append, All-member}
-use Rattle.meaning.proofs.Arithmetic.{hull-left, hull-right, hull-cond, bit-within, operator-within}
+use Rattle.meaning.proofs.Arithmetic.{hull-left, hull-right, hull-chosen, negated-within, operator-within, operator-ordered, hull-ordered}
 pub mod Example
 
 -- The names in an expression inside another are names in the other.
@@ -32,19 +32,32 @@ subexpressions-below n (fby a b) h = (h, All-append (NamesBelow n) (subexpressio
 abbrev pub InRange : List Stream → Streams → Type 0
 InRange ss w = (k i : ℕ) → k < length ss → Within (rangeOf ss k) (w k i)
 
-module _ {A : Arithmetic} (lawful : LawfulArithmetic A) (ss : List Stream) (w : Streams) (ranged : InRange ss w) where
-  pub interval-sound : (e : Expression) → NamesBelow (length ss) e → (i : ℕ) → Within (interval A ss e) (value A w e i)
+module _ (ss : List Stream) (w : Streams) (ranged : InRange ss w) where
+  pub interval-sound : (e : Expression) → NamesBelow (length ss) e → (i : ℕ) → Within (interval ss e) (value w e i)
   unfolding interval value
   interval-sound (integer z) b i = record { above = ≤ℤ-refl z; below = ≤ℤ-refl z }
   interval-sound (name k) b i = ranged k i b
   interval-sound (first e) b i = interval-sound e b zero
   interval-sound (next e) b i = interval-sound e b (suc i)
-  interval-sound (negation e) b i = bit-within (not (truth (value A w e i)))
-  interval-sound (binary o x y) b i = operator-within lawful o (interval A ss x) (interval A ss y) (interval-sound x (b .0) i) (interval-sound y (b .1) i)
-  interval-sound (conditional c x y) b i = hull-cond (truth (value A w c i)) (interval A ss x) (interval A ss y) (interval-sound x (b .1) i) (interval-sound y (b .2) i)
-  interval-sound (fby x y) b zero = hull-left (interval A ss x) (interval A ss y) (interval-sound x (b .0) zero)
-  interval-sound (fby x y) b (suc i) = hull-right (interval A ss x) (interval A ss y) (interval-sound y (b .1) i)
+  interval-sound (negation e) b i = negated-within (value w e i)
+  interval-sound (binary o x y) b i = operator-within o (interval ss x) (interval ss y) (interval-sound x (b .0) i) (interval-sound y (b .1) i)
+  interval-sound (conditional c x y) b i = hull-chosen (value w c i) (interval ss x) (interval ss y) (interval-sound x (b .1) i) (interval-sound y (b .2) i)
+  interval-sound (fby x y) b zero = hull-left (interval ss x) (interval ss y) (interval-sound x (b .0) zero)
+  interval-sound (fby x y) b (suc i) = hull-right (interval ss x) (interval ss y) (interval-sound y (b .1) i)
 
   -- So do the values of every expression inside it, which an accepted sheet bounds one by one.
-  pub subexpression-sound : (e f : Expression) → NamesBelow (length ss) e → List·Memᴰ f (subexpressions e) → (i : ℕ) → Within (interval A ss f) (value A w f i)
+  pub subexpression-sound : (e f : Expression) → NamesBelow (length ss) e → List·Memᴰ f (subexpressions e) → (i : ℕ) → Within (interval ss f) (value w f i)
   subexpression-sound e f b m i = interval-sound f (All-member (NamesBelow (length ss)) (subexpressions-below (length ss) e b) m) i
+
+-- Where no stream's low end is above its high end, no expression's is: by the operators' intervals.
+pub interval-ordered : (ss : List Stream) → ((k : ℕ) → k < length ss → rangeOf ss k .low ≤ℤ rangeOf ss k .high)
+    → (e : Expression) → NamesBelow (length ss) e → interval ss e .low ≤ℤ interval ss e .high
+unfolding interval
+interval-ordered ss ordered (integer z) n = ≤ℤ-refl z
+interval-ordered ss ordered (name k) n = ordered k n
+interval-ordered ss ordered (first e) n = interval-ordered ss ordered e n
+interval-ordered ss ordered (next e) n = interval-ordered ss ordered e n
+interval-ordered ss ordered (negation e) n = leZ-yes tt
+interval-ordered ss ordered (binary o a b) n = operator-ordered o (interval ss a) (interval ss b)
+interval-ordered ss ordered (conditional c a b) n = hull-ordered (interval ss a) (interval ss b) (interval-ordered ss ordered a (n .1))
+interval-ordered ss ordered (fby a b) n = hull-ordered (interval ss a) (interval ss b) (interval-ordered ss ordered a (n .0))

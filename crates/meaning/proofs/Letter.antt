@@ -9,12 +9,12 @@ use lib.Dec.{T}
 use lib.Arith.{digits-lt, digits-div, digits-mod}
 use lib.IntN.{ℤ, pos, natAbs, _+ℤ_, _-ℤ_}
 use lib.Signed.{leZ, leZ-yes, _≤ℤ_, _<ℤ_}
+use Rattle.basics.proofs.Tests.{cond-true}
 use Rattle.meaning.specs.Value.{Value}
 use Rattle.meaning.specs.Arithmetic.{Interval, Within, truthInterval}
 use lib.ListN.{length, getD}
 use Rattle.meaning.specs.Expression.{Stream, rangeOf}
 use Rattle.meaning.specs.Letter.{Letter, IsLetter, none, more, size, letterCount, letterNumber, letterOf, recordOf}
-use Rattle.meaning.proofs.Lists.{cond-true}
 use Rattle.meaning.proofs.Order.{≤ℤ-trans, ≤-+ℤ-pos, distance-+ℤ-pos, +ℤ-pos-distance, +ℤ-pos-≤, distance-≤, distance-<}
 
 -- ---- how many numbers an interval holds

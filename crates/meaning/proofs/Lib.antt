@@ -3,14 +3,12 @@ pub mod Beginning
 pub mod Bounds
 pub mod Congruence
 pub mod Continuation
-pub mod Count
 pub mod Division
 pub mod Exploration
 pub mod Facts
 pub mod Interval
 pub mod Lawful
 pub mod Letter
-pub mod Lists
 pub mod Meaning
 pub mod Meets
 pub mod NormalForm

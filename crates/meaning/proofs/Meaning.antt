@@ -7,7 +7,7 @@ use mathlib.Core.List.{List, [], _∷_, map}
 use lib.Dec.{T}
 use lib.IntN.{pos, negℤ}
 use Rattle.meaning.specs.Value.{Value, truth, bit, Streams, less, equal, compares}
-use Rattle.meaning.specs.Arithmetic.{subtract, compare, and, or, cutTowardZero}
+use Rattle.meaning.specs.Arithmetic.{subtract, compare, and, or}
 use Rattle.meaning.specs.Expression.{Expression, integer, name, first, next, negation, binary, conditional, fby, until, value, Meets}
 
 -- The stream x, which counts the times.
@@ -43,12 +43,12 @@ rows =
     ∷ (binary or (number 0) x-1, three (pos 1) (pos 0) (pos 1))
     ∷ (binary (compare less) x (number 1), three (pos 1) (pos 0) (pos 0)) ∷ []
 
-values : map (λ r. map (value cutTowardZero streams (r .0)) (0 ∷ 1 ∷ 2 ∷ [])) rows ≡ map (λ r. r .1) rows
+values : map (λ r. map (value streams (r .0)) (0 ∷ 1 ∷ 2 ∷ [])) rows ≡ map (λ r. r .1) rows
 unfolding value
 values = refl
 
 -- `( x lt 1 ) until ( x eq 1 )`: met at time 1, where the left side is already 0.
-until-met : Meets cutTowardZero streams (until (binary (compare less) x (number 1)) (binary (compare equal) x (number 1)))
+until-met : Meets streams (until (binary (compare less) x (number 1)) (binary (compare equal) x (number 1)))
 unfolding Meets value
 until-met = record { time = 1; right = tt; left = earlier }
   where
@@ -57,7 +57,7 @@ until-met = record { time = 1; right = tt; left = earlier }
     earlier (suc j) l = absurd (not-suc-le-zero (le-of-suc-le-suc l))
 
 -- `0 until x`: never met, as both sides are 0 at time 0.
-until-broken : Meets cutTowardZero streams (until (number 0) x) → ⊥
+until-broken : Meets streams (until (number 0) x) → ⊥
 unfolding Meets value
 until-broken u = never (u .time) (u .right) (u .left)
   where

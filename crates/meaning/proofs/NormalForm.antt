@@ -8,17 +8,20 @@ use native.Mathlib.Nat.{add-suc, suc-add, add-zero, le-of-suc-le-suc, not-suc-le
 use mathlib.Core.Path.{_≡_, sym, _∙_, ap, subst, subst₂}
 use mathlib.Core.Bool.{cond}
 use mathlib.Core.List.{List, [], _∷_}
+use mathlib.Core.Logic.{_↔_}
 use lib.Dec.{ltb, lt→ltb}
 use lib.Arith.{le→nltb}
 use lib.IntN.{pos}
 use lib.ListN.{length, getD, List·getD-append}
 use lib.Seq.{getD-append-add}
+use Rattle.basics.proofs.Lists.{All-append, All-member, member-All, All-getD, below-sum, getD-map}
+use Rattle.basics.specs.Lists.{All}
+use Rattle.basics.proofs.Tests.{cond-true, cond-false}
 use Rattle.meaning.specs.Value.{Streams}
-use Rattle.meaning.specs.Arithmetic.{Arithmetic, LawfulArithmetic, Within}
+use Rattle.meaning.specs.Arithmetic.{Within}
 use Rattle.meaning.specs.Expression.{Expression, integer, Sheet, noStream, rangeOf, value, Meets, Solution}
 use Rattle.meaning.specs.Interval.{interval, NamesBelow}
-use Rattle.meaning.specs.NormalForm.{allAdded, allRewritten, allEntries, normalForm, ExtendsUniquely}
-use Rattle.meaning.proofs.Lists.{cond-true, cond-false, All, All-append, All-member, member-All, All-getD, below-sum, getD-map}
+use Rattle.meaning.specs.NormalForm.{allAdded, allRewritten, allEntries, normalForm, NormalSolution, ExtendsUniquely}
 use Rattle.meaning.specs.Scope.{AgreeBelow, NamesKnown}
 use Rattle.meaning.proofs.Scope.{AgreeBelow-sym, value-agree, Solution-agree}
 use Rattle.meaning.proofs.Interval.{interval-sound}
@@ -32,13 +35,13 @@ use Names.{allAdded-below, sides-All, streams-length}
 
 -- ---- streams that stand for expressions, by number
 
-module _ (A : Arithmetic) (w : Streams) (d : Expression) where
-  StandFor-getD : (n : ℕ) (es : List Expression) → StandFor A w n es → (j : ℕ) → j < length es → (i : ℕ) → w (n + j) i ≡ value A w (getD es j d) i
+module _ (w : Streams) (d : Expression) where
+  StandFor-getD : (n : ℕ) (es : List Expression) → StandFor w n es → (j : ℕ) → j < length es → (i : ℕ) → w (n + j) i ≡ value w (getD es j d) i
   StandFor-getD n [] h j l i = absurd (not-suc-le-zero l)
   StandFor-getD n (e ∷ es) h zero l i = rw add-zero (h .0 i)
   StandFor-getD n (e ∷ es) h (suc j) l i = rw (add-suc, ← suc-add) (StandFor-getD (suc n) es (h .1) j (le-of-suc-le-suc l) i)
 
-  getD-StandFor : (n : ℕ) (es : List Expression) → ((j : ℕ) → j < length es → (i : ℕ) → w (n + j) i ≡ value A w (getD es j d) i) → StandFor A w n es
+  getD-StandFor : (n : ℕ) (es : List Expression) → ((j : ℕ) → j < length es → (i : ℕ) → w (n + j) i ≡ value w (getD es j d) i) → StandFor w n es
   getD-StandFor n [] f = tt
   getD-StandFor n (e ∷ es) f =
       (λ i. rw add-zero at (f zero (omega arith) i), getD-StandFor (suc n) es (λ j l i. rw (add-suc, ← suc-add) at (f (suc j) (omega arith) i)))
@@ -48,24 +51,24 @@ abbrev pub nothing : Expression
 nothing = integer (pos 0)
 
 -- The streams w below number n, and from there on the streams that stand for the expressions.
-extend : Arithmetic → ℕ → List Expression → Streams → Streams
-extend A n es w k i = cond (ltb k n) (w k i) (value A w (getD es (k - n) nothing) i)
+extend : ℕ → List Expression → Streams → Streams
+extend n es w k i = cond (ltb k n) (w k i) (value w (getD es (k - n) nothing) i)
 
-module _ (A : Arithmetic) (n : ℕ) (es : List Expression) (w : Streams) where
-  extend-agrees : AgreeBelow n (extend A n es w) w
+module _ (n : ℕ) (es : List Expression) (w : Streams) where
+  extend-agrees : AgreeBelow n (extend n es w) w
   unfolding extend
   extend-agrees = record { same = λ k i l. cond-true (ltb k n) _ _ (lt→ltb k n l) }
 
-  extend-beyond : (j i : ℕ) → extend A n es w (n + j) i ≡ value A w (getD es j nothing) i
+  extend-beyond : (j i : ℕ) → extend n es w (n + j) i ≡ value w (getD es j nothing) i
   unfolding extend
   extend-beyond j i =
       let e : n + j - n ≡ j = omega arith in
-      cond-false (ltb (n + j) n) _ _ (le→nltb (n + j) n (omega arith)) ∙ ap (λ k. value A w (getD es k nothing) i) e
+      cond-false (ltb (n + j) n) _ _ (le→nltb (n + j) n (omega arith)) ∙ ap (λ k. value w (getD es k nothing) i) e
 
-  extend-stands : All (NamesBelow n) es → StandFor A (extend A n es w) n es
+  extend-stands : All (NamesBelow n) es → StandFor (extend n es w) n es
   extend-stands h =
-      getD-StandFor A (extend A n es w) nothing n es
-      (λ j l i. extend-beyond j i ∙ sym (value-agree A extend-agrees (getD es j nothing) (All-getD (NamesBelow n) es h j nothing l) i))
+      getD-StandFor (extend n es w) nothing n es
+      (λ j l i. extend-beyond j i ∙ sym (value-agree extend-agrees (getD es j nothing) (All-getD (NamesBelow n) es h j nothing l) i))
 
 -- ---- the added streams of a sheet
 
@@ -81,86 +84,98 @@ addedExpression-below {s} known j l =
     let n = length (s .streams) in
     All-getD (NamesBelow n) (allAdded (s .constraints)) (allAdded-below n (s .constraints) (sides-All known)) j nothing l
 
-module _ (A : Arithmetic) (s : Sheet) where
+module _ (s : Sheet) where
+  -- A solution of the normal form solves it as a sheet, and the other way round.
+  pub normal-solution↔ : {w : Streams} → NormalSolution s w ↔ Solution (normalForm s) w
+  unfolding normalForm
+  normal-solution↔ {w} =
+      let n = length (s .streams) in
+      let parts = All-append (Meets w) (allRewritten n (s .constraints)) (allEntries n (s .constraints)) in (
+        λ h. record {
+          ranged = h .ranged;
+          meets = λ c m. All-member (Meets w) (parts .1 (member-All (Meets w) _ (h .lines), member-All (Meets w) _ (h .entries))) m;
+        },
+        λ h. let m = parts .0 (member-All (Meets w) _ (h .meets)) in
+            record { ranged = h .ranged; lines = λ c p. All-member (Meets w) (m .0) p; entries = λ c p. All-member (Meets w) (m .1) p },
+      )
+
   -- The sheet's streams keep their ranges.
-  pub range-kept : (k : ℕ) → k < length (s .streams) → rangeOf (normalForm A s .streams) k ≡ rangeOf (s .streams) k
+  pub range-kept : (k : ℕ) → k < length (s .streams) → rangeOf (normalForm s .streams) k ≡ rangeOf (s .streams) k
   unfolding normalForm
   range-kept k l = ap (λ t. t .range) (List·getD-append (s .streams) _ noStream k l)
 
   -- "An added stream ranges over the interval of the expression it stands for".
-  pub range-added : (j : ℕ) → j < addedStreams s → rangeOf (normalForm A s .streams) (length (s .streams) + j) ≡ interval A (s .streams) (addedExpression s j)
+  pub range-added : (j : ℕ) → j < addedStreams s → rangeOf (normalForm s .streams) (length (s .streams) + j) ≡ interval (s .streams) (addedExpression s j)
   unfolding normalForm
   range-added j l = ap (λ t. t .range) (getD-append-add (s .streams) _ j noStream ∙ getD-map _ (allAdded (s .constraints)) j nothing noStream l)
 
   -- What holds of the sheet's streams and of the added ones holds of all streams of the normal form.
   every-stream : (P : ℕ → Type 0) → ((k : ℕ) → k < length (s .streams) → P k) → ((j : ℕ) → j < addedStreams s → P (length (s .streams) + j))
-      → (k : ℕ) → k < length (normalForm A s .streams) → P k
-  every-stream P f g k l = below-sum P (length (s .streams)) (addedStreams s) f g k (omega (arith, streams-length A s))
+      → (k : ℕ) → k < length (normalForm s .streams) → P k
+  every-stream P f g k l = below-sum P (length (s .streams)) (addedStreams s) f g k (omega (arith, streams-length s))
 
   -- ---- from the normal form to the sheet
 
-  normalForm-stands : {w : Streams} → Solution A (normalForm A s) w → All (Meets A w) (s .constraints) × StandFor A w (length (s .streams)) (allAdded (s .constraints))
-  unfolding normalForm
+  normalForm-stands : {w : Streams} → NormalSolution s w → All (Meets w) (s .constraints) × StandFor w (length (s .streams)) (allAdded (s .constraints))
   normalForm-stands {w} h =
       let n = length (s .streams) in
-      let m = All-append (Meets A w) (allRewritten n (s .constraints)) (allEntries n (s .constraints)) .0 (member-All (Meets A w) _ (h .meets)) in
-      let stands = allEntries-stand A w n (s .constraints) .0 (m .1) in
-      (allRewritten-meets A w n (s .constraints) stands .0 (m .0), stands)
+      let stands = allEntries-stand w n (s .constraints) .0 (member-All (Meets w) _ (h .entries)) in
+      (allRewritten-meets w n (s .constraints) stands .0 (member-All (Meets w) _ (h .lines)), stands)
 
   -- In a solution of the normal form each added stream has the values of the expression that it stands for.
-  pub added-value : {w : Streams} → Solution A (normalForm A s) w
-      → (j : ℕ) → j < addedStreams s → (i : ℕ) → w (length (s .streams) + j) i ≡ value A w (addedExpression s j) i
-  added-value {w} h j l i = StandFor-getD A w nothing (length (s .streams)) (allAdded (s .constraints)) (normalForm-stands h .1) j l i
+  pub added-value : {w : Streams} → NormalSolution s w
+      → (j : ℕ) → j < addedStreams s → (i : ℕ) → w (length (s .streams) + j) i ≡ value w (addedExpression s j) i
+  added-value {w} h j l i = StandFor-getD w nothing (length (s .streams)) (allAdded (s .constraints)) (normalForm-stands h .1) j l i
 
   -- Each solution of the normal form, cut back to the sheet's streams, is a solution of the sheet, whatever stands beyond them.
-  pub cut-back : NamesKnown s → {v w : Streams} → Solution A (normalForm A s) v → AgreeBelow (length (s .streams)) v w → Solution A s w
+  pub cut-back : NamesKnown s → {v w : Streams} → NormalSolution s v → AgreeBelow (length (s .streams)) v w → Solution s w
   cut-back known {v} h g =
-      Solution-agree A known g
+      Solution-agree known g
       record {
-        ranged = λ k i l. subst (λ I. Within I (v k i)) (range-kept k l) (h .ranged k i (omega (arith, streams-length A s)));
-        meets = λ c m. All-member (Meets A v) (normalForm-stands h .0) m;
+        ranged = λ k i l. subst (λ I. Within I (v k i)) (range-kept k l) (h .ranged k i (omega (arith, streams-length s)));
+        meets = λ c m. All-member (Meets v) (normalForm-stands h .0) m;
       }
 
   -- Two solutions of the normal form that agree on the sheet's streams agree on the added streams too.
-  pub added-determined : NamesKnown s → {v w : Streams} → Solution A (normalForm A s) v → Solution A (normalForm A s) w
-      → AgreeBelow (length (s .streams)) v w → AgreeBelow (length (normalForm A s .streams)) v w
+  pub added-determined : NamesKnown s → {v w : Streams} → NormalSolution s v → NormalSolution s w
+      → AgreeBelow (length (s .streams)) v w → AgreeBelow (length (normalForm s .streams)) v w
   added-determined known {v} {w} h h′ g =
       record {
         same = λ k i l.
             every-stream (λ k. v k i ≡ w k i) (λ k l. g .same k i l)
-            (λ j l. added-value h j l i ∙ value-agree A g (addedExpression s j) (addedExpression-below known j l) i ∙ sym (added-value h′ j l i)) k l;
+            (λ j l. added-value h j l i ∙ value-agree g (addedExpression s j) (addedExpression-below known j l) i ∙ sym (added-value h′ j l i)) k l;
       }
 
   -- ---- from the sheet to the normal form
 
   -- A solution of the sheet whose further streams are what they stand for is a solution of the normal form.
-  stands-normalForm : LawfulArithmetic A → NamesKnown s → {w : Streams}
-      → Solution A s w → StandFor A w (length (s .streams)) (allAdded (s .constraints)) → Solution A (normalForm A s) w
-  unfolding normalForm
-  stands-normalForm lawful known {w} h stands =
+  stands-normalForm : NamesKnown s → {w : Streams}
+      → Solution s w → StandFor w (length (s .streams)) (allAdded (s .constraints)) → NormalSolution s w
+  stands-normalForm known {w} h stands =
       let n = length (s .streams) in
       let es = allAdded (s .constraints) in
-      let sound = interval-sound lawful (s .streams) w (h .ranged) in
-      let m = allRewritten-meets A w n (s .constraints) stands .1 (member-All (Meets A w) (s .constraints) (h .meets)) in
-      let m′ = allEntries-stand A w n (s .constraints) .1 stands in
+      let sound = interval-sound (s .streams) w (h .ranged) in
+      let m = allRewritten-meets w n (s .constraints) stands .1 (member-All (Meets w) (s .constraints) (h .meets)) in
+      let m′ = allEntries-stand w n (s .constraints) .1 stands in
       record {
         ranged = λ k i l.
-            every-stream (λ k. Within (rangeOf (normalForm A s .streams) k) (w k i))
+            every-stream (λ k. Within (rangeOf (normalForm s .streams) k) (w k i))
             (λ k l. subst (λ I. Within I (w k i)) (sym (range-kept k l)) (h .ranged k i l))
-            (λ j l. subst₂ Within (sym (range-added j l)) (sym (StandFor-getD A w nothing n es stands j l i)) (sound (addedExpression s j) (addedExpression-below known j l) i)) k l;
-        meets = λ c p. All-member (Meets A w) (All-append (Meets A w) (allRewritten n (s .constraints)) (allEntries n (s .constraints)) .1 (m, m′)) p;
+            (λ j l. subst₂ Within (sym (range-added j l)) (sym (StandFor-getD w nothing n es stands j l i)) (sound (addedExpression s j) (addedExpression-below known j l) i)) k l;
+        lines = λ c p. All-member (Meets w) m p;
+        entries = λ c p. All-member (Meets w) m′ p;
       }
 
   -- Each solution of the sheet extends to the added streams, and in one way only.
-  pub extends-uniquely : LawfulArithmetic A → NamesKnown s → {w : Streams} → Solution A s w → ExtendsUniquely A s w
-  extends-uniquely lawful known {w} h =
+  pub extends-uniquely : NamesKnown s → {w : Streams} → Solution s w → ExtendsUniquely s w
+  extends-uniquely known {w} h =
       let n = length (s .streams) in
       let es = allAdded (s .constraints) in
-      let agrees = extend-agrees A n es w in
-      let stands = extend-stands A n es w (allAdded-below n (s .constraints) (sides-All known)) in
-      let solves = stands-normalForm lawful known (Solution-agree A known (AgreeBelow-sym agrees) h) stands in
+      let agrees = extend-agrees n es w in
+      let stands = extend-stands n es w (allAdded-below n (s .constraints) (sides-All known)) in
+      let solves = stands-normalForm known (Solution-agree known (AgreeBelow-sym agrees) h) stands in
       record {
-        extension = extend A n es w;
+        extension = extend n es w;
         agrees = agrees;
         solves = solves;
         only = λ v g k. added-determined known k solves (record { same = λ k i l. g .same k i l ∙ sym (agrees .same k i l) });

@@ -9,8 +9,8 @@ use lib.Dec.{T, ltb, leb→le, le→leb, nleb→lt, ltb→lt, lt→ltb}
 use lib.Arith.{le→nltb, lt-of-le-ne}
 use lib.IntN.{ℤ, pos, negsuc, natAbs, sucℤ, predℤ, _+ℤ_, _-ℤ_, +ℤ-sucℤ, +ℤ-idr, +ℤ-comm, +ℤ-negℤ-cancel, +ℤ-assoc}
 use lib.Signed.{leZ, ltZ, _≤ℤ_, _<ℤ_, ≤ℤ-refl, leZ-yes, <ℤ-irrefl}
+use Rattle.basics.proofs.Tests.{cond-cases, cond-true, cond-false}
 use Rattle.meaning.specs.Arithmetic.{least, greatest}
-use Rattle.meaning.proofs.Lists.{cond-cases, cond-true, cond-false}
 
 leZ-trans : (a b c : ℤ) → T (leZ a b) → T (leZ b c) → T (leZ a c)
 leZ-trans (pos a) (pos b) (pos c) h k = le→leb a c (le-trans (leb→le a b h) (leb→le b c k))

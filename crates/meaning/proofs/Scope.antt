@@ -1,14 +1,12 @@
 -- Streams beyond the sheet's play no part: two families of streams that agree on the first n streams give every expression whose names
 -- are below n the same value at every time, meet the same constraints, and solve the same sheets.
-use Prim.Native.Nat.{ℕ, zero, suc, _<_}
+use Prim.Native.Nat.{ℕ, zero, suc}
 use mathlib.Core.Path.{_≡_, refl, sym, ap, ap₂, subst}
-use mathlib.Core.Bool.{cond, not}
-use mathlib.Core.List.{List·Memᴰ}
 use lib.Dec.{T}
 use lib.ListN.{length}
-use Rattle.meaning.specs.Value.{Value, truth, bit, Streams}
-use Rattle.meaning.specs.Arithmetic.{Arithmetic, Within, apply}
-use Rattle.meaning.specs.Expression.{Expression, integer, name, first, next, negation, binary, conditional, fby, Sign, holds, Constraint, always, until, Sheet, rangeOf, Until, value, Meets, Solution}
+use Rattle.meaning.specs.Value.{Value, truth, Streams}
+use Rattle.meaning.specs.Arithmetic.{Within, apply}
+use Rattle.meaning.specs.Expression.{Expression, integer, name, first, next, negation, binary, conditional, fby, Sign, holds, Constraint, always, until, Sheet, rangeOf, Until, value, Meets, Solution, chosen, negated}
 use Rattle.meaning.specs.Interval.{NamesBelow, SidesBelow}
 use Rattle.meaning.specs.Scope.{AgreeBelow, NamesKnown}
 
@@ -16,8 +14,8 @@ pub AgreeBelow-sym : {n : ℕ} {w v : Streams} → AgreeBelow n w v → AgreeBel
 AgreeBelow-sym g = record { same = λ k i l. sym (g .same k i l) }
 
 -- The value of an `if`, and what a sign and an `until` ask, depend only on the values of their parts.
-pub cond-cong : {c c′ a a′ b b′ : Value} → c ≡ c′ → a ≡ a′ → b ≡ b′ → cond (truth c) a b ≡ cond (truth c′) a′ b′
-cond-cong p q r = λ i. cond (truth (p i)) (q i) (r i)
+pub chosen-cong : {c c′ a a′ b b′ : Value} → c ≡ c′ → a ≡ a′ → b ≡ b′ → chosen c a b ≡ chosen c′ a′ b′
+chosen-cong p q r = λ i. chosen (p i) (q i) (r i)
 
 pub always-cong : (s : Sign) {a b a′ b′ : ℕ → Value} → ((i : ℕ) → a i ≡ a′ i) → ((i : ℕ) → b i ≡ b′ i)
     → ((i : ℕ) → T (holds s (a i) (b i))) → (i : ℕ) → T (holds s (a′ i) (b′ i))
@@ -31,27 +29,26 @@ Until-cong p q u =
       left = λ j l. subst (λ x. T (truth x)) (p j) (u .left j l);
     }
 
-module _ (A : Arithmetic) where
-  pub value-agree : {n : ℕ} {w v : Streams} → AgreeBelow n w v → (e : Expression) → NamesBelow n e → (i : ℕ) → value A w e i ≡ value A v e i
-  unfolding value
-  value-agree g (integer z) h i = refl
-  value-agree g (name k) h i = g .same k i h
-  value-agree g (first e) h i = value-agree g e h zero
-  value-agree g (next e) h i = value-agree g e h (suc i)
-  value-agree g (negation e) h i = ap (λ x. bit (not (truth x))) (value-agree g e h i)
-  value-agree g (binary o a b) h i = ap₂ (apply A o) (value-agree g a (h .0) i) (value-agree g b (h .1) i)
-  value-agree g (conditional c a b) h i = cond-cong (value-agree g c (h .0) i) (value-agree g a (h .1) i) (value-agree g b (h .2) i)
-  value-agree g (fby a b) h zero = value-agree g a (h .0) zero
-  value-agree g (fby a b) h (suc i) = value-agree g b (h .1) i
+pub value-agree : {n : ℕ} {w v : Streams} → AgreeBelow n w v → (e : Expression) → NamesBelow n e → (i : ℕ) → value w e i ≡ value v e i
+unfolding value
+value-agree g (integer z) h i = refl
+value-agree g (name k) h i = g .same k i h
+value-agree g (first e) h i = value-agree g e h zero
+value-agree g (next e) h i = value-agree g e h (suc i)
+value-agree g (negation e) h i = ap negated (value-agree g e h i)
+value-agree g (binary o a b) h i = ap₂ (apply o) (value-agree g a (h .0) i) (value-agree g b (h .1) i)
+value-agree g (conditional c a b) h i = chosen-cong (value-agree g c (h .0) i) (value-agree g a (h .1) i) (value-agree g b (h .2) i)
+value-agree g (fby a b) h zero = value-agree g a (h .0) zero
+value-agree g (fby a b) h (suc i) = value-agree g b (h .1) i
 
-  pub Meets-agree : {n : ℕ} {w v : Streams} → AgreeBelow n w v → (c : Constraint) → SidesBelow n c → Meets A w c → Meets A v c
-  unfolding Meets
-  Meets-agree g (always s a b) h m = always-cong s (value-agree g a (h .left)) (value-agree g b (h .right)) m
-  Meets-agree g (until a b) h m = Until-cong (value-agree g a (h .left)) (value-agree g b (h .right)) m
+pub Meets-agree : {n : ℕ} {w v : Streams} → AgreeBelow n w v → (c : Constraint) → SidesBelow n c → Meets w c → Meets v c
+unfolding Meets
+Meets-agree g (always s a b) h m = always-cong s (value-agree g a (h .left)) (value-agree g b (h .right)) m
+Meets-agree g (until a b) h m = Until-cong (value-agree g a (h .left)) (value-agree g b (h .right)) m
 
-  pub Solution-agree : {s : Sheet} {w v : Streams} → NamesKnown s → AgreeBelow (length (s .streams)) w v → Solution A s w → Solution A s v
-  Solution-agree {s} known g h =
-      record {
-        ranged = λ k i l. subst (Within (rangeOf (s .streams) k)) (g .same k i l) (h .ranged k i l);
-        meets = λ c m. Meets-agree g c (known .sides c m) (h .meets c m);
-      }
+pub Solution-agree : {s : Sheet} {w v : Streams} → NamesKnown s → AgreeBelow (length (s .streams)) w v → Solution s w → Solution s v
+Solution-agree {s} known g h =
+    record {
+      ranged = λ k i l. subst (Within (rangeOf (s .streams) k)) (g .same k i l) (h .ranged k i l);
+      meets = λ c m. Meets-agree g c (known .sides c m) (h .meets c m);
+    }

@@ -1,11 +1,12 @@
 -- What the tests of values say: a value is true exactly if it is not 0; the six comparisons are those of the integers; `->` is an implication.
 use Prim.Native.Nat.{zero, suc}
 use mathlib.Core.Path.{_≡_, refl, subst}
-use mathlib.Core.Bool.{Bool, true, false, not, _&&_, _||_}
+use mathlib.Core.Bool.{Bool, true, false, not, _||_}
 use mathlib.Core.Logic.{_↔_, _≢_}
 use lib.Dec.{T, T-not, not-T}
 use lib.IntN.{pos, negsuc}
 use lib.Signed.{leZ, _≤ℤ_, _<ℤ_, leZ-yes, ltZ-yes, ≤ℤ-refl}
+use Rattle.basics.proofs.Tests.{T-and}
 use Rattle.meaning.specs.Value.{Value, truth, Comparison, less, atMost, equal, atLeast, greater, different, compares}
 use Rattle.meaning.specs.Expression.{Sign, comparison, implies, holds}
 use Rattle.meaning.proofs.Order.{≤ℤ-antisym}
@@ -30,14 +31,10 @@ Compared atLeast a b = b ≤ℤ a
 Compared greater a b = b <ℤ a
 Compared different a b = a ≢ b
 
-T-both : (a b : Bool) → T (a && b) ↔ (T a × T b)
-T-both true b = (λ t. (tt, t), λ h. h .1)
-T-both false b = (λ t. absurd t, λ h. absurd (h .0))
-
 pub compares-equal : (a b : Value) → T (compares equal a b) ↔ (a ≡ b)
 compares-equal a b = (
-  λ t. let h = T-both (leZ a b) (leZ b a) .0 t in ≤ℤ-antisym (leZ-yes (h .0)) (leZ-yes (h .1)),
-  λ e. subst (λ z. T (compares equal a z)) e (T-both (leZ a a) (leZ a a) .1 (≤ℤ-refl a .le, ≤ℤ-refl a .le)),
+  λ t. let h = T-and (leZ a b) (leZ b a) .0 t in ≤ℤ-antisym (leZ-yes (h .0)) (leZ-yes (h .1)),
+  λ e. subst (λ z. T (compares equal a z)) e (T-and (leZ a a) (leZ a a) .1 (≤ℤ-refl a .le, ≤ℤ-refl a .le)),
 )
 
 pub compares-means : (c : Comparison) (a b : Value) → T (compares c a b) ↔ Compared c a b

@@ -10,7 +10,7 @@ use lib.IntN.{pos}
 use lib.ListN.{length, getD}
 use lib.Seq.{ext-getD}
 use Rattle.meaning.specs.Value.{Value, Streams}
-use Rattle.meaning.specs.Arithmetic.{Within, Arithmetic}
+use Rattle.meaning.specs.Arithmetic.{Within}
 use Rattle.meaning.specs.Expression.{Stream, Sheet, rangeOf, Solution}
 use Rattle.meaning.specs.Letter.{Letter, IsLetter, none, more, letterCount, letterNumber, letterOf, spell, letterWith, wordOf, SolutionWord}
 use Rattle.meaning.specs.Scope.{AgreeBelow, NamesKnown}
@@ -83,13 +83,13 @@ spelled-once ss w ranged =
 -- ---- solutions
 
 -- A word is a solution word exactly if the streams that it spells, whatever stands beyond the sheet's, are a solution.
-pub solution-word : (A : Arithmetic) {s : Sheet} → NamesKnown s → {x : ℕ → ℕ} {w : Streams} → Spells (s .streams) x w → SolutionWord A s x ↔ Solution A s w
-solution-word A known p =
-    (λ h. Solution-agree A known (p .agrees) (h .solves), λ h. record { solves = Solution-agree A known (AgreeBelow-sym (p .agrees)) h })
+pub solution-word : {s : Sheet} → NamesKnown s → {x : ℕ → ℕ} {w : Streams} → Spells (s .streams) x w → SolutionWord s x ↔ Solution s w
+solution-word known p =
+    (λ h. Solution-agree known (p .agrees) (h .solves), λ h. record { solves = Solution-agree known (AgreeBelow-sym (p .agrees)) h })
 
 -- The letters of a solution word are numbered below their count, where there is a stream.
-pub solution-letters : (A : Arithmetic) (s : Sheet) → 0 < length (s .streams) → {x : ℕ → ℕ} → SolutionWord A s x → (i : ℕ) → x i < letterCount (s .streams)
-solution-letters A s some {x} h i =
+pub solution-letters : (s : Sheet) → 0 < length (s .streams) → {x : ℕ → ℕ} → SolutionWord s x → (i : ℕ) → x i < letterCount (s .streams)
+solution-letters s some {x} h i =
     below (s .streams) some (within-letter (s .streams) (letterOf (s .streams) (x i)) (letterOf-length (s .streams) (x i)) (λ k l. h .solves .ranged k i l))
   where
     below : (ss : List Stream) → 0 < length ss → IsLetter ss (letterOf ss (x i)) → x i < letterCount ss

@@ -1,9 +1,9 @@
 -- The operators, what they give, and the intervals of what they give (document 01, "Meaning at time i", "Intervals and the normal form").
 use Prim.Native.Nat.{ℕ, max}
-use mathlib.Core.Bool.{Bool, cond, _&&_, _||_}
+use mathlib.Core.Bool.{cond, _&&_, _||_}
 use lib.IntN.{ℤ, pos, negℤ, natAbs, _+ℤ_, _-ℤ_, _*ℤ_}
 use lib.Signed.{leZ, quotZ, remZ, _≤ℤ_}
-use Rattle.meaning.specs.Value.{Value, truth, bit, Comparison, compares}
+use Rattle.meaning.specs.Value.{Value, nonzero, truth, bit, Comparison, compares}
 
 -- "Operators: `+ - * / % lt le eq ge gt ne and or fby`", but for `fby`, which looks at another time.
 pub data Operator : Type 0 where
@@ -19,13 +19,6 @@ pub record Interval : Type 0 where
 pub record Within (I : Interval) (x : ℤ) : Type 0 where
   pub above : I .low ≤ℤ x
   pub below : x ≤ℤ I .high
-
--- What a release of the sheet language settles about division. Everything above takes it as a parameter.
-pub record Arithmetic : Type 0 where
-  pub quotient : ℤ → ℤ → ℤ
-  pub modulus : ℤ → ℤ → ℤ
-  pub quotientInterval : Interval → Interval → Interval
-  pub modulusInterval : Interval → Interval → Interval
 
 abbrev pub least : ℤ → ℤ → ℤ
 least a b = cond (leZ a b) a b
@@ -57,41 +50,25 @@ around m = record { low = negℤ (pos m); high = pos m }
 abbrev pub truthInterval : Interval
 truthInterval = record { low = pos 0; high = pos 1 }
 
-module _ (A : Arithmetic) where
-  -- "`+ - *` are exact." "The word comparisons, `and`, `or`, `not` give 0 or 1; any value but 0 is true."
-  abbrev pub apply : Operator → Value → Value → Value
-  apply add a b = a +ℤ b
-  apply subtract a b = a -ℤ b
-  apply multiply a b = a *ℤ b
-  apply divide a b = A .quotient a b
-  apply remainder a b = A .modulus a b
-  apply (compare c) a b = bit (compares c a b)
-  apply and a b = bit (truth a && truth b)
-  apply or a b = bit (truth a || truth b)
+-- "`+ - *` are exact." "A quotient is cut toward zero and the remainder has the dividend's sign: −7 / 2 is −3, −7 % 2 is −1. With divisor 0
+-- both are 0." "The word comparisons, `and`, `or`, `not` give 0 or 1; any value but 0 is true."
+abbrev pub apply : Operator → Value → Value → Value
+apply add a b = a +ℤ b
+apply subtract a b = a -ℤ b
+apply multiply a b = a *ℤ b
+apply divide a b = cond (nonzero b) (quotZ a b) (pos 0)
+apply remainder a b = cond (nonzero b) (remZ a b) (pos 0)
+apply (compare c) a b = bit (compares c a b)
+apply and a b = bit (truth a && truth b)
+apply or a b = bit (truth a || truth b)
 
-  -- The interval of what an operator gives, from the intervals of both operands.
-  abbrev pub operatorInterval : Operator → Interval → Interval → Interval
-  operatorInterval add I J = overEnds _+ℤ_ I J
-  operatorInterval subtract I J = overEnds _-ℤ_ I J
-  operatorInterval multiply I J = overEnds _*ℤ_ I J
-  operatorInterval divide I J = A .quotientInterval I J
-  operatorInterval remainder I J = A .modulusInterval I J
-  operatorInterval (compare c) I J = truthInterval
-  operatorInterval and I J = truthInterval
-  operatorInterval or I J = truthInterval
-
-  -- The law an arithmetic must obey: its intervals hold what its operators give.
-  pub record LawfulArithmetic : Type 0 where
-    pub quotient-within : (I J : Interval) (a b : ℤ) → Within I a → Within J b → Within (A .quotientInterval I J) (A .quotient a b)
-    pub modulus-within : (I J : Interval) (a b : ℤ) → Within I a → Within J b → Within (A .modulusInterval I J) (A .modulus a b)
-
--- "A quotient is cut toward zero and the remainder has the dividend's sign: −7 / 2 is −3, −7 % 2 is −1. With divisor 0 both are 0."
--- "for `/` and `%` from −M to M, M the larger magnitude of the dividend's ends"
-abbrev pub cutTowardZero : Arithmetic
-cutTowardZero =
-    record {
-      quotient = λ a b. cond (truth b) (quotZ a b) (pos 0);
-      modulus = λ a b. cond (truth b) (remZ a b) (pos 0);
-      quotientInterval = λ I J. around (magnitude I);
-      modulusInterval = λ I J. around (magnitude I);
-    }
+-- The interval of what an operator gives, from the intervals of both operands.
+abbrev pub operatorInterval : Operator → Interval → Interval → Interval
+operatorInterval add I J = overEnds _+ℤ_ I J
+operatorInterval subtract I J = overEnds _-ℤ_ I J
+operatorInterval multiply I J = overEnds _*ℤ_ I J
+operatorInterval divide I J = around (magnitude I)
+operatorInterval remainder I J = around (magnitude I)
+operatorInterval (compare c) I J = truthInterval
+operatorInterval and I J = truthInterval
+operatorInterval or I J = truthInterval

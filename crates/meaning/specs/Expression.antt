@@ -6,7 +6,7 @@ use lib.Dec.{T}
 use lib.IntN.{ℤ, pos}
 use lib.ListN.{length, getD}
 use Rattle.meaning.specs.Value.{Value, truth, bit, Comparison, compares, Streams}
-use Rattle.meaning.specs.Arithmetic.{Operator, Interval, Within, Arithmetic, apply}
+use Rattle.meaning.specs.Arithmetic.{Operator, Interval, Within, apply}
 
 -- "An expression is a part, or two parts with an operator between them, or `if` part `then` part `else` part. A part is an integer,
 -- a name, an expression in brackets, or `first`, `next` or `not` before a part." Brackets leave no trace; a name is its stream's number.
@@ -43,6 +43,14 @@ abbrev pub holds : Sign → Value → Value → Bool
 holds (comparison c) a b = compares c a b
 holds implies a b = not (truth a) || truth b
 
+-- "`not` gives 0 or 1"
+abbrev pub negated : Value → Value
+negated v = bit (not (truth v))
+
+-- "`if` takes its first branch where the condition is not 0."
+abbrev pub chosen : Value → Value → Value → Value
+chosen c a b = cond (truth c) a b
+
 -- One description of a stream: "Line 1: stream names. Line 2: the lowest value of each, in that order. Line 3: the highest."
 -- A stream that the normal form adds has the empty name.
 pub record Stream : Type 0 where
@@ -66,26 +74,24 @@ pub record Until (a b : ℕ → Value) : Type 0 where
   pub right : T (truth (b time))
   pub left : (j : ℕ) → j < time → T (truth (a j))
 
-module _ (A : Arithmetic) where
-  -- "An integer is itself at all times. `first e` is e at 0. `next e` is e at i+1. `a fby b` is a at 0, and b at i−1 later."
-  -- "`if` takes its first branch where the condition is not 0."
-  unfoldable pub value : Streams → Expression → ℕ → Value
-  value w (integer z) i = z
-  value w (name k) i = w k i
-  value w (first e) i = value w e zero
-  value w (next e) i = value w e (suc i)
-  value w (negation e) i = bit (not (truth (value w e i)))
-  value w (binary o a b) i = apply A o (value w a i) (value w b i)
-  value w (conditional c a b) i = cond (truth (value w c i)) (value w a i) (value w b i)
-  value w (fby a b) zero = value w a zero
-  value w (fby a b) (suc i) = value w b i
+-- "An integer is itself at all times. `first e` is e at 0. `next e` is e at i+1. `a fby b` is a at 0, and b at i−1 later."
+unfoldable pub value : Streams → Expression → ℕ → Value
+value w (integer z) i = z
+value w (name k) i = w k i
+value w (first e) i = value w e zero
+value w (next e) i = value w e (suc i)
+value w (negation e) i = negated (value w e i)
+value w (binary o a b) i = apply o (value w a i) (value w b i)
+value w (conditional c a b) i = chosen (value w c i) (value w a i) (value w b i)
+value w (fby a b) zero = value w a zero
+value w (fby a b) (suc i) = value w b i
 
-  -- "The six comparison signs must hold at every time."
-  unfoldable pub Meets : Streams → Constraint → Type 0
-  Meets w (always s a b) = (i : ℕ) → T (holds s (value w a i) (value w b i))
-  Meets w (until a b) = Until (value w a) (value w b)
+-- "The six comparison signs must hold at every time."
+unfoldable pub Meets : Streams → Constraint → Type 0
+Meets w (always s a b) = (i : ℕ) → T (holds s (value w a i) (value w b i))
+Meets w (until a b) = Until (value w a) (value w b)
 
-  -- "A solution gives each stream an endless course in its range that meets every constraint." Streams beyond the sheet's play no part.
-  pub record Solution (s : Sheet) (w : Streams) : Type 0 where
-    pub ranged : (k i : ℕ) → k < length (s .streams) → Within (rangeOf (s .streams) k) (w k i)
-    pub meets : (c : Constraint) → List·Memᴰ c (s .constraints) → Meets w c
+-- "A solution gives each stream an endless course in its range that meets every constraint." Streams beyond the sheet's play no part.
+pub record Solution (s : Sheet) (w : Streams) : Type 0 where
+  pub ranged : (k i : ℕ) → k < length (s .streams) → Within (rangeOf (s .streams) k) (w k i)
+  pub meets : (c : Constraint) → List·Memᴰ c (s .constraints) → Meets w c

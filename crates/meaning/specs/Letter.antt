@@ -1,17 +1,17 @@
 -- Letters and their numbers, records, and the streams that a word of letter numbers spells (document 01, "Letters, situations, table").
-use Prim.Native.Nat.{ℕ, zero, suc, _+_, _*_, _/_, _%_, _<_}
+use Prim.Native.Nat.{ℕ, zero, suc, _+_, _*_, _/_, _%_}
 use mathlib.Core.Bool.{cond}
 use mathlib.Core.List.{List, [], _∷_, map, List·Memᴰ}
 use lib.IntN.{ℤ, pos, natAbs, _+ℤ_, _-ℤ_}
-use lib.ListN.{length, getD}
+use lib.ListN.{getD}
 use lib.Signed.{leZ}
-use Rattle.meaning.specs.Value.{Value, Streams}
-use Rattle.meaning.specs.Arithmetic.{Interval, Within, Arithmetic}
+use Rattle.meaning.specs.Value.{Streams}
+use Rattle.meaning.specs.Arithmetic.{Interval, Within}
 use Rattle.meaning.specs.Expression.{Stream, Sheet, Solution}
 
 -- "A letter is one value per stream." (Letter and record are document 01's own terms.)
 abbrev pub Letter : Type 0
-Letter = List Value
+Letter = List ℤ
 
 -- "A record of n letters": the letters at times 0 to n−1.
 abbrev pub Record : Type 0
@@ -20,7 +20,7 @@ Record = List Letter
 -- A letter whose values lie in the streams' ranges.
 pub data IsLetter : List Stream → Letter → Type 0 where
   none : IsLetter [] []
-  more : {s : Stream} {ss : List Stream} {v : Value} {l : Letter} → Within (s .range) v → IsLetter ss l → IsLetter (s ∷ ss) (v ∷ l)
+  more : {s : Stream} {ss : List Stream} {v : ℤ} {l : Letter} → Within (s .range) v → IsLetter ss l → IsLetter (s ∷ ss) (v ∷ l)
 
 abbrev pub OfLetters : List Stream → Record → Type 0
 OfLetters ss r = (l : Letter) → List·Memᴰ l r → IsLetter ss l
@@ -50,7 +50,7 @@ abbrev pub spell : List Stream → (ℕ → ℕ) → Streams
 spell ss x k i = getD (letterOf ss (x i)) k (pos 0)
 
 -- The letter with these values, and the word whose letters have the values of w.
-abbrev pub letterWith : List Stream → (ℕ → Value) → Letter
+abbrev pub letterWith : List Stream → (ℕ → ℤ) → Letter
 letterWith [] f = []
 letterWith (s ∷ ss) f = f zero ∷ letterWith ss (λ k. f (suc k))
 
@@ -66,5 +66,5 @@ abbrev pub recordOf : List Stream → List ℕ → Record
 recordOf ss ns = map (letterOf ss) ns
 
 -- An endless word of letter numbers is a solution if the streams that it spells are one.
-pub record SolutionWord (A : Arithmetic) (s : Sheet) (x : ℕ → ℕ) : Type 0 where
-  pub solves : Solution A s (spell (s .streams) x)
+pub record SolutionWord (s : Sheet) (x : ℕ → ℕ) : Type 0 where
+  pub solves : Solution s (spell (s .streams) x)

@@ -1,10 +1,10 @@
 -- The normal form (000, section 3.1; document 01, "Intervals and the normal form").
-use Prim.Native.Nat.{ℕ, zero, suc, _+_}
-use mathlib.Core.List.{List, [], _∷_, _++_, map}
+use Prim.Native.Nat.{ℕ, suc, _+_, _<_}
+use mathlib.Core.List.{List, [], _∷_, _++_, map, List·Memᴰ}
 use lib.ListN.{length}
-use Rattle.meaning.specs.Value.{Comparison, equal, Streams}
-use Rattle.meaning.specs.Arithmetic.{Arithmetic}
-use Rattle.meaning.specs.Expression.{Expression, integer, name, first, next, negation, binary, conditional, fby, Sign, comparison, Constraint, always, until, Stream, Sheet, Solution}
+use Rattle.meaning.specs.Value.{equal, Streams}
+use Rattle.meaning.specs.Arithmetic.{Within}
+use Rattle.meaning.specs.Expression.{Expression, integer, name, first, next, negation, binary, conditional, fby, comparison, Constraint, always, until, Sheet, rangeOf, Meets}
 use Rattle.meaning.specs.Interval.{interval}
 use Rattle.meaning.specs.Scope.{AgreeBelow}
 
@@ -86,11 +86,11 @@ allEntries n (c ∷ cs) = entriesBy n c ++ allEntries (n + length (addedBy c)) c
 
 -- "The rewritten constraints stand first, in sheet order, then the added entries by operator".
 -- "An added stream ranges over the interval of the expression it stands for (of the whole `fby` for its result)."
-unfoldable pub normalForm : Arithmetic → Sheet → Sheet
-normalForm A s =
+unfoldable pub normalForm : Sheet → Sheet
+normalForm s =
     let n = length (s .streams) in
     record {
-      streams = s .streams ++ map (λ e. record { name = []; range = interval A (s .streams) e }) (allAdded (s .constraints));
+      streams = s .streams ++ map (λ e. record { name = []; range = interval (s .streams) e }) (allAdded (s .constraints));
       constraints = allRewritten n (s .constraints) ++ allEntries n (s .constraints);
     }
 
@@ -115,10 +115,16 @@ fbysIn (binary o a b) = fbysIn a + fbysIn b
 fbysIn (conditional c a b) = fbysIn c + fbysIn a + fbysIn b
 fbysIn (fby a b) = suc (fbysIn a + fbysIn b)
 
+-- A solution of the normal form: every stream, the added ones too, stays in its range; the rewritten lines and the added entries are met.
+pub record NormalSolution (s : Sheet) (v : Streams) : Type 0 where
+  pub ranged : (k i : ℕ) → k < length (normalForm s .streams) → Within (rangeOf (normalForm s .streams) k) (v k i)
+  pub lines : (c : Constraint) → List·Memᴰ c (allRewritten (length (s .streams)) (s .constraints)) → Meets v c
+  pub entries : (c : Constraint) → List·Memᴰ c (allEntries (length (s .streams)) (s .constraints)) → Meets v c
+
 -- "Each solution extends to the normal form in one way only" (demand 2): exactly one solution of the normal form agrees with w on the
 -- sheet's streams.
-pub record ExtendsUniquely (A : Arithmetic) (s : Sheet) (w : Streams) : Type 0 where
+pub record ExtendsUniquely (s : Sheet) (w : Streams) : Type 0 where
   pub extension : Streams
   pub agrees : AgreeBelow (length (s .streams)) extension w
-  pub solves : Solution A (normalForm A s) extension
-  pub only : (v : Streams) → AgreeBelow (length (s .streams)) v w → Solution A (normalForm A s) v → AgreeBelow (length (normalForm A s .streams)) v extension
+  pub solves : NormalSolution s extension
+  pub only : (v : Streams) → AgreeBelow (length (s .streams)) v w → NormalSolution s v → AgreeBelow (length (normalForm s .streams)) v extension

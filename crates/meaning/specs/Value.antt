@@ -1,4 +1,4 @@
--- Values and their truth, and streams of values (document 01, "Meaning at time i").
+-- Values and their truth, comparisons, and streams of whole numbers (document 01, "Meaning at time i").
 use Prim.Native.Nat.{ℕ, zero, suc}
 use mathlib.Core.Bool.{Bool, true, false, not, _&&_}
 use lib.IntN.{ℤ, pos, negsuc}
@@ -8,14 +8,17 @@ use lib.Signed.{ltZ, leZ}
 abbrev pub Value : Type 0
 Value = ℤ
 
--- "any value but 0 is true"
+-- "any value but 0 is true": of numbers, and of values
+abbrev pub nonzero : ℤ → Bool
+nonzero (pos zero) = false
+nonzero (pos (suc n)) = true
+nonzero (negsuc n) = true
+
 abbrev pub truth : Value → Bool
-truth (pos zero) = false
-truth (pos (suc n)) = true
-truth (negsuc n) = true
+truth v = nonzero v
 
 -- "The word comparisons, `and`, `or`, `not` give 0 or 1"
-abbrev pub bit : Bool → Value
+abbrev pub bit : Bool → ℤ
 bit true = pos 1
 bit false = pos 0
 
@@ -23,7 +26,7 @@ bit false = pos 0
 pub data Comparison : Type 0 where
   less atMost equal atLeast greater different : Comparison
 
-abbrev pub compares : Comparison → Value → Value → Bool
+abbrev pub compares : Comparison → ℤ → ℤ → Bool
 compares less a b = ltZ a b
 compares atMost a b = leZ a b
 compares equal a b = leZ a b && leZ b a
@@ -31,6 +34,6 @@ compares atLeast a b = leZ b a
 compares greater a b = ltZ b a
 compares different a b = not (leZ a b && leZ b a)
 
--- The value of each stream, by its number, at each time (000, section 2: "A stream a over a (finite) alphabet Σ is a function ℕ₀ → Σ").
+-- The number that each stream has, by the stream's place in the sheet, at each time (000, section 2: "A stream a over a (finite) alphabet Σ is a function ℕ₀ → Σ").
 abbrev pub Streams : Type 0
-Streams = ℕ → ℕ → Value
+Streams = ℕ → ℕ → ℤ

@@ -1,18 +1,16 @@
 -- Numbering the classes by their first rows, and moving these rows to the front: what a turn of each loop does. A row moves to an
 -- earlier place or stays, so no entry is overwritten before it is read.
-use mathlib.Core.Path.{_≡_, refl, sym, ap, subst, _∙_}
-use mathlib.Core.Logic.{_⊎_, inl, inr, _≢_}
+use mathlib.Core.Path.{_≡_, refl, subst, _∙_}
+use mathlib.Core.Logic.{_≢_}
 use mathlib.Core.List.{List}
 use Prim.Native.Nat.{ℕ, zero, suc, _+_, _*_, _-_, _<_, _≤_}
-use native.Mathlib.Nat.{mul-le-mul-right, suc-mul}
-use native.Mathlib.Numerals.{add-one}
 use native.Mathlib.Omega.{arith}
 use native.Mathlib.Decide.{ℕ-discrete}
 use lib.ListN.{getD, length, set, length-set}
-use lib.Seq.{getD-set-same, getD-set-other}
+use lib.Seq.{getD-set-same}
 use Rattle.marks.proofs.Laws.{row-fits}
-use Rattle.refine.proofs.Lists.{below-set, set-other}
-use Rattle.minimise.specs.Compacting.{IsNumbered, IsState, IsNameable, IsMoved, IsCompacted}
+use Rattle.marks.proofs.Lists.{below-set, set-other}
+use Rattle.minimise.specs.Compacting.{IsNumbered, IsState, IsMoved, IsCompacted}
 
 -- numbering
 

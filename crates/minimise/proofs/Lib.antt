@@ -1,5 +1,3 @@
-pub mod Loops
-pub mod Checking
 pub mod Compacting
 pub mod Analysis
 pub mod Renumbering

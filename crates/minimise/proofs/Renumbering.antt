@@ -1,27 +1,24 @@
 -- The classes in the order of their first rows are the states in the order in which they are first met. The graph's nodes are
 -- numbered as they are first met, so the place that first meets the first row of a class is in the first row of its own class:
 -- an earlier row of that class would have met the class before. And no earlier place leads to the class.
-use mathlib.Core.Path.{_≡_, refl, sym, ap, subst, _∙_}
-use mathlib.Core.Logic.{_⊎_, inl, inr, _≢_}
-use mathlib.Core.Bool.{Bool}
+use mathlib.Core.Path.{_≡_, sym, ap, _∙_}
+use mathlib.Core.Logic.{inl, inr, _≢_}
 use mathlib.Core.List.{List}
-use Prim.Native.Nat.{ℕ, zero, suc, _+_, _*_, _-_, _<_, _≤_}
+use Prim.Native.Nat.{ℕ, suc, _-_, _<_}
 use native.Mathlib.Omega.{arith}
 use native.Mathlib.Decide.{ℕ-discrete, decLt}
 use lib.Dec.{T}
 use lib.ListN.{getD, length}
-use Rattle.automaton.specs.Table.{no-state, Before, FirstMet, IsFlag}
-use Rattle.automaton.specs.Stored.{entry-at, final-at}
-use Rattle.automaton.specs.Graph.{Graph, Member, IsNodeEntry, IsNumbering}
-use Rattle.automaton.specs.Fixpoints.{IsLiveSet, IsPartition}
-use Rattle.automaton.proofs.Flags.{flag-transfer}
+use Rattle.automaton.specs.Table.{noState, Before, FirstMet, IsFlag}
+use Rattle.automaton.specs.Stored.{entryAt, finalAt}
+use Rattle.automaton.specs.Graph.{Member, IsNodeEntry, IsNumbering}
 use Rattle.marks.specs.Marks.{Marked}
 use Rattle.marks.proofs.Laws.{marked-inside}
-use Rattle.refine.specs.Classes.{marked, IsNamed}
-use Rattle.refine.proofs.Refinement.{marked-test, test-marked}
-use Rattle.minimise.specs.StoredGraph.{IsStoredGraph, stored-graph}
-use Rattle.minimise.specs.Sets.{IsSet}
-use Rattle.minimise.specs.Compacting.{IsNumbered, IsState, IsNameable, IsCompacted}
+use Rattle.marks.specs.Tests.{isMarked}
+use Rattle.refine.specs.Classes.{IsNamed}
+use Rattle.marks.proofs.Tests.{marked-test, test-marked}
+use Rattle.stored_graph.specs.StoredGraph.{IsStoredGraph, storedGraph}
+use Rattle.minimise.specs.Compacting.{IsNumbered, IsCompacted}
 use Rattle.minimise.proofs.Compacting.{first-least}
 
 -- the numbers of first rows, compared
@@ -45,8 +42,8 @@ module _ {class number first : List ℕ} {r n : ℕ} (N : IsNumbered class numbe
 
 module _ {entries flags : List ℕ} {letters rows : ℕ} (g : IsStoredGraph entries flags letters rows) {live finals class number first entries′ finals′ : List ℕ} {n : ℕ}
     (len : length live ≡ rows) (start-lives : Marked live 0) (named : IsNamed live class)
-    (closed : (s a : ℕ) → s < rows → a < letters → Marked live (entry-at letters entries s a) → Marked live s)
-    (steps : (s t a : ℕ) → Marked live s → Marked live t → getD class s 0 ≡ getD class t 0 → a < letters → getD class (entry-at letters entries s a) 0 ≡ getD class (entry-at letters entries t a) 0)
+    (closed : (s a : ℕ) → s < rows → a < letters → Marked live (entryAt letters entries s a) → Marked live s)
+    (steps : (s t a : ℕ) → Marked live s → Marked live t → getD class s 0 ≡ getD class t 0 → a < letters → getD class (entryAt letters entries s a) 0 ≡ getD class (entryAt letters entries t a) 0)
     (N : IsNumbered class number first rows n) (K : IsCompacted letters class number first entries finals entries′ finals′ n) where
   -- rows with a class are live, and lie among the rows
 
@@ -56,7 +53,7 @@ module _ {entries flags : List ℕ} {letters rows : ℕ} (g : IsStoredGraph entr
   live-inside : (s : ℕ) → Marked live s → s < rows
   live-inside s m = omega (arith, marked-inside live s m)
 
-  member : (s : ℕ) → Marked live s → Member (stored-graph g) (marked live) s
+  member : (s : ℕ) → Marked live s → Member (storedGraph g) (isMarked live) s
   member s m = record { inside = live-inside s m; holds = marked-test live s m }
 
   -- the first row of the class of a live row
@@ -90,20 +87,20 @@ module _ {entries flags : List ℕ} {letters rows : ℕ} (g : IsStoredGraph entr
 
   -- one entry
 
-  entry-live : (j a : ℕ) → j < n → a < letters → Marked live (entry-at letters entries (getD first j 0) a) → entry-at letters entries′ j a ≡ state (entry-at letters entries (getD first j 0) a)
+  entry-live : (j a : ℕ) → j < n → a < letters → Marked live (entryAt letters entries (getD first j 0) a) → entryAt letters entries′ j a ≡ state (entryAt letters entries (getD first j 0) a)
   unfolding state name
-  entry-live j a hj ha m = K .rows j a hj ha .some (named .some (entry-at letters entries (getD first j 0) a) m)
+  entry-live j a hj ha m = K .rows j a hj ha .some (named .some (entryAt letters entries (getD first j 0) a) m)
 
-  entry-dead : (j a : ℕ) → j < n → a < letters → ¬ Marked live (entry-at letters entries (getD first j 0) a) → entry-at letters entries′ j a ≡ no-state
-  entry-dead j a hj ha m = K .rows j a hj ha .none (named .none (entry-at letters entries (getD first j 0) a) m)
+  entry-dead : (j a : ℕ) → j < n → a < letters → ¬ Marked live (entryAt letters entries (getD first j 0) a) → entryAt letters entries′ j a ≡ noState
+  entry-dead j a hj ha m = K .rows j a hj ha .none (named .none (entryAt letters entries (getD first j 0) a) m)
 
-  node-entry : (j a : ℕ) → j < n → a < letters → Dec (Marked live (entry-at letters entries (getD first j 0) a))
-      → IsNodeEntry (stored-graph g) (marked live) (λ s. getD class s 0) n (λ j. getD first j 0) (entry-at letters entries (getD first j 0) a) (entry-at letters entries′ j a)
+  node-entry : (j a : ℕ) → j < n → a < letters → Dec (Marked live (entryAt letters entries (getD first j 0) a))
+      → IsNodeEntry (storedGraph g) (isMarked live) (λ s. getD class s 0) n (λ j. getD first j 0) (entryAt letters entries (getD first j 0) a) (entryAt letters entries′ j a)
   unfolding name
   node-entry j a hj ha (yes m) =
-      let u = entry-at letters entries (getD first j 0) a in
+      let u = entryAt letters entries (getD first j 0) a in
       rw (entry-live j a hj ha m) (inr (state-inside u m, member u m, sym (named .name u m) ∙ ap (λ x. getD class x 0) (sym (state-first u m))))
-  node-entry j a hj ha (no m) = inl (entry-dead j a hj ha m, λ q. m (test-marked live (entry-at letters entries (getD first j 0) a) (q .holds)))
+  node-entry j a hj ha (no m) = inl (entry-dead j a hj ha m, λ q. m (test-marked live (entryAt letters entries (getD first j 0) a) (q .holds)))
 
   -- first meeting
 
@@ -115,7 +112,7 @@ module _ {entries flags : List ℕ} {letters rows : ℕ} (g : IsStoredGraph entr
     unfolding x
     x-lives = node-lives j hj
 
-    f : FirstMet letters (entry-at letters entries) x
+    f : FirstMet letters (entryAt letters entries) x
     unfolding x
     f = g .first-met x (omega (arith, first-least N j hj)) (N .inside j hj)
 
@@ -128,8 +125,8 @@ module _ {entries flags : List ℕ} {letters rows : ℕ} (g : IsStoredGraph entr
     p-lives = closed (f .state) (f .letter) p-inside (f .is-letter) (rw (f .holds) x-lives)
 
     -- what an earlier place leads to comes before x
-    earlier-target : (i a : ℕ) → a < letters → Before i a (f .state) (f .letter) → Marked live (entry-at letters entries i a) → entry-at letters entries i a < x
-    earlier-target i a ha b m = f .before i a ha b λ e. omega (arith, live-inside (entry-at letters entries i a) m, g .few-rows)
+    earlier-target : (i a : ℕ) → a < letters → Before i a (f .state) (f .letter) → Marked live (entryAt letters entries i a) → entryAt letters entries i a < x
+    earlier-target i a ha b m = f .before i a ha b λ e. omega (arith, live-inside (entryAt letters entries i a) m, g .few-rows)
 
     p-own : getD class (f .state) 0 ≡ suc (f .state)
     unfolding name x
@@ -141,7 +138,7 @@ module _ {entries flags : List ℕ} {letters rows : ℕ} (g : IsStoredGraph entr
             let q = name p in
             let lt : q < p = omega (arith, named .low p, named .some p p-lives) in
             let ql : Marked live q = class-lives q (omega (arith, name-own p p-lives)) in
-            let u = entry-at letters entries q (f .letter) in
+            let u = entryAt letters entries q (f .letter) in
             let e : getD class u 0 ≡ getD class x 0 = steps q p (f .letter) ql p-lives (named .name p p-lives) (f .is-letter) ∙ ap (λ s. getD class s 0) (f .holds) in
             let ul : Marked live u = class-lives u (omega (arith, named .some x x-lives)) in
             omega (arith, earlier-target q (f .letter) (f .is-letter) (inl lt) ul, named .low u, N .own j hj)
@@ -176,10 +173,10 @@ module _ {entries flags : List ℕ} {letters rows : ℕ} (g : IsStoredGraph entr
         let e : getD class x 0 - 1 ≡ x = omega (arith, N .own j hj) in
         first-injective N (getD number (getD class x 0 - 1) 0) j (state-inside x x-lives) hj (state-first x x-lives ∙ e)
 
-    here : entry-at letters entries (getD first place 0) (f .letter) ≡ x
-    here = ap (λ s. entry-at letters entries s (f .letter)) place-first ∙ f .holds
+    here : entryAt letters entries (getD first place 0) (f .letter) ≡ x
+    here = ap (λ s. entryAt letters entries s (f .letter)) place-first ∙ f .holds
 
-    pub first-met : FirstMet letters (entry-at letters entries′) j
+    pub first-met : FirstMet letters (entryAt letters entries′) j
     unfolding state name x
     first-met = record {
       state = place;
@@ -187,13 +184,13 @@ module _ {entries flags : List ℕ} {letters rows : ℕ} (g : IsStoredGraph entr
       earlier-state = place-below;
       is-letter = f .is-letter;
       holds = entry-live place (f .letter) place-inside (f .is-letter) (rw here x-lives) ∙ (ap state here ∙ x-state);
-      before = λ i a ha b ne. before i a (before-inside i a b) ha b ne (ℕ-discrete (getD live (entry-at letters entries (getD first i 0) a) 0) 1);
+      before = λ i a ha b ne. before i a (before-inside i a b) ha b ne (ℕ-discrete (getD live (entryAt letters entries (getD first i 0) a) 0) 1);
     }
       where
-        before : (i a : ℕ) → i < n → a < letters → Before i a place (f .letter) → entry-at letters entries′ i a ≢ no-state → Dec (Marked live (entry-at letters entries (getD first i 0) a)) → entry-at letters entries′ i a < j
+        before : (i a : ℕ) → i < n → a < letters → Before i a place (f .letter) → entryAt letters entries′ i a ≢ noState → Dec (Marked live (entryAt letters entries (getD first i 0) a)) → entryAt letters entries′ i a < j
         before i a hi ha b ne (no m) = absurd (ne (entry-dead i a hi ha m))
         before i a hi ha b ne (yes m) =
-            let u = entry-at letters entries (getD first i 0) a in
+            let u = entryAt letters entries (getD first i 0) a in
             let lt : u < x = earlier-target (getD first i 0) a ha (before-from i a hi b) m in
             rw (entry-live i a hi ha m) (first-order N (state u) j (state-inside u m) hj (omega (arith, state-first u m, named .low u, named .some u m)))
 
@@ -204,8 +201,8 @@ module _ {entries flags : List ℕ} {letters rows : ℕ} (g : IsStoredGraph entr
   start-place : getD number 0 0 < n
   start-place = N .place 0 (g .some-row) start-own
 
-  pub renumbering : ((i : ℕ) → i < n → IsFlag (T (marked finals (getD first i 0))) (getD finals (getD first i 0) 0))
-      → IsNumbering (stored-graph g) (marked live) (marked finals) (λ s. getD class s 0) 0 n (λ j. getD first j 0) (entry-at letters entries′) (final-at finals′)
+  pub renumbering : ((i : ℕ) → i < n → IsFlag (T (isMarked finals (getD first i 0))) (getD finals (getD first i 0) 0))
+      → IsNumbering (storedGraph g) (isMarked live) (isMarked finals) (λ s. getD class s 0) 0 n (λ j. getD first j 0) (entryAt letters entries′) (finalAt finals′)
   renumbering flag = record {
     room = omega (arith, N .most, g .few-rows);
     some-state = omega (arith, start-place);
@@ -213,7 +210,7 @@ module _ {entries flags : List ℕ} {letters rows : ℕ} (g : IsStoredGraph entr
     lives = λ i hi. member (getD first i 0) (node-lives i hi);
     distinct = λ i j hi hj e. first-injective N i j hi hj (omega (arith, N .own i hi, N .own j hj, e));
     first-met = first-met;
-    entries = λ i a hi ha. node-entry i a hi ha (ℕ-discrete (getD live (entry-at letters entries (getD first i 0) a) 0) 1);
+    entries = λ i a hi ha. node-entry i a hi ha (ℕ-discrete (getD live (entryAt letters entries (getD first i 0) a) 0) 1);
     finals = λ i hi. rw (K .bytes i hi) (flag i hi);
   }
     where

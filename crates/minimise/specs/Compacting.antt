@@ -3,7 +3,7 @@ use mathlib.Core.Path.{_≡_}
 use mathlib.Core.List.{List}
 use Prim.Native.Nat.{ℕ, suc, _+_, _*_, _-_, _<_, _≤_}
 use lib.ListN.{getD, length}
-use Rattle.automaton.specs.Table.{no-state}
+use Rattle.automaton.specs.Table.{noState}
 
 -- The first rows of the classes among the first r rows, in rising order, are `first` 0 to n - 1; `number` has the place of each.
 pub record IsNumbered (class number first : List ℕ) (r n : ℕ) : Type 0 where
@@ -16,7 +16,7 @@ pub record IsNumbered (class number first : List ℕ) (r n : ℕ) : Type 0 where
 
 -- v is the state of the row that an entry names: none if the row has no class
 pub record IsState (class number : List ℕ) (entry v : ℕ) : Type 0 where
-  pub none : getD class entry 0 ≡ 0 → v ≡ no-state
+  pub none : getD class entry 0 ≡ 0 → v ≡ noState
   pub some : 0 < getD class entry 0 → v ≡ getD number (getD class entry 0 - 1) 0
 
 -- each class has a number that is no larger than an entry can be

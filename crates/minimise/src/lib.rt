@@ -1,202 +1,19 @@
 // Turns a graph in lent tables into the one table of its language. Each entry of a graph is a successor or 65,535, each flag 1 or 0;
 // the work tables have one number a row.
 ghost use mathlib.Core.Path.{_≡_};
-ghost use mathlib.Core.Logic.{_⊎_};
 ghost use mathlib.Core.List.{[], _∷_};
-ghost use Prim.Native.Nat.{ℕ, suc, _+_, _*_, _<_, _≤_};
-ghost use lib.ListN.{length, getD};
+ghost use Prim.Native.Nat.{_+_, _*_, _<_, _≤_};
+ghost use lib.ListN.{length};
 ghost use Rattle.marks.specs.Answers.{Says};
-ghost use Rattle.marks.specs.Marks.{Marked};
-ghost use Rattle.minimise.specs.StoredGraph.{IsStoredGraph};
-ghost use Rattle.minimise.specs.Outcome.{Tables, HasRoom, MinimiseOutcome};
-ghost use Rattle.minimise.specs.Checking.{HasSizes, AreBits, Checked, CheckedTo};
-ghost use Rattle.minimise.specs.Sets.{IsFlagged, FindsLive, IsSet, LiveWithout, FindsFinals};
+ghost use Rattle.minimise.specs.Outcome.{MinimiseOutcome};
 ghost use Rattle.minimise.specs.Compacting.{IsNumbered, IsState, IsNameable, IsMoved, IsCompacted};
-ghost use Rattle.minimise.specs.Reducing.{Reduced, Ran};
+ghost use Rattle.minimise.specs.Reducing.{Judged, HasWord, Tabled, Ran};
 
 // The answer: 0 and the number of states, or a refusal and 0. Laid out as in C, so that an exported function can give it back.
 #[repr(C)]
 pub struct Minimised {
     pub refusal: u32,
     pub states: u32,
-}
-
-// Whether each flag of the rows is 1 or 0.
-fn are_bits(flags: &[u8], rows: usize) -> bool
-    requires { ⌜ rows ≤ length (now flags) ⌝ }
-    ensures { λ r. ⌜ Says r (AreBits (now (flags .entry)) rows) ⌝ }
-{
-    let mut index = 0;
-    while index < rows {
-        if flags[index] > 1 {
-            return false;
-        }
-        index += 1;
-    }
-    true
-}
-
-// Checks the entry of one row and letter, where `known` rows were met before. Gives how many are met after it, or 0 if the entry
-// names no row, breaks the order or lets the flag fall.
-fn check_entry(
-    entries: &[u16],
-    flags: &[u8],
-    letters: usize,
-    rows: usize,
-    row: usize,
-    letter: usize,
-    known: usize,
-) -> usize
-    requires { ⌜ HasSizes (now entries) (now flags) letters rows ⌝ }
-    requires { ⌜ AreBits (now flags) rows ⌝ }
-    requires { ⌜ (row < rows) × (letter < letters) × (row < known) ⌝ }
-    requires { ⌜ Checked (now entries) (now flags) letters rows row letter known ⌝ }
-    ensures { λ r. ⌜ CheckedTo (now (entries .entry)) (now (flags .entry)) letters rows row (suc letter) r ⌝ }
-{
-    let flag = flags[row];
-    let entry = entries[row * letters + letter];
-    if entry == 65535 {
-        return known;
-    }
-    let target = entry as usize;
-    if target > known {
-        return 0;
-    }
-    if target >= rows {
-        return 0;
-    }
-    if flags[target] < flag {
-        return 0;
-    }
-    if target == known { known + 1 } else { known }
-}
-
-// Checks the entries of one row, where `known` rows were met before it. Gives how many are met after it, or 0 if the tables are
-// no graph.
-fn check_row(
-    entries: &[u16],
-    flags: &[u8],
-    letters: usize,
-    rows: usize,
-    row: usize,
-    known: usize,
-) -> usize
-    requires { ⌜ HasSizes (now entries) (now flags) letters rows ⌝ }
-    requires { ⌜ AreBits (now flags) rows ⌝ }
-    requires { ⌜ (row < rows) × (row < known) ⌝ }
-    requires { ⌜ Checked (now entries) (now flags) letters rows row 0 known ⌝ }
-    ensures { λ r. ⌜ CheckedTo (now (entries .entry)) (now (flags .entry)) letters rows row letters r ⌝ }
-{
-    let mut met = known;
-    let mut letter = 0;
-    while letter < letters {
-        met = check_entry(entries, flags, letters, rows, row, letter, met);
-        if met == 0 {
-            return 0;
-        }
-        letter += 1;
-    }
-    met
-}
-
-// Whether the tables hold a graph: the flags are bits, and every row is met before its entries are checked.
-fn is_graph(entries: &[u16], flags: &[u8], letters: usize, rows: usize) -> bool
-    requires { ⌜ HasSizes (now entries) (now flags) letters rows ⌝ }
-    ensures { λ r. ⌜ Says r (IsStoredGraph (now (entries .entry)) (now (flags .entry)) letters rows) ⌝ }
-{
-    if !are_bits(flags, rows) {
-        return false;
-    }
-    let mut met = 1;
-    let mut row = 0;
-    while row < rows {
-        if row >= met {
-            return false;
-        }
-        met = check_row(entries, flags, letters, rows, row, met);
-        if met == 0 {
-            return false;
-        }
-        row += 1;
-    }
-    if met != rows {
-        return false;
-    }
-    true
-}
-
-// Clears the mark of each row whose flag is not 1.
-fn keep_flagged(flags: &[u8], marks: &mut [u32])
-    requires { ⌜ length (now marks) ≤ length (now flags) ⌝ }
-    ensures { λ r. ⌜ IsFlagged (now (flags .entry)) (now (marks .entry)) (now (marks .exit)) ⌝ }
-{
-    let mut row = 0;
-    while row < marks.len() {
-        let at = row;
-        row += 1;
-        if flags[at] != 1 {
-            marks[at] = 0;
-        }
-    }
-}
-
-// Marks the live rows.
-fn find_live(entries: &[u16], flags: &[u8], letters: usize, live: &mut [u32])
-    requires { ⌜ (length (now live) * letters ≤ length (now entries)) × (length (now live) ≤ length (now flags)) ⌝ }
-    ensures { λ r. ⌜ FindsLive letters (now (entries .entry)) (now (flags .entry)) (now (live .exit)) ⌝ }
-{
-    marks::fill(live, 1);
-    marks::prune(entries, letters, live);
-    keep_flagged(flags, live);
-    marks::grow(entries, letters, live);
-}
-
-// Marks the live rows that are not flagged, and clears the other rows.
-fn mark_pending(live: &[u32], flags: &[u8], pending: &mut [u32])
-    requires { ⌜ (length (now live) ≤ length (now flags)) × (length (now pending) ≡ length (now live)) ⌝ }
-    ensures { λ r. ⌜ IsSet (now (pending .exit)) (length (now (live .entry))) (LiveWithout (now (live .entry)) (now (flags .entry))) ⌝ }
-{
-    let mut row = 0;
-    while row < live.len() {
-        let at = row;
-        row += 1;
-        if live[at] != 1 {
-            pending[at] = 0;
-        } else if flags[at] == 1 {
-            pending[at] = 0;
-        } else {
-            pending[at] = 1;
-        }
-    }
-}
-
-// Sets the byte of each row: 1 if it is live and not marked in `endless`, and else 0.
-fn set_finals(live: &[u32], endless: &[u32], finals: &mut [u8])
-    requires { ⌜ (length (now endless) ≡ length (now live)) × (length (now live) ≤ length (now finals)) ⌝ }
-    ensures { λ r. ⌜ IsSet (now (finals .exit)) (length (now (live .entry))) (LiveWithout (now (live .entry)) (now (endless .entry))) ⌝ }
-{
-    let mut row = 0;
-    while row < live.len() {
-        let at = row;
-        row += 1;
-        if live[at] != 1 {
-            finals[at] = 0;
-        } else if endless[at] == 1 {
-            finals[at] = 0;
-        } else {
-            finals[at] = 1;
-        }
-    }
-}
-
-// Puts the final bytes of the rows in place of their flags. `pending` is work room.
-fn find_finals(entries: &[u16], letters: usize, live: &[u32], pending: &mut [u32], flags: &mut [u8])
-    requires { ⌜ (length (now live) * letters ≤ length (now entries)) × (length (now live) ≤ length (now flags)) × (length (now pending) ≡ length (now live)) ⌝ }
-    ensures { λ r. ⌜ FindsFinals letters (now (entries .entry)) (now (live .entry)) (now (flags .entry)) (now (flags .exit)) ⌝ }
-{
-    mark_pending(live, flags, pending);
-    marks::prune(entries, letters, pending);
-    set_finals(live, pending, flags);
 }
 
 // Numbers the classes in the order of their first rows: `number` has the number of each first row, `first` the first row of each
@@ -224,7 +41,7 @@ fn state_of(class: &[u32], number: &[u32], entry: u16) -> u16
     requires { ⌜ IsNameable (now class) (now number) ⌝ }
     ensures { λ r. ⌜ IsState (now (class .entry)) (now (number .entry)) entry r ⌝ }
 {
-    let c = refine::class_at(class, entry) as usize;
+    let c = marks::number_at(class, entry) as usize;
     if c == 0 { 65535 } else { number[c - 1] as u16 }
 }
 
@@ -280,36 +97,35 @@ fn move_rows(
     }
 }
 
-// The passes, on work tables of one length, which is the number of rows. They leave the table in the first rows.
-fn reduce(
+// The refusal: 11 if the tables hold no graph of as many rows as `live` has, 9 if the graph's language has no word. Or 0; then the live
+// rows are marked.
+fn find_refusal(entries: &[u16], flags: &[u8], letters: usize, live: &mut [u32]) -> u32
+    ensures { λ r. ⌜ Judged (now (entries .entry)) (now (flags .entry)) letters (length (now (live .entry))) r (now (live .exit)) ⌝ }
+{
+    if !stored_graph::is_graph(entries, flags, letters, live.len()) {
+        return 11;
+    }
+    live_rows::find_live(entries, flags, letters, live);
+    if live[0] == 1 { 0 } else { 9 }
+}
+
+// Puts the table into the first rows, from a graph whose live rows are marked, on work tables of as many rows. Gives the number of states.
+fn build_table(
     entries: &mut [u16],
     flags: &mut [u8],
     letters: usize,
-    live: &mut [u32],
+    live: &[u32],
     class: &mut [u32],
     next: &mut [u32],
     heads: &mut [u32],
     links: &mut [u32],
     shared: &mut [u32],
-) -> Minimised
-    requires { ⌜ HasSizes (now entries) (now flags) letters (length (now live)) ⌝ }
+) -> usize
+    requires { ⌜ HasWord (now entries) (now flags) letters (length (now live)) (now live) ⌝ }
     requires { ⌜ (length (now class) ≡ length (now live)) × (length (now next) ≡ length (now live)) × (length (now heads) ≡ length (now live)) × (length (now links) ≡ length (now live)) × (length (now shared) ≡ length (now live)) ⌝ }
-    ensures { λ r. ⌜ Reduced (now (entries .entry)) (now (flags .entry)) letters (length (now (live .entry))) (r .refusal) (r .states) (now (entries .exit)) (now (flags .exit)) ⌝ }
+    ensures { λ r. ⌜ Tabled (now (entries .entry)) (now (flags .entry)) letters (length (now (live .entry))) r (now (entries .exit)) (now (flags .exit)) ⌝ }
 {
-    if !is_graph(entries, flags, letters, live.len()) {
-        return Minimised {
-            refusal: 11,
-            states: 0,
-        };
-    }
-    find_live(entries, flags, letters, live);
-    if live[0] != 1 {
-        return Minimised {
-            refusal: 9,
-            states: 0,
-        };
-    }
-    find_finals(entries, letters, live, next, flags);
+    live_rows::find_finals(entries, letters, live, next, flags);
     refine::refine(
         entries,
         letters,
@@ -323,29 +139,7 @@ fn reduce(
     );
     let count = number_classes(class, next, heads);
     move_rows(entries, flags, letters, class, next, heads, count);
-    Minimised {
-        refusal: 0,
-        states: count as u32,
-    }
-}
-
-// Whether there are letters and rows, at most 4,096 rows, and room for them in tables of `entries` and `flags` numbers.
-fn has_sizes(letters: usize, rows: usize, entries: usize, flags: usize) -> bool
-    ensures { λ r. ⌜ Says r ((0 < letters) × (0 < rows) × (rows ≤ 4096) × (rows * letters ≤ entries) × (rows ≤ flags)) ⌝ }
-{
-    if letters == 0 {
-        return false;
-    }
-    if rows == 0 {
-        return false;
-    }
-    if rows > 4096 {
-        return false;
-    }
-    if rows > flags {
-        return false;
-    }
-    marks::rows_fit(rows, letters, entries)
+    count
 }
 
 // Whether six tables have room for `rows` rows.
@@ -388,12 +182,6 @@ fn run(
 ) -> Minimised
     ensures { λ r. ⌜ Ran (now (entries .entry)) (now (flags .entry)) letters rows (now (live .entry) ∷ (now (class .entry) ∷ (now (next .entry) ∷ (now (heads .entry) ∷ (now (links .entry) ∷ (now (shared .entry) ∷ [])))))) (r .refusal) (r .states) (now (entries .exit)) (now (flags .exit)) ⌝ }
 {
-    if !has_sizes(letters, rows, entries.len(), flags.len()) {
-        return Minimised {
-            refusal: 11,
-            states: 0,
-        };
-    }
     if !have_room(
         rows,
         live.len(),
@@ -408,17 +196,28 @@ fn run(
             states: 0,
         };
     }
-    reduce(
+    let refusal = find_refusal(entries, flags, letters, &mut live[..rows]);
+    if refusal != 0 {
+        return Minimised {
+            refusal: refusal,
+            states: 0,
+        };
+    }
+    let states = build_table(
         entries,
         flags,
         letters,
-        &mut live[..rows],
+        &live[..rows],
         &mut class[..rows],
         &mut next[..rows],
         &mut heads[..rows],
         &mut links[..rows],
         &mut shared[..rows],
-    )
+    );
+    Minimised {
+        refusal: 0,
+        states: states as u32,
+    }
 }
 
 // Turns a graph into the table of its language, in place: refusal 0 and the number of states. Everything beyond the used rows and
@@ -451,13 +250,17 @@ pub fn minimise(
         shared,
     );
     let states = answer.states as usize;
-    marks::clear_entries(entries, states * letters);
-    marks::clear_bytes(flags, states);
-    marks::fill(live, 0);
-    marks::fill(class, 0);
-    marks::fill(next, 0);
-    marks::fill(heads, 0);
-    marks::fill(links, 0);
-    marks::fill(shared, 0);
+    clearing::clear_tables(
+        entries,
+        states * letters,
+        flags,
+        states,
+        live,
+        class,
+        next,
+        heads,
+        links,
+        shared,
+    );
     answer
 }

@@ -1,6 +1,6 @@
 // The entry by which the benchmark's C program calls `minimise`. A slice is a pointer and a length there.
 ghost use mathlib.Core.List.{[], _∷_};
-ghost use Rattle.minimise.specs.Outcome.{Tables, MinimiseOutcome};
+ghost use Rattle.minimise.specs.Outcome.{MinimiseOutcome};
 use minimise::Minimised;
 
 #[no_mangle]

@@ -3,22 +3,23 @@ use Prim.Native.Nat.{ℕ, zero, suc, _+_, _-_, _≤_, _<_, min}
 use native.Mathlib.Omega.{arith}
 use native.Mathlib.Nat.{not-suc-le-zero}
 use mathlib.Core.Path.{_≡_, sym, _∙_, ap, subst}
-use mathlib.Core.Bool.{true, false, not}
+use mathlib.Core.Bool.{true, false}
 use mathlib.Core.List.{List, [], _∷_, _++_}
 use lib.Dec.{leb→le}
 use lib.IntN.{ℤ, pos, negsuc, negℤ}
 use lib.ListN.{length, getD, length-append}
 use lib.Signed.{_≤ℤ_, ≤ℤ-refl}
-use Rattle.meaning.specs.Value.{Value, truth, Streams}
-use Rattle.meaning.specs.Arithmetic.{Interval, Within, Arithmetic, LawfulArithmetic}
+use Rattle.basics.proofs.Lists.{All-append, member-All}
+use Rattle.basics.specs.Lists.{All}
+use Rattle.meaning.specs.Value.{Value, Streams}
+use Rattle.meaning.specs.Arithmetic.{Interval, Within}
 use Rattle.meaning.specs.Expression.{Expression, integer, name, first, next, negation, binary, conditional, fby, Constraint, leftSide, rightSide, Stream, Sheet, rangeOf, value}
 use Rattle.meaning.specs.Interval.{interval, subexpressions, NamesBelow}
 use Rattle.meaning.specs.Window.{reach, back, firsts}
 use Rattle.meaning.specs.Evaluation.{windowValue}
-use Rattle.meaning.proofs.Arithmetic.{bit-within, hull-right, hull-cond, operator-within}
+use Rattle.meaning.proofs.Arithmetic.{negated-within, hull-right, hull-chosen, operator-within}
 use Rattle.meaning.proofs.Order.{≤ℤ-trans}
 use Rattle.meaning.proofs.Interval.{interval-sound}
-use Rattle.meaning.proofs.Lists.{All, All-append, member-All}
 use Rattle.meaning.proofs.Facts.{getD-member}
 use Rattle.meaning.proofs.Window.{value-near}
 use Rattle.sheet.specs.Refusal.{magnitudeBound, onLeft, onRight, InBounds}
@@ -41,13 +42,13 @@ inBounds-small {I} {x} b h = between-small x (≤ℤ-trans (b .above) (h .above)
 
 -- ---- a course of values within the streams' ranges
 
-module _ {A : Arithmetic} (lawful : LawfulArithmetic A) (ss : List Stream) where
+module _ (ss : List Stream) where
   -- Every subexpression's interval is within the bound.
   abbrev pub AllInBounds : Expression → Type 0
-  AllInBounds e = All (λ f. InBounds (interval A ss f)) (subexpressions e)
+  AllInBounds e = All (λ f. InBounds (interval ss f)) (subexpressions e)
 
   module _ (w : Streams) (ranged : (k i : ℕ) → k < length ss → Within (rangeOf ss k) (w k i)) where
-    pub whole-met : (e : Expression) (i : ℕ) → NamesBelow (length ss) e → AllInBounds e → Met A w e i
+    pub whole-met : (e : Expression) (i : ℕ) → NamesBelow (length ss) e → AllInBounds e → Met w e i
     unfolding subexpressions interval
     whole-met (integer z) i n b = inBounds-small {I = record { low = z; high = z }} (b .0) (record { above = ≤ℤ-refl z; below = ≤ℤ-refl z })
     whole-met (name k) i n b = inBounds-small {I = rangeOf ss k} (b .0) (ranged k i n)
@@ -55,19 +56,19 @@ module _ {A : Arithmetic} (lawful : LawfulArithmetic A) (ss : List Stream) where
     whole-met (next e) i n b = whole-met e (suc i) n (b .1)
     whole-met (negation e) i n b = whole-met e i n (b .1)
     whole-met (binary o x y) i n b =
-        let p = All-append (λ f. InBounds (interval A ss f)) (subexpressions x) (subexpressions y) .0 (b .1) in
-        (whole-met x i (n .0) (p .0), whole-met y i (n .1) (p .1), inBounds-small {I = interval A ss (binary o x y)} (b .0) (interval-sound lawful ss w ranged (binary o x y) n i))
+        let p = All-append (λ f. InBounds (interval ss f)) (subexpressions x) (subexpressions y) .0 (b .1) in
+        (whole-met x i (n .0) (p .0), whole-met y i (n .1) (p .1), inBounds-small {I = interval ss (binary o x y)} (b .0) (interval-sound ss w ranged (binary o x y) n i))
     whole-met (conditional c x y) i n b =
-        let p = All-append (λ f. InBounds (interval A ss f)) (subexpressions c) (subexpressions x ++ subexpressions y) .0 (b .1) in
-        let q = All-append (λ f. InBounds (interval A ss f)) (subexpressions x) (subexpressions y) .0 (p .1) in
+        let p = All-append (λ f. InBounds (interval ss f)) (subexpressions c) (subexpressions x ++ subexpressions y) .0 (b .1) in
+        let q = All-append (λ f. InBounds (interval ss f)) (subexpressions x) (subexpressions y) .0 (p .1) in
         (whole-met c i (n .0) (p .0), whole-met x i (n .1) (q .0), whole-met y i (n .2) (q .1))
-    whole-met (fby x y) zero n b = whole-met x 0 (n .0) (All-append (λ f. InBounds (interval A ss f)) (subexpressions x) (subexpressions y) .0 (b .1) .0)
-    whole-met (fby x y) (suc i) n b = whole-met y i (n .1) (All-append (λ f. InBounds (interval A ss f)) (subexpressions x) (subexpressions y) .0 (b .1) .1)
+    whole-met (fby x y) zero n b = whole-met x 0 (n .0) (All-append (λ f. InBounds (interval ss f)) (subexpressions x) (subexpressions y) .0 (b .1) .0)
+    whole-met (fby x y) (suc i) n b = whole-met y i (n .1) (All-append (λ f. InBounds (interval ss f)) (subexpressions x) (subexpressions y) .0 (b .1) .1)
 
   -- The stored values from the number f on lie in the intervals of what the firsts stand before.
   abbrev pub FirstsWithin : List Value → ℕ → List Expression → Type 0
   FirstsWithin stored f [] = Unit
-  FirstsWithin stored f (e ∷ es) = Within (interval A ss e) (getD stored f (pos 0)) × FirstsWithin stored (suc f) es
+  FirstsWithin stored f (e ∷ es) = Within (interval ss e) (getD stored f (pos 0)) × FirstsWithin stored (suc f) es
 
   firstsWithin-append : (stored : List Value) (f : ℕ) (xs ys : List Expression) → FirstsWithin stored f (xs ++ ys) → FirstsWithin stored f xs × FirstsWithin stored (f + length xs) ys
   firstsWithin-append stored f [] ys h = (tt, subst (λ k. FirstsWithin stored k ys) (omega arith) h)
@@ -77,45 +78,45 @@ module _ {A : Arithmetic} (lawful : LawfulArithmetic A) (ss : List Stream) where
 
   -- In a window whose first `count` letters are within the ranges, from the place `back` on.
   module _ (w : Streams) (stored : List Value) (count : ℕ) (ranged : (k i : ℕ) → k < length ss → i < count → Within (rangeOf ss k) (w k i)) where
-    window-within : (e : Expression) (f i : ℕ) → NamesBelow (length ss) e → back e ≤ i → i + reach e < count → FirstsWithin stored f (firsts e) → Within (interval A ss e) (windowValue A w stored f e i)
+    window-within : (e : Expression) (f i : ℕ) → NamesBelow (length ss) e → back e ≤ i → i + reach e < count → FirstsWithin stored f (firsts e) → Within (interval ss e) (windowValue w stored f e i)
     unfolding interval windowValue back reach firsts
     window-within (integer z) f i n b r s = record { above = ≤ℤ-refl z; below = ≤ℤ-refl z }
     window-within (name k) f i n b r s = ranged k i n (omega arith)
     window-within (first e) f i n b r s = s .0
     window-within (next e) f i n b r s = window-within e f (suc i) n (omega arith) (omega arith) s
-    window-within (negation e) f i n b r s = bit-within (not (truth (windowValue A w stored f e i)))
+    window-within (negation e) f i n b r s = negated-within (windowValue w stored f e i)
     window-within (binary o x y) f i n b r s =
         let p = firstsWithin-append stored f (firsts x) (firsts y) s in
-        operator-within lawful o (interval A ss x) (interval A ss y) (window-within x f i (n .0) (omega arith) (omega arith) (p .0))
+        operator-within o (interval ss x) (interval ss y) (window-within x f i (n .0) (omega arith) (omega arith) (p .0))
         (window-within y (f + length (firsts x)) i (n .1) (omega arith) (omega arith) (p .1))
     window-within (conditional c x y) f i n b r s =
         let p = firstsWithin-append stored f (firsts c) (firsts x ++ firsts y) s in
         let q = firstsWithin-append stored (f + length (firsts c)) (firsts x) (firsts y) (p .1) in
-        hull-cond (truth (windowValue A w stored f c i)) (interval A ss x) (interval A ss y)
+        hull-chosen (windowValue w stored f c i) (interval ss x) (interval ss y)
         (window-within x (f + length (firsts c)) i (n .1) (omega arith) (omega arith) (q .0))
         (window-within y (f + length (firsts c) + length (firsts x)) i (n .2) (omega arith) (omega arith) (q .1))
     window-within (fby x y) f zero n b r s = absurd (not-suc-le-zero b)
     window-within (fby x y) f (suc i) n b r s =
         let p = firstsWithin-append stored f (firsts x) (firsts y) s in
-        hull-right (interval A ss x) (interval A ss y) (window-within y (f + length (firsts x)) i (n .1) (omega arith) (omega arith) (p .1))
+        hull-right (interval ss x) (interval ss y) (window-within y (f + length (firsts x)) i (n .1) (omega arith) (omega arith) (p .1))
 
-    window-met : (e : Expression) (f i : ℕ) → NamesBelow (length ss) e → AllInBounds e → back e ≤ i → i + reach e < count → FirstsWithin stored f (firsts e) → WindowMet A w stored f e i
+    window-met : (e : Expression) (f i : ℕ) → NamesBelow (length ss) e → AllInBounds e → back e ≤ i → i + reach e < count → FirstsWithin stored f (firsts e) → WindowMet w stored f e i
     unfolding subexpressions interval back reach firsts
     window-met (integer z) f i n b k r s = inBounds-small {I = record { low = z; high = z }} (b .0) (record { above = ≤ℤ-refl z; below = ≤ℤ-refl z })
     window-met (name k) f i n b l r s = inBounds-small {I = rangeOf ss k} (b .0) (ranged k i n (omega arith))
-    window-met (first e) f i n b k r s = inBounds-small {I = interval A ss e} (b .0) (s .0)
+    window-met (first e) f i n b k r s = inBounds-small {I = interval ss e} (b .0) (s .0)
     window-met (next e) f i n b k r s = window-met e f (suc i) n (b .1) (omega arith) (omega arith) s
     window-met (negation e) f i n b k r s = window-met e f i n (b .1) k r s
     window-met (binary o x y) f i n b k r s =
-        let p = All-append (λ f. InBounds (interval A ss f)) (subexpressions x) (subexpressions y) .0 (b .1) in
+        let p = All-append (λ f. InBounds (interval ss f)) (subexpressions x) (subexpressions y) .0 (b .1) in
         let q = firstsWithin-append stored f (firsts x) (firsts y) s in (
           window-met x f i (n .0) (p .0) (omega arith) (omega arith) (q .0),
           window-met y (f + length (firsts x)) i (n .1) (p .1) (omega arith) (omega arith) (q .1),
-          inBounds-small {I = interval A ss (binary o x y)} (b .0) (window-within (binary o x y) f i n k r s),
+          inBounds-small {I = interval ss (binary o x y)} (b .0) (window-within (binary o x y) f i n k r s),
         )
     window-met (conditional c x y) f i n b k r s =
-        let p = All-append (λ f. InBounds (interval A ss f)) (subexpressions c) (subexpressions x ++ subexpressions y) .0 (b .1) in
-        let q = All-append (λ f. InBounds (interval A ss f)) (subexpressions x) (subexpressions y) .0 (p .1) in
+        let p = All-append (λ f. InBounds (interval ss f)) (subexpressions c) (subexpressions x ++ subexpressions y) .0 (b .1) in
+        let q = All-append (λ f. InBounds (interval ss f)) (subexpressions x) (subexpressions y) .0 (p .1) in
         let u = firstsWithin-append stored f (firsts c) (firsts x ++ firsts y) s in
         let v = firstsWithin-append stored (f + length (firsts c)) (firsts x) (firsts y) (u .1) in (
           window-met c f i (n .0) (p .0) (omega arith) (omega arith) (u .0),
@@ -124,7 +125,7 @@ module _ {A : Arithmetic} (lawful : LawfulArithmetic A) (ss : List Stream) where
         )
     window-met (fby x y) f zero n b k r s = absurd (not-suc-le-zero k)
     window-met (fby x y) f (suc i) n b k r s =
-        let p = All-append (λ f. InBounds (interval A ss f)) (subexpressions x) (subexpressions y) .0 (b .1) in
+        let p = All-append (λ f. InBounds (interval ss f)) (subexpressions x) (subexpressions y) .0 (b .1) in
         window-met y (f + length (firsts x)) i (n .1) (p .1) (omega arith) (omega arith) (firstsWithin-append stored f (firsts x) (firsts y) s .1)
 
 -- The course that stays at the last of `count` letters. Its values at their places are those of w.
@@ -149,16 +150,16 @@ pub data IsSide (cs : List Constraint) (c₀ : Constraint) (t₀ : StoredConstra
       → IsSide cs c₀ t₀ (rightSide (getD cs j c₀)) (getD (storedConstraints 0 0 cs) j t₀ .right) (firstsBefore 0 cs j + length (firsts (leftSide (getD cs j c₀))))
 
 -- What is known of such a side, whatever nodes stand behind the sheet's.
-record Known (A : Arithmetic) (s : Sheet) (behind : List Node) (e : Expression) (i f : ℕ) : Type 0 where
+record Known (s : Sheet) (behind : List Node) (e : Expression) (i f : ℕ) : Type 0 where
   start : ℕ
   stored : StoredAt (nodesOf (allNodes 0 0 (s .constraints) ++ behind)) start f e (suc i)
   inside : i < length (allNodes 0 0 (s .constraints) ++ behind)
   names : NamesBelow (length (s .streams)) e
-  bounds : All (λ f. InBounds (interval A (s .streams) f)) (subexpressions e)
+  bounds : All (λ f. InBounds (interval (s .streams) f)) (subexpressions e)
 
-known : {A : Arithmetic} {s : Sheet} (behind : List Node) (c₀ : Constraint) (t₀ : StoredConstraint) {e : Expression} {i f : ℕ} → Accepted A s → IsSide (s .constraints) c₀ t₀ e i f
-    → Known A s behind e i f
-known {A} {s} behind c₀ t₀ a (leftOf j b) =
+known : {s : Sheet} (behind : List Node) (c₀ : Constraint) (t₀ : StoredConstraint) {e : Expression} {i f : ℕ} → Accepted s → IsSide (s .constraints) c₀ t₀ e i f
+    → Known s behind e i f
+known {s} behind c₀ t₀ a (leftOf j b) =
     let m = getD-member (s .constraints) j c₀ b in
     let t = allNodes-stored (s .constraints) behind c₀ t₀ j b in
     record {
@@ -168,7 +169,7 @@ known {A} {s} behind c₀ t₀ a (leftOf j b) =
       names = a .namesKnown (getD (s .constraints) j c₀) m .left;
       bounds = member-All _ (subexpressions (leftSide (getD (s .constraints) j c₀))) (λ f n. a .intervalsInBounds f (onLeft m n));
     }
-known {A} {s} behind c₀ t₀ a (rightOf j b) =
+known {s} behind c₀ t₀ a (rightOf j b) =
     let m = getD-member (s .constraints) j c₀ b in
     let t = allNodes-stored (s .constraints) behind c₀ t₀ j b in
     record {
@@ -185,23 +186,23 @@ pub record Letters (ss : List Stream) (W : View) (w : Streams) : Type 0 where
   pub shows : Shows W w
   pub ranged : (k i : ℕ) → k < length ss → i < places W → Within (rangeOf ss k) (w k i)
 
-module _ {A : Arithmetic} (lawful : LawfulArithmetic A) (s : Sheet) (accepted : Accepted A s) (W : View) (w : Streams) (letters : Letters (s .streams) W w) (behind : List Node) (c₀ : Constraint) (t₀ : StoredConstraint) where
+module _ (s : Sheet) (accepted : Accepted s) (W : View) (w : Streams) (letters : Letters (s .streams) W w) (behind : List Node) (c₀ : Constraint) (t₀ : StoredConstraint) where
   -- In a whole record a side has its value, wherever the record has the letters that the side looks at.
   pub accepted-value : {e : Expression} {i f : ℕ} → IsSide (s .constraints) c₀ t₀ e i f → W .whole ≡ true → (p : ℕ) → p + reach e < places W
-      → nodeValue A (nodesOf (allNodes 0 0 (s .constraints) ++ behind)) W i p ≡ someValue (value A w e p)
+      → nodeValue (nodesOf (allNodes 0 0 (s .constraints) ++ behind)) W i p ≡ someValue (value w e p)
   accepted-value {e} {i} {f} side whole p r =
       let k = known behind c₀ t₀ accepted side in
       let n = subst (λ m. NamesBelow m e) (sym (letters .count)) (k .names) in
-      nodeValue-value A (allNodes 0 0 (s .constraints) ++ behind) W (lasting w (places W)) (λ k q b h. letters .shows k q b h ∙ sym (lasting-same w (places W) k q h)) p e (k .stored) (k .inside) whole n r
-      (whole-met lawful (s .streams) (lasting w (places W)) (lasting-ranged w (places W) (s .streams) (letters .ranged) (omega arith)) e p (k .names) (k .bounds))
-      ∙ ap someValue (value-near A (lasting w (places W)) w (places W) (lasting-same w (places W)) e p r)
+      nodeValue-value (allNodes 0 0 (s .constraints) ++ behind) W (lasting w (places W)) (λ k q b h. letters .shows k q b h ∙ sym (lasting-same w (places W) k q h)) p e (k .stored) (k .inside) whole n r
+      (whole-met (s .streams) (lasting w (places W)) (lasting-ranged w (places W) (s .streams) (letters .ranged) (omega arith)) e p (k .names) (k .bounds))
+      ∙ ap someValue (value-near (lasting w (places W)) w (places W) (lasting-same w (places W)) e p r)
 
   -- In a window with stored first values a side has its value there, from the place `back` on.
   pub accepted-windowValue : {e : Expression} {i f : ℕ} → IsSide (s .constraints) c₀ t₀ e i f → W .whole ≡ false → (p : ℕ) → back e ≤ p → p + reach e < places W
-      → f + length (firsts e) ≤ length (W .firsts) → FirstsWithin lawful (s .streams) (W .firsts) f (firsts e)
-      → nodeValue A (nodesOf (allNodes 0 0 (s .constraints) ++ behind)) W i p ≡ someValue (windowValue A w (W .firsts) f e p)
+      → f + length (firsts e) ≤ length (W .firsts) → FirstsWithin (s .streams) (W .firsts) f (firsts e)
+      → nodeValue (nodesOf (allNodes 0 0 (s .constraints) ++ behind)) W i p ≡ someValue (windowValue w (W .firsts) f e p)
   accepted-windowValue {e} {i} {f} side whole p b r l h =
       let k = known behind c₀ t₀ accepted side in
       let n = subst (λ m. NamesBelow m e) (sym (letters .count)) (k .names) in
-      nodeValue-windowValue A (allNodes 0 0 (s .constraints) ++ behind) W w (letters .shows) p e (k .stored) (k .inside) whole n r l
-      (window-met lawful (s .streams) w (W .firsts) (places W) (letters .ranged) e f p (k .names) (k .bounds) b r h)
+      nodeValue-windowValue (allNodes 0 0 (s .constraints) ++ behind) W w (letters .shows) p e (k .stored) (k .inside) whole n r l
+      (window-met (s .streams) w (W .firsts) (places W) (letters .ranged) e f p (k .names) (k .bounds) b r h)

@@ -11,23 +11,23 @@ use lib.ListN.{length, length-append, length-map}
 use lib.Signed.{_≤ℤ_, ≤ℤ-refl, leZ-yes}
 use borrow.Author.Tests.{leb-true, lt-ltb, le-leb}
 use mathlib.Core.Logic.{_↔_}
-use Rattle.meaning.specs.Arithmetic.{Operator, Interval, Arithmetic, LawfulArithmetic, hull, truthInterval, operatorInterval}
+use Rattle.basics.proofs.Lists.{All-map, getD-map}
+use Rattle.basics.specs.Lists.{All}
+use Rattle.meaning.specs.Arithmetic.{Operator, Interval, hull, truthInterval, operatorInterval}
 use Rattle.meaning.specs.Expression.{Expression, integer, name, first, next, negation, binary, conditional, fby, Stream, noStream, rangeOf}
 use Rattle.meaning.specs.Interval.{interval, subexpressions, NamesBelow}
 use Rattle.meaning.specs.Window.{reach, back, firsts, largestOver}
 use Rattle.meaning.specs.Situation.{all}
-use Rattle.meaning.proofs.Lists.{All, All-map, getD-map}
-use Rattle.meaning.proofs.Order.{≤ℤ-trans}
-use Rattle.meaning.proofs.Interval.{interval-sound, subexpressions-below}
+use Rattle.meaning.proofs.Interval.{subexpressions-below, interval-ordered}
 use Rattle.sheet.specs.Refusal.{magnitudeBound, InBounds}
 use Rattle.nodes.specs.Code.{operatorCode}
 use Rattle.nodes.specs.Postfix.{Node}
 use Rattle.nodes.specs.Bounded.{inBound}
 use Rattle.nodes.specs.Evaluate.{Nodes, nodesOf, kindOf, leftEnd}
-use Rattle.nodes.specs.Bounds.{noRange, rangeWithin, usable, joined, truthRange, operatorRange, branchRange, streamRange, countLimit, leafSummary, firstSummary, nextSummary, negationSummary, operatorSummary, conditionalSummary, fbySummary, summaryByKind, summaryBefore, nodeSummary, endsInBound, boundedInterval, summaryOf, lowsOf, highsOf}
+use Rattle.nodes.specs.Bounds.{noRange, rangeWithin, usable, combined, truthRange, operatorRange, branchRange, streamRange, countLimit, leafSummary, firstSummary, nextSummary, negationSummary, operatorSummary, conditionalSummary, fbySummary, summaryByKind, summaryBefore, nodeSummary, endsInBound, boundedInterval, summaryOf, lowsOf, highsOf}
 use Rattle.nodes.specs.declared.Range.{Range}
 use Rattle.nodes.specs.declared.Summary.{Summary}
-use Rattle.nodes.proofs.Parts.{and-left, and-right}
+use Rattle.nodes.proofs.Parts.{and-true-left, and-true-right}
 use Rattle.nodes.proofs.Postfix.{NodeAt, StoredAt, storedInteger, storedName, storedFirst, storedNext, storedNegation, storedBinary, storedConditional, storedFby, leftEnd-stored}
 use Rattle.nodes.proofs.Meaning.{operatorCode-coded}
 use Rattle.nodes.proofs.Accepted.{inBounds-small}
@@ -55,7 +55,7 @@ usable-shown true I h = h refl
 usable-shown false I h = refl
 
 joined-shown : (f : Interval → Interval → Interval) (a b : Bool) (I J : Interval) → (a ≡ true → endsInBound I ≡ true) → (b ≡ true → endsInBound J ≡ true)
-    → joined f (shown a I) (shown b J) ≡ shown (endsInBound (f I J) && (a && b)) (f I J)
+    → combined f (shown a I) (shown b J) ≡ shown (endsInBound (f I J) && (a && b)) (f I J)
 joined-shown f a b I J ha hb = both a b (usable-shown a I ha) (usable-shown b J hb)
   where
     fold : (t : Bool) (r : Range) → cond t r noRange ≡ cond (t && true) r noRange
@@ -66,14 +66,14 @@ joined-shown f a b I J ha hb = both a b (usable-shown a I ha) (usable-shown b J 
     none true r = refl
     none false r = refl
 
-    both : (a b : Bool) → usable (shown a I) ≡ a → usable (shown b J) ≡ b → joined f (shown a I) (shown b J) ≡ shown (endsInBound (f I J) && (a && b)) (f I J)
+    both : (a b : Bool) → usable (shown a I) ≡ a → usable (shown b J) ≡ b → combined f (shown a I) (shown b J) ≡ shown (endsInBound (f I J) && (a && b)) (f I J)
     both true true p q = simp (p, q) (fold (endsInBound (f I J)) (known (f I J)))
     both true false p q = simp (p, q) (none (endsInBound (f I J)) (known (f I J)))
     both false b p q = none (endsInBound (f I J)) (known (f I J))
 
-module _ (A : Arithmetic) (ss : List Stream) where
+module _ (ss : List Stream) where
   abbrev inside : Expression → Bool
-  inside f = endsInBound (interval A ss f)
+  inside f = endsInBound (interval ss f)
 
   abbrev allInside : Expression → Bool
   allInside e = all inside (subexpressions e)
@@ -81,58 +81,58 @@ module _ (A : Arithmetic) (ss : List Stream) where
   -- An expression is among its own subexpressions.
   self : (e : Expression) → allInside e ≡ true → inside e ≡ true
   unfolding subexpressions
-  self (integer z) h = and-left (inside (integer z)) _ h
-  self (name k) h = and-left (inside (name k)) _ h
-  self (first e) h = and-left (inside (first e)) _ h
-  self (next e) h = and-left (inside (next e)) _ h
-  self (negation e) h = and-left (inside (negation e)) _ h
-  self (binary o a b) h = and-left (inside (binary o a b)) _ h
-  self (conditional c a b) h = and-left (inside (conditional c a b)) _ h
-  self (fby a b) h = and-left (inside (fby a b)) _ h
+  self (integer z) h = and-true-left (inside (integer z)) _ h
+  self (name k) h = and-true-left (inside (name k)) _ h
+  self (first e) h = and-true-left (inside (first e)) _ h
+  self (next e) h = and-true-left (inside (next e)) _ h
+  self (negation e) h = and-true-left (inside (negation e)) _ h
+  self (binary o a b) h = and-true-left (inside (binary o a b)) _ h
+  self (conditional c a b) h = and-true-left (inside (conditional c a b)) _ h
+  self (fby a b) h = and-true-left (inside (fby a b)) _ h
 
   -- What each kind of expression has, from its parts.
-  leaf-range : (e : Expression) → subexpressions e ≡ e ∷ [] → rangeWithin (interval A ss e) ≡ boundedInterval A ss e
-  leaf-range e q = sym (ap (λ l. shown (all inside l) (interval A ss e)) q ∙ by (inside e))
+  leaf-range : (e : Expression) → subexpressions e ≡ e ∷ [] → rangeWithin (interval ss e) ≡ boundedInterval ss e
+  leaf-range e q = sym (ap (λ l. shown (all inside l) (interval ss e)) q ∙ by (inside e))
     where
-      by : (t : Bool) → shown (t && true) (interval A ss e) ≡ shown t (interval A ss e)
+      by : (t : Bool) → shown (t && true) (interval ss e) ≡ shown t (interval ss e)
       by true = refl
       by false = refl
 
   -- An expression with the interval of its only part, and all of whose other subexpressions are the part's.
-  part-range : (e f : Expression) → subexpressions f ≡ f ∷ subexpressions e → interval A ss f ≡ interval A ss e → boundedInterval A ss e ≡ boundedInterval A ss f
-  part-range e f q i = sym (ap₂ (λ l I. shown (all inside l) I) q i ∙ ap (λ I. shown (endsInBound I && allInside e) (interval A ss e)) i ∙ by (allInside e) refl)
+  part-range : (e f : Expression) → subexpressions f ≡ f ∷ subexpressions e → interval ss f ≡ interval ss e → boundedInterval ss e ≡ boundedInterval ss f
+  part-range e f q i = sym (ap₂ (λ l I. shown (all inside l) I) q i ∙ ap (λ I. shown (endsInBound I && allInside e) (interval ss e)) i ∙ by (allInside e) refl)
     where
-      by : (t : Bool) → allInside e ≡ t → shown (inside e && t) (interval A ss e) ≡ shown t (interval A ss e)
-      by true h = ap (λ b. shown (b && true) (interval A ss e)) (self e h)
+      by : (t : Bool) → allInside e ≡ t → shown (inside e && t) (interval ss e) ≡ shown t (interval ss e)
+      by true h = ap (λ b. shown (b && true) (interval ss e)) (self e h)
       by false h = absorb (inside e)
         where
-          absorb : (b : Bool) → shown (b && false) (interval A ss e) ≡ noRange
+          absorb : (b : Bool) → shown (b && false) (interval ss e) ≡ noRange
           absorb true = refl
           absorb false = refl
 
-  truth-range : (e f : Expression) → subexpressions f ≡ f ∷ subexpressions e → interval A ss f ≡ truthInterval → truthRange (boundedInterval A ss e) ≡ boundedInterval A ss f
+  truth-range : (e f : Expression) → subexpressions f ≡ f ∷ subexpressions e → interval ss f ≡ truthInterval → truthRange (boundedInterval ss e) ≡ boundedInterval ss f
   truth-range e f q i = by (allInside e) ∙ sym (ap₂ (λ l I. shown (all inside l) I) q i ∙ ap (λ I. shown (endsInBound I && allInside e) truthInterval) i)
     where
-      by : (t : Bool) → truthRange (shown t (interval A ss e)) ≡ shown t truthInterval
+      by : (t : Bool) → truthRange (shown t (interval ss e)) ≡ shown t truthInterval
       by true = refl
       by false = refl
 
-  pair-range : (g : Interval → Interval → Interval) (a b f : Expression) → subexpressions f ≡ f ∷ (subexpressions a ++ subexpressions b) → interval A ss f ≡ g (interval A ss a) (interval A ss b)
-      → joined g (boundedInterval A ss a) (boundedInterval A ss b) ≡ boundedInterval A ss f
+  pair-range : (g : Interval → Interval → Interval) (a b f : Expression) → subexpressions f ≡ f ∷ (subexpressions a ++ subexpressions b) → interval ss f ≡ g (interval ss a) (interval ss b)
+      → combined g (boundedInterval ss a) (boundedInterval ss b) ≡ boundedInterval ss f
   pair-range g a b f q i =
-      joined-shown g (allInside a) (allInside b) (interval A ss a) (interval A ss b) (self a) (self b)
-      ∙ sym (ap₂ (λ l I. shown (all inside l) I) q i ∙ ap₂ (λ I t. shown (endsInBound I && t) (g (interval A ss a) (interval A ss b))) i (all-append inside (subexpressions a) (subexpressions b)))
+      joined-shown g (allInside a) (allInside b) (interval ss a) (interval ss b) (self a) (self b)
+      ∙ sym (ap₂ (λ l I. shown (all inside l) I) q i ∙ ap₂ (λ I t. shown (endsInBound I && t) (g (interval ss a) (interval ss b))) i (all-append inside (subexpressions a) (subexpressions b)))
 
-  branch-range : (c a b f : Expression) → subexpressions f ≡ f ∷ (subexpressions c ++ (subexpressions a ++ subexpressions b)) → interval A ss f ≡ hull (interval A ss a) (interval A ss b)
-      → branchRange (boundedInterval A ss c) (boundedInterval A ss a) (boundedInterval A ss b) ≡ boundedInterval A ss f
+  branch-range : (c a b f : Expression) → subexpressions f ≡ f ∷ (subexpressions c ++ (subexpressions a ++ subexpressions b)) → interval ss f ≡ hull (interval ss a) (interval ss b)
+      → branchRange (boundedInterval ss c) (boundedInterval ss a) (boundedInterval ss b) ≡ boundedInterval ss f
   branch-range c a b f q i =
-      let H = hull (interval A ss a) (interval A ss b) in
-      ap (λ r. cond (boundedInterval A ss c .ok) r noRange) (joined-shown hull (allInside a) (allInside b) (interval A ss a) (interval A ss b) (self a) (self b))
+      let H = hull (interval ss a) (interval ss b) in
+      ap (λ r. cond (boundedInterval ss c .ok) r noRange) (joined-shown hull (allInside a) (allInside b) (interval ss a) (interval ss b) (self a) (self b))
       ∙ by (allInside c) (endsInBound H) (allInside a && allInside b)
       ∙ sym (ap₂ (λ l I. shown (all inside l) I) q i
       ∙ ap₂ (λ I t. shown (endsInBound I && t) H) i (all-append inside (subexpressions c) (subexpressions a ++ subexpressions b) ∙ ap (λ t. allInside c && t) (all-append inside (subexpressions a) (subexpressions b))))
     where
-      by : (u e t : Bool) → cond (shown u (interval A ss c) .ok) (shown (e && t) (hull (interval A ss a) (interval A ss b))) noRange ≡ shown (e && (u && t)) (hull (interval A ss a) (interval A ss b))
+      by : (u e t : Bool) → cond (shown u (interval ss c) .ok) (shown (e && t) (hull (interval ss a) (interval ss b))) noRange ≡ shown (e && (u && t)) (hull (interval ss a) (interval ss b))
       by true e t = refl
       by false true t = refl
       by false false t = refl
@@ -183,85 +183,85 @@ largestOver-append (x ∷ xs) ys = let h = largestOver-append xs ys in omega ari
 
 -- ---- the summaries of the kinds of expressions, from those of the parts
 
-module _ (A : Arithmetic) (ss : List Stream) where
-  first-is : (e : Expression) → nodeCount (first e) ≤ countLimit → firstSummary (summaryOf A ss e) ≡ summaryOf A ss (first e)
+module _ (ss : List Stream) where
+  first-is : (e : Expression) → nodeCount (first e) ≤ countLimit → firstSummary (summaryOf ss e) ≡ summaryOf ss (first e)
   unfolding subexpressions interval reach back firsts
-  first-is e h = let c = counts-below e in summary-path (part-range A ss e (first e) refl refl) refl refl (omega arith) refl
+  first-is e h = let c = counts-below e in summary-path (part-range ss e (first e) refl refl) refl refl (omega arith) refl
 
-  next-is : (e : Expression) → nodeCount (next e) ≤ countLimit → nextSummary (summaryOf A ss e) ≡ summaryOf A ss (next e)
+  next-is : (e : Expression) → nodeCount (next e) ≤ countLimit → nextSummary (summaryOf ss e) ≡ summaryOf ss (next e)
   unfolding subexpressions interval reach back firsts
-  next-is e h = let c = counts-below e in summary-path (part-range A ss e (next e) refl refl) (omega arith) refl refl refl
+  next-is e h = let c = counts-below e in summary-path (part-range ss e (next e) refl refl) (omega arith) refl refl refl
 
-  negation-is : (e : Expression) → negationSummary (summaryOf A ss e) ≡ summaryOf A ss (negation e)
+  negation-is : (e : Expression) → negationSummary (summaryOf ss e) ≡ summaryOf ss (negation e)
   unfolding subexpressions interval reach back firsts
-  negation-is e = summary-path (truth-range A ss e (negation e) refl refl) refl refl refl refl
+  negation-is e = summary-path (truth-range ss e (negation e) refl refl) refl refl refl refl
 
-  operator-range : (o : Operator) (a b : Range) → operatorRange A (operatorCode o) a b ≡ joined (operatorInterval A o) a b
+  operator-range : (o : Operator) (a b : Range) → operatorRange (operatorCode o) a b ≡ combined (operatorInterval o) a b
   operator-range o a b = let c = operatorCode-coded o in simp (c .range, c .names)
 
-  binary-is : (o : Operator) (a b : Expression) → nodeCount (binary o a b) ≤ countLimit → operatorSummary A (operatorCode o) (summaryOf A ss a) (summaryOf A ss b) ≡ summaryOf A ss (binary o a b)
+  binary-is : (o : Operator) (a b : Expression) → nodeCount (binary o a b) ≤ countLimit → operatorSummary (operatorCode o) (summaryOf ss a) (summaryOf ss b) ≡ summaryOf ss (binary o a b)
   unfolding subexpressions interval reach back firsts
   binary-is o a b h =
       let c = counts-below (binary o a b) in
-      summary-path (operator-range o (boundedInterval A ss a) (boundedInterval A ss b) ∙ pair-range A ss (operatorInterval A o) a b (binary o a b) refl refl) refl refl
+      summary-path (operator-range o (boundedInterval ss a) (boundedInterval ss b) ∙ pair-range ss (operatorInterval o) a b (binary o a b) refl refl) refl refl
       (omega (arith, length-append (firsts a) (firsts b))) (sym (largestOver-append (firsts a) (firsts b)))
 
   conditional-is : (c a b : Expression) → nodeCount (conditional c a b) ≤ countLimit
-      → conditionalSummary (summaryOf A ss c) (summaryOf A ss a) (summaryOf A ss b) ≡ summaryOf A ss (conditional c a b)
+      → conditionalSummary (summaryOf ss c) (summaryOf ss a) (summaryOf ss b) ≡ summaryOf ss (conditional c a b)
   unfolding subexpressions interval reach back firsts
   conditional-is c a b h =
       let k = counts-below (conditional c a b) in
-      summary-path (branch-range A ss c a b (conditional c a b) refl refl) refl refl
+      summary-path (branch-range ss c a b (conditional c a b) refl refl) refl refl
       (omega (arith, length-append (firsts c) (firsts a ++ firsts b), length-append (firsts a) (firsts b)))
       (omega (arith, largestOver-append (firsts c) (firsts a ++ firsts b), largestOver-append (firsts a) (firsts b)))
 
-  fby-is : (a b : Expression) → nodeCount (fby a b) ≤ countLimit → fbySummary (summaryOf A ss a) (summaryOf A ss b) ≡ summaryOf A ss (fby a b)
+  fby-is : (a b : Expression) → nodeCount (fby a b) ≤ countLimit → fbySummary (summaryOf ss a) (summaryOf ss b) ≡ summaryOf ss (fby a b)
   unfolding subexpressions interval reach back firsts
   fby-is a b h =
       let c = counts-below (fby a b) in
       let d = counts-below b in
       let n = length-append (subexpressions a) (subexpressions b) in
-      summary-path (pair-range A ss hull a b (fby a b) refl refl) refl (omega arith) (omega (arith, length-append (firsts a) (firsts b))) (sym (largestOver-append (firsts a) (firsts b)))
+      summary-path (pair-range ss hull a b (fby a b) refl refl) refl (omega arith) (omega (arith, length-append (firsts a) (firsts b))) (sym (largestOver-append (firsts a) (firsts b)))
 
   -- ---- stored expressions
 
   module _ (N : Nodes) where
     abbrev before : ℕ → Summary
-    before = summaryBefore A N (lowsOf ss) (highsOf ss)
+    before = summaryBefore N (lowsOf ss) (highsOf ss)
 
-    by-node : {m s k : ℕ} {v : ℤ} {x : Summary} → NodeAt N m k v s → summaryByKind A N (lowsOf ss) (highsOf ss) (kindOf k) before m ≡ x → before (suc m) ≡ x
+    by-node : {m s k : ℕ} {v : ℤ} {x : Summary} → NodeAt N m k v s → summaryByKind N (lowsOf ss) (highsOf ss) (kindOf k) before m ≡ x → before (suc m) ≡ x
     by-node {m} {s} {k} {v} {x} n e =
-        summaryBefore-node A N (lowsOf ss) (highsOf ss) m ∙ ap (λ j. summaryByKind A N (lowsOf ss) (highsOf ss) (kindOf j) before m) (n .kind) ∙ e
+        summaryBefore-node N (lowsOf ss) (highsOf ss) m ∙ ap (λ j. summaryByKind N (lowsOf ss) (highsOf ss) (kindOf j) before m) (n .kind) ∙ e
 
-    pub summary-stored : {n f m : ℕ} {e : Expression} → StoredAt N n f e m → NamesBelow (length ss) e → nodeCount e ≤ countLimit → before m ≡ summaryOf A ss e
+    pub summary-stored : {n f m : ℕ} {e : Expression} → StoredAt N n f e m → NamesBelow (length ss) e → nodeCount e ≤ countLimit → before m ≡ summaryOf ss e
     unfolding subexpressions interval reach back firsts
     summary-stored (storedInteger {z = z} x) b h =
-        by-node x (ap (λ z. leafSummary (rangeWithin (record { low = z; high = z }))) (x .value) ∙ summary-path (leaf-range A ss (integer z) refl) refl refl refl refl)
+        by-node x (ap (λ z. leafSummary (rangeWithin (record { low = z; high = z }))) (x .value) ∙ summary-path (leaf-range ss (integer z) refl) refl refl refl refl)
     summary-stored (storedName {k = k} x) b h =
-        by-node x (ap (λ z. leafSummary (streamRange (lowsOf ss) (highsOf ss) z)) (x .value) ∙ summary-path (stream-range A ss k b ∙ leaf-range A ss (name k) refl) refl refl refl refl)
+        by-node x (ap (λ z. leafSummary (streamRange (lowsOf ss) (highsOf ss) z)) (x .value) ∙ summary-path (stream-range ss k b ∙ leaf-range ss (name k) refl) refl refl refl refl)
     summary-stored (storedFirst {e = e} s x) b h = by-node x (ap firstSummary (summary-stored s b (omega arith)) ∙ first-is e h)
     summary-stored (storedNext {e = e} s x) b h = by-node x (ap nextSummary (summary-stored s b (omega arith)) ∙ next-is e h)
     summary-stored (storedNegation {e = e} s x) b h = by-node x (ap negationSummary (summary-stored s b (omega arith)) ∙ negation-is e)
     summary-stored (storedBinary {m = m} {o = o} {a = a} {b = c} s t x) b h =
         let n = length-append (subexpressions a) (subexpressions c) in
         by-node x
-        (ap (λ j. summaryByKind A N (lowsOf ss) (highsOf ss) j before m) (operatorCode-coded o .kind)
-        ∙ ap (λ j. operatorSummary A j (before (leftEnd (N .starts) m)) (before m)) (x .kind)
-        ∙ ap₂ (operatorSummary A (operatorCode o)) (ap before (leftEnd-stored t) ∙ summary-stored s (b .0) (omega arith)) (summary-stored t (b .1) (omega arith)) ∙ binary-is o a c h)
+        (ap (λ j. summaryByKind N (lowsOf ss) (highsOf ss) j before m) (operatorCode-coded o .kind)
+        ∙ ap (λ j. operatorSummary j (before (leftEnd (N .starts) m)) (before m)) (x .kind)
+        ∙ ap₂ (operatorSummary (operatorCode o)) (ap before (leftEnd-stored t) ∙ summary-stored s (b .0) (omega arith)) (summary-stored t (b .1) (omega arith)) ∙ binary-is o a c h)
     summary-stored (storedConditional {m = m} {c = c} {a = a} {b = d} r s t x) b h =
         let n = length-append (subexpressions a) (subexpressions d) in
         let k = length-append (subexpressions c) (subexpressions a ++ subexpressions d) in
         by-node x
         (ap (λ y. conditionalSummary y (before (leftEnd (N .starts) m)) (before m))
         (ap before (ap (leftEnd (N .starts)) (leftEnd-stored t) ∙ leftEnd-stored s) ∙ summary-stored r (b .0) (omega arith))
-        ∙ ap₂ (conditionalSummary (summaryOf A ss c)) (ap before (leftEnd-stored t) ∙ summary-stored s (b .1) (omega arith)) (summary-stored t (b .2) (omega arith)) ∙ conditional-is c a d h)
+        ∙ ap₂ (conditionalSummary (summaryOf ss c)) (ap before (leftEnd-stored t) ∙ summary-stored s (b .1) (omega arith)) (summary-stored t (b .2) (omega arith)) ∙ conditional-is c a d h)
     summary-stored (storedFby {a = a} {b = c} s t x) b h =
         let n = length-append (subexpressions a) (subexpressions c) in
         by-node x (ap₂ fbySummary (ap before (leftEnd-stored t) ∙ summary-stored s (b .0) (omega arith)) (summary-stored t (b .1) (omega arith)) ∙ fby-is a c h)
 
   -- Where a list of nodes stores an expression, the summary of its last node is the expression's.
   pub nodeSummary-summaryOf : (l : List Node) {n f i : ℕ} {e : Expression} → StoredAt (nodesOf l) n f e (suc i) → i < length l → NamesBelow (length ss) e → nodeCount e ≤ countLimit
-      → nodeSummary A (nodesOf l) (lowsOf ss) (highsOf ss) i ≡ summaryOf A ss e
+      → nodeSummary (nodesOf l) (lowsOf ss) (highsOf ss) i ≡ summaryOf ss e
   unfolding nodeSummary
   nodeSummary-summaryOf l {i = i} s h b c =
       simp (
@@ -286,22 +286,16 @@ inBounds-ends I h b =
 pub ends-inBounds : (I : Interval) → endsInBound I ≡ true → InBounds I
 ends-inBounds I e =
     record {
-      above = inBound-ends (I .low) (and-left (inBound (I .low)) (inBound (I .high)) e) .0;
-      below = inBound-ends (I .high) (and-right (inBound (I .low)) (inBound (I .high)) e) .1;
+      above = inBound-ends (I .low) (and-true-left (inBound (I .low)) (inBound (I .high)) e) .0;
+      below = inBound-ends (I .high) (and-true-right (inBound (I .low)) (inBound (I .high)) e) .1;
     }
 
-module _ {A : Arithmetic} (lawful : LawfulArithmetic A) (ss : List Stream) (ordered : (k : ℕ) → k < length ss → rangeOf ss k .low ≤ℤ rangeOf ss k .high) where
-  -- Where no stream's low is above its high, no interval's is: the course at the lowest values has a value in it.
-  pub interval-ordered : (e : Expression) → NamesBelow (length ss) e → interval A ss e .low ≤ℤ interval A ss e .high
-  interval-ordered e n =
-      let w = interval-sound lawful ss (λ k i. rangeOf ss k .low) (λ k i b. record { above = ≤ℤ-refl (rangeOf ss k .low); below = ordered k b }) e n 0 in
-      ≤ℤ-trans (w .above) (w .below)
-
+module _ (ss : List Stream) (ordered : (k : ℕ) → k < length ss → rangeOf ss k .low ≤ℤ rangeOf ss k .high) where
   -- "6: an expression's interval leaves ±1,000,000,000": the range is there exactly if no interval in the expression does.
-  pub bounded-inBounds : (e : Expression) → NamesBelow (length ss) e → (boundedInterval A ss e .ok ≡ true) ↔ All (λ f. InBounds (interval A ss f)) (subexpressions e)
+  pub bounded-inBounds : (e : Expression) → NamesBelow (length ss) e → (boundedInterval ss e .ok ≡ true) ↔ All (λ f. InBounds (interval ss f)) (subexpressions e)
   bounded-inBounds e n = (
-    λ h. All-map (subexpressions e) (λ f t. ends-inBounds (interval A ss f) t) (all-All (subexpressions e) (ok-true (all (λ f. endsInBound (interval A ss f)) (subexpressions e)) (interval A ss e) h)),
-    λ h. shown-ok _ (interval A ss e) (All-all (subexpressions e) (both (subexpressions e) (subexpressions-below (length ss) e n) h)),
+    λ h. All-map (subexpressions e) (λ f t. ends-inBounds (interval ss f) t) (all-All (subexpressions e) (ok-true (all (λ f. endsInBound (interval ss f)) (subexpressions e)) (interval ss e) h)),
+    λ h. shown-ok _ (interval ss e) (All-all (subexpressions e) (both (subexpressions e) (subexpressions-below (length ss) e n) h)),
   )
     where
       ok-true : (b : Bool) (I : Interval) → shown b I .ok ≡ true → b ≡ true
@@ -311,14 +305,14 @@ module _ {A : Arithmetic} (lawful : LawfulArithmetic A) (ss : List Stream) (orde
       shown-ok : (b : Bool) (I : Interval) → b ≡ true → shown b I .ok ≡ true
       shown-ok b I h = ap (λ t. shown t I .ok) h
 
-      all-All : (es : List Expression) → all (λ f. endsInBound (interval A ss f)) es ≡ true → All (λ f. endsInBound (interval A ss f) ≡ true) es
+      all-All : (es : List Expression) → all (λ f. endsInBound (interval ss f)) es ≡ true → All (λ f. endsInBound (interval ss f) ≡ true) es
       all-All [] h = tt
-      all-All (x ∷ xs) h = (and-left (endsInBound (interval A ss x)) _ h, all-All xs (and-right (endsInBound (interval A ss x)) _ h))
+      all-All (x ∷ xs) h = (and-true-left (endsInBound (interval ss x)) _ h, all-All xs (and-true-right (endsInBound (interval ss x)) _ h))
 
-      both : (es : List Expression) → All (NamesBelow (length ss)) es → All (λ f. InBounds (interval A ss f)) es → All (λ f. endsInBound (interval A ss f) ≡ true) es
+      both : (es : List Expression) → All (NamesBelow (length ss)) es → All (λ f. InBounds (interval ss f)) es → All (λ f. endsInBound (interval ss f) ≡ true) es
       both [] p q = tt
-      both (x ∷ xs) p q = (inBounds-ends (interval A ss x) (interval-ordered x (p .0)) (q .0), both xs (p .1) (q .1))
+      both (x ∷ xs) p q = (inBounds-ends (interval ss x) (interval-ordered ss ordered x (p .0)) (q .0), both xs (p .1) (q .1))
 
-      All-all : (es : List Expression) → All (λ f. endsInBound (interval A ss f) ≡ true) es → all (λ f. endsInBound (interval A ss f)) es ≡ true
+      All-all : (es : List Expression) → All (λ f. endsInBound (interval ss f) ≡ true) es → all (λ f. endsInBound (interval ss f)) es ≡ true
       All-all [] h = refl
       All-all (x ∷ xs) h = ap₂ _&&_ (h .0) (All-all xs (h .1))

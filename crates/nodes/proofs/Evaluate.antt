@@ -6,16 +6,15 @@ use mathlib.Core.Bool.{cond}
 use lib.ListN.{getD}
 use lib.Dec.{ltb}
 use lib.IntN.{pos}
-use Rattle.meaning.specs.Arithmetic.{Arithmetic}
 use Rattle.nodes.specs.Bounded.{noValue, someValue}
 use Rattle.nodes.specs.declared.Evaluated.{Evaluated}
-use Rattle.nodes.specs.Evaluate.{Nodes, View, places, Kind, integerNode, nameNode, firstNode, nextNode, negationNode, conditionalNode, fbyNode, operatorNode, kindOf, leftEnd, answerUpTo, numbered, negated, chosen, operated, valueByKind, valueStep, valueBefore}
+use Rattle.nodes.specs.Evaluate.{Nodes, View, places, Kind, integerNode, nameNode, firstNode, nextNode, negationNode, conditionalNode, fbyNode, operatorNode, kindOf, leftEnd, answerUpTo, numbered, negatedResult, chosenResult, operated, valueByKind, valueStep, valueBefore}
 use Rattle.nodes.proofs.Parts.{leftEnd-≤, answer-step}
 
-chosen-cong : {c c′ a a′ b b′ : Evaluated} → c ≡ c′ → a ≡ a′ → b ≡ b′ → chosen c a b ≡ chosen c′ a′ b′
-chosen-cong {c} {c′} {a} {a′} {b} {b′} p q r = ap (λ x. chosen x a b) p ∙ ap₂ (chosen c′) q r
+chosen-cong : {c c′ a a′ b b′ : Evaluated} → c ≡ c′ → a ≡ a′ → b ≡ b′ → chosenResult c a b ≡ chosenResult c′ a′ b′
+chosen-cong {c} {c′} {a} {a′} {b} {b′} p q r = ap (λ x. chosenResult x a b) p ∙ ap₂ (chosenResult c′) q r
 
-module _ (A : Arithmetic) (N : Nodes) (W : View) where
+module _ (N : Nodes) (W : View) where
   module _ (f g : ℕ → ℕ → Evaluated) (i : ℕ) (same : (e : ℕ) → e ≤ i → f e ≡ g e) where
     same-at : (e : ℕ) → e ≤ i → (p : ℕ) → f e p ≡ g e p
     same-at e h p = ap (λ u. u p) (same e h)
@@ -23,25 +22,25 @@ module _ (A : Arithmetic) (N : Nodes) (W : View) where
     same-left : (e : ℕ) → e ≤ i → leftEnd (N .starts) e ≤ i
     same-left e h = let l = leftEnd-≤ (N .starts) e in omega arith
 
-    valueByKind-local : (k : Kind) (p : ℕ) → valueByKind A N W k f i p ≡ valueByKind A N W k g i p
+    valueByKind-local : (k : Kind) (p : ℕ) → valueByKind N W k f i p ≡ valueByKind N W k g i p
     valueByKind-local integerNode p = refl
     valueByKind-local nameNode p = refl
     valueByKind-local firstNode p = ap (λ x. cond (W .whole) x (numbered (W .firsts) (getD (N .values) i (pos 0)))) (same-at i (omega arith) 0)
     valueByKind-local nextNode p = ap (λ x. cond (ltb (suc p) (places W)) x noValue) (same-at i (omega arith) (suc p))
-    valueByKind-local negationNode p = ap negated (same-at i (omega arith) p)
+    valueByKind-local negationNode p = ap negatedResult (same-at i (omega arith) p)
     valueByKind-local conditionalNode p =
         let m = same-left i (omega arith) in
         chosen-cong (same-at _ (same-left _ m) p) (same-at _ m p) (same-at i (omega arith) p)
     valueByKind-local fbyNode zero = ap (λ x. cond (W .whole) x (someValue (pos 0))) (same-at _ (same-left i (omega arith)) 0)
     valueByKind-local fbyNode (suc p) = same-at i (omega arith) p
-    valueByKind-local operatorNode p = ap₂ (operated A (getD (N .kinds) i 0)) (same-at _ (same-left i (omega arith)) p) (same-at i (omega arith) p)
+    valueByKind-local operatorNode p = ap₂ (operated (getD (N .kinds) i 0)) (same-at _ (same-left i (omega arith)) p) (same-at i (omega arith) p)
 
   -- The value of the part of node i.
-  pub valueBefore-node : (i p : ℕ) → valueBefore A N W (suc i) p ≡ valueByKind A N W (kindOf (getD (N .kinds) i 0)) (valueBefore A N W) i p
+  pub valueBefore-node : (i p : ℕ) → valueBefore N W (suc i) p ≡ valueByKind N W (kindOf (getD (N .kinds) i 0)) (valueBefore N W) i p
   unfolding valueBefore valueStep
   valueBefore-node i p =
-      ap (λ u. u p) (answer-step (λ p. noValue) (valueStep A N W) i (λ f g h. fun-ext (valueByKind-local f g i h (kindOf (getD (N .kinds) i 0)))))
+      ap (λ u. u p) (answer-step (λ p. noValue) (valueStep N W) i (λ f g h. fun-ext (valueByKind-local f g i h (kindOf (getD (N .kinds) i 0)))))
 
-  pub valueBefore-none : (p : ℕ) → valueBefore A N W 0 p ≡ noValue
+  pub valueBefore-none : (p : ℕ) → valueBefore N W 0 p ≡ noValue
   unfolding valueBefore answerUpTo
   valueBefore-none p = refl

@@ -8,3 +8,4 @@ pub mod Accepted
 pub mod Record
 pub mod Summing
 pub mod Bounds
+pub mod ByKind

@@ -8,7 +8,7 @@ use mathlib.Core.List.{List, [], _∷_}
 use lib.Dec.{leb}
 use lib.ListN.{length, getD, List·getD-eq-default}
 use borrow.Author.Tests.{leb-true, le-leb, lt-leb, eq-eqb, ne-eqb}
-use Rattle.nodes.specs.Evaluate.{Nodes, Stores, integerNode, nameNode, firstNode, nextNode, negationNode, conditionalNode, fbyNode, operatorNode, kindOf, leftEnd, answerUpTo}
+use Rattle.nodes.specs.Evaluate.{Nodes, HoldsParts, integerNode, nameNode, firstNode, nextNode, negationNode, conditionalNode, fbyNode, operatorNode, kindOf, leftEnd, answerUpTo}
 
 -- ---- the part to the left
 
@@ -55,18 +55,18 @@ pub kindOf-operator : (k : ℕ) → 7 ≤ k → kindOf k ≡ operatorNode
 kindOf-operator k h = List·getD-eq-default (integerNode ∷ nameNode ∷ firstNode ∷ nextNode ∷ negationNode ∷ conditionalNode ∷ fbyNode ∷ []) operatorNode {n = k} h
 
 -- Where the parts up to e are stored, so are those up to an earlier place.
-pub stores-part : {N : Nodes} {e : ℕ} (d : ℕ) → Stores N e → d ≤ e → Stores N d
+pub stores-part : {N : Nodes} {e : ℕ} (d : ℕ) → HoldsParts N e → d ≤ e → HoldsParts N d
 stores-part d r h = record { kinds = omega (arith, r .kinds); values = omega (arith, r .values); starts = omega (arith, r .starts) }
 
 -- ---- the parts of a conjunction
 
-pub and-left : (a b : Bool) → (a && b) ≡ true → a ≡ true
-and-left true b h = refl
-and-left false b h = h
+pub and-true-left : (a b : Bool) → (a && b) ≡ true → a ≡ true
+and-true-left true b h = refl
+and-true-left false b h = h
 
-pub and-right : (a b : Bool) → (a && b) ≡ true → b ≡ true
-and-right true b h = h
-and-right false b h = let y : _≡_ {A = ℕ} 0 1 = cc in absurd (omega arith)
+pub and-true-right : (a b : Bool) → (a && b) ≡ true → b ≡ true
+and-true-right true b h = h
+and-true-right false b h = let y : _≡_ {A = ℕ} 0 1 = cc in absurd (omega arith)
 
 -- ---- answers from part to part
 

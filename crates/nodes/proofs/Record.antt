@@ -8,12 +8,13 @@ use mathlib.Core.List.{List, [], _∷_, _++_}
 use lib.IntN.{pos}
 use lib.ListN.{length, getD, length-append, List·getD-append}
 use lib.Seq.{getD-append-add}
+use Rattle.basics.proofs.Lists.{member-All}
+use Rattle.basics.specs.Lists.{All}
 use Rattle.meaning.specs.Value.{Value}
 use Rattle.meaning.specs.Expression.{Stream}
 use Rattle.meaning.specs.Letter.{Letter, Record, IsLetter, none, more, OfLetters, streamsOf}
 use Rattle.meaning.specs.Window.{joinOver}
 use Rattle.meaning.proofs.Letter.{letter-within}
-use Rattle.meaning.proofs.Lists.{All, member-All}
 use Rattle.meaning.proofs.Facts.{getD-member}
 use Rattle.nodes.specs.Evaluate.{view, places}
 use Rattle.nodes.proofs.Accepted.{Letters}

@@ -5,7 +5,6 @@ use mathlib.Core.Path.{_≡_, refl, _∙_, ap, ap₂}
 use mathlib.Core.List.{List}
 use lib.IntN.{ℤ}
 use lib.ListN.{getD}
-use Rattle.meaning.specs.Arithmetic.{Arithmetic}
 use Rattle.nodes.specs.Evaluate.{Nodes, Kind, integerNode, nameNode, firstNode, nextNode, negationNode, conditionalNode, fbyNode, operatorNode, kindOf, leftEnd, answerUpTo}
 use Rattle.nodes.specs.Bounds.{noSummary, firstSummary, nextSummary, negationSummary, operatorSummary, conditionalSummary, fbySummary, summaryByKind, summaryStep, summaryBefore}
 use Rattle.nodes.specs.declared.Range.{Range}
@@ -17,12 +16,12 @@ pub summary-path : {r r′ : Range} {a a′ b b′ f f′ h h′ : ℕ} → r �
     → _≡_ {A = Summary} (record { range = r; reach = a; back = b; firsts = f; ahead = h }) (record { range = r′; reach = a′; back = b′; firsts = f′; ahead = h′ })
 summary-path p q r s t = λ i. record { range = p i; reach = q i; back = r i; firsts = s i; ahead = t i }
 
-module _ (A : Arithmetic) (N : Nodes) (lows highs : List ℤ) where
+module _ (N : Nodes) (lows highs : List ℤ) where
   module _ (f g : ℕ → Summary) (i : ℕ) (same : (e : ℕ) → e ≤ i → f e ≡ g e) where
     same-left : (e : ℕ) → e ≤ i → leftEnd (N .starts) e ≤ i
     same-left e h = let l = leftEnd-≤ (N .starts) e in omega arith
 
-    summaryByKind-local : (k : Kind) → summaryByKind A N lows highs k f i ≡ summaryByKind A N lows highs k g i
+    summaryByKind-local : (k : Kind) → summaryByKind N lows highs k f i ≡ summaryByKind N lows highs k g i
     summaryByKind-local integerNode = refl
     summaryByKind-local nameNode = refl
     summaryByKind-local firstNode = ap firstSummary (same i (omega arith))
@@ -32,13 +31,13 @@ module _ (A : Arithmetic) (N : Nodes) (lows highs : List ℤ) where
         let m = same-left i (omega arith) in
         ap (λ c. conditionalSummary c (f (leftEnd (N .starts) i)) (f i)) (same _ (same-left _ m)) ∙ ap₂ (conditionalSummary (g (leftEnd (N .starts) (leftEnd (N .starts) i)))) (same _ m) (same i (omega arith))
     summaryByKind-local fbyNode = ap₂ fbySummary (same _ (same-left i (omega arith))) (same i (omega arith))
-    summaryByKind-local operatorNode = ap₂ (operatorSummary A (getD (N .kinds) i 0)) (same _ (same-left i (omega arith))) (same i (omega arith))
+    summaryByKind-local operatorNode = ap₂ (operatorSummary (getD (N .kinds) i 0)) (same _ (same-left i (omega arith))) (same i (omega arith))
 
   -- The summary of the part of node i.
-  pub summaryBefore-node : (i : ℕ) → summaryBefore A N lows highs (suc i) ≡ summaryByKind A N lows highs (kindOf (getD (N .kinds) i 0)) (summaryBefore A N lows highs) i
+  pub summaryBefore-node : (i : ℕ) → summaryBefore N lows highs (suc i) ≡ summaryByKind N lows highs (kindOf (getD (N .kinds) i 0)) (summaryBefore N lows highs) i
   unfolding summaryBefore summaryStep
-  summaryBefore-node i = answer-step noSummary (summaryStep A N lows highs) i (λ f g h. summaryByKind-local f g i h (kindOf (getD (N .kinds) i 0)))
+  summaryBefore-node i = answer-step noSummary (summaryStep N lows highs) i (λ f g h. summaryByKind-local f g i h (kindOf (getD (N .kinds) i 0)))
 
-  pub summaryBefore-none : summaryBefore A N lows highs 0 ≡ noSummary
+  pub summaryBefore-none : summaryBefore N lows highs 0 ≡ noSummary
   unfolding summaryBefore answerUpTo
   summaryBefore-none = refl

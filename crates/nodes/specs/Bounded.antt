@@ -6,7 +6,7 @@ use lib.Dec.{leb, ltb}
 use lib.IntN.{ℤ, pos, natAbs}
 use lib.ListN.{getD}
 use Rattle.meaning.specs.Value.{less, atMost, equal, atLeast, greater, different}
-use Rattle.meaning.specs.Arithmetic.{Operator, add, subtract, multiply, divide, remainder, compare, and, or, Arithmetic, apply}
+use Rattle.meaning.specs.Arithmetic.{Operator, add, subtract, multiply, divide, remainder, compare, and, or, apply}
 use Rattle.sheet.specs.Refusal.{magnitudeBound}
 use Rattle.nodes.specs.declared.Evaluated.{Evaluated}
 
@@ -28,20 +28,20 @@ abbrev pub bounded : ℤ → Evaluated
 bounded z = cond (inBound z) (someValue z) noValue
 
 -- What an operator gives, where both operands and the result are within the bound.
-abbrev pub boundedApply : Arithmetic → Operator → ℤ → ℤ → Evaluated
-boundedApply A o a b = cond (inBound a && inBound b) (bounded (apply A o a b)) noValue
+abbrev pub boundedApply : Operator → ℤ → ℤ → Evaluated
+boundedApply o a b = cond (inBound a && inBound b) (bounded (apply o a b)) noValue
 
 -- "Operators: `+ - * / % lt le eq ge gt ne and or fby`", but for `fby`, in the order of their numbers (Code).
-abbrev pub operators : List Operator
-operators =
+abbrev pub operatorsByKind : List Operator
+operatorsByKind =
     add ∷ subtract ∷ multiply ∷ divide ∷ remainder
     ∷ compare less ∷ compare atMost ∷ compare equal ∷ compare atLeast ∷ compare greater ∷ compare different
     ∷ and ∷ or ∷ []
 
 -- The operator with a node's kind; what a kind that is no operator's is given plays no part.
 abbrev pub operatorAt : ℕ → Operator
-operatorAt k = getD operators (k - 7) or
+operatorAt k = getD operatorsByKind (k - 7) or
 
 -- What the operator with a node's kind gives; no value where the kind is no operator's.
-abbrev pub appliedByKind : Arithmetic → ℕ → ℤ → ℤ → Evaluated
-appliedByKind A k a b = cond (leb 7 k && ltb k 20) (boundedApply A (operatorAt k) a b) noValue
+abbrev pub appliedByKind : ℕ → ℤ → ℤ → Evaluated
+appliedByKind k a b = cond (leb 7 k && ltb k 20) (boundedApply (operatorAt k) a b) noValue

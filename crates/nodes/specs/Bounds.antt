@@ -6,7 +6,7 @@ use mathlib.Core.List.{List, map}
 use lib.Dec.{leb, ltb}
 use lib.IntN.{ℤ, pos, negsuc}
 use lib.ListN.{length, getD}
-use Rattle.meaning.specs.Arithmetic.{Interval, Arithmetic, hull, truthInterval, operatorInterval}
+use Rattle.meaning.specs.Arithmetic.{Interval, hull, truthInterval, operatorInterval}
 use Rattle.meaning.specs.Expression.{Expression, Stream}
 use Rattle.meaning.specs.Interval.{interval, subexpressions}
 use Rattle.meaning.specs.Window.{reach, back, firsts, largestOver}
@@ -33,20 +33,20 @@ abbrev pub usable : Range → Bool
 usable r = r .ok && (inBound (r .low) && inBound (r .high))
 
 -- The interval that is made of two, where both are there.
-abbrev pub joined : (Interval → Interval → Interval) → Range → Range → Range
-joined f a b = cond (usable a && usable b) (rangeWithin (f (intervalOf a) (intervalOf b))) noRange
+abbrev pub combined : (Interval → Interval → Interval) → Range → Range → Range
+combined f a b = cond (usable a && usable b) (rangeWithin (f (intervalOf a) (intervalOf b))) noRange
 
 -- "0 to 1 for truth values"
 abbrev pub truthRange : Range → Range
 truthRange a = cond (a .ok) (rangeWithin truthInterval) noRange
 
 -- The interval of what the operator with a node's kind gives.
-abbrev pub operatorRange : Arithmetic → ℕ → Range → Range → Range
-operatorRange A k a b = cond (leb 7 k && ltb k 20) (joined (operatorInterval A (operatorAt k)) a b) noRange
+abbrev pub operatorRange : ℕ → Range → Range → Range
+operatorRange k a b = cond (leb 7 k && ltb k 20) (combined (operatorInterval (operatorAt k)) a b) noRange
 
 -- "the hull of both sides for `fby` and of both branches for `if`"; a condition without an interval leaves none.
 abbrev pub branchRange : Range → Range → Range → Range
-branchRange c a b = cond (c .ok) (joined hull a b) noRange
+branchRange c a b = cond (c .ok) (combined hull a b) noRange
 
 -- The range of the stream with a stored number.
 abbrev pub streamRange : List ℤ → List ℤ → ℤ → Range
@@ -81,10 +81,10 @@ abbrev pub negationSummary : Summary → Summary
 negationSummary a = record { range = truthRange (a .range); reach = a .reach; back = a .back; firsts = a .firsts; ahead = a .ahead }
 
 -- "otherwise the largest of the parts"
-abbrev pub operatorSummary : Arithmetic → ℕ → Summary → Summary → Summary
-operatorSummary A k a b =
+abbrev pub operatorSummary : ℕ → Summary → Summary → Summary
+operatorSummary k a b =
     record {
-      range = operatorRange A k (a .range) (b .range);
+      range = operatorRange k (a .range) (b .range);
       reach = max (a .reach) (b .reach);
       back = max (a .back) (b .back);
       firsts = limited (a .firsts + b .firsts);
@@ -105,14 +105,14 @@ conditionalSummary c a b =
 abbrev pub fbySummary : Summary → Summary → Summary
 fbySummary a b =
     record {
-      range = joined hull (a .range) (b .range);
+      range = combined hull (a .range) (b .range);
       reach = max (a .reach) (b .reach - 1);
       back = limited (suc (b .back));
       firsts = limited (a .firsts + b .firsts);
       ahead = max (a .ahead) (b .ahead);
     }
 
-module _ (A : Arithmetic) (N : Nodes) (lows highs : List ℤ) where
+module _ (N : Nodes) (lows highs : List ℤ) where
   -- The summary of node i, a node of this kind, from those of the parts that end up to i.
   abbrev pub summaryByKind : Kind → (ℕ → Summary) → ℕ → Summary
   summaryByKind integerNode before i = leafSummary (rangeWithin (record { low = getD (N .values) i (pos 0); high = getD (N .values) i (pos 0) }))
@@ -123,7 +123,7 @@ module _ (A : Arithmetic) (N : Nodes) (lows highs : List ℤ) where
   summaryByKind conditionalNode before i =
       conditionalSummary (before (leftEnd (N .starts) (leftEnd (N .starts) i))) (before (leftEnd (N .starts) i)) (before i)
   summaryByKind fbyNode before i = fbySummary (before (leftEnd (N .starts) i)) (before i)
-  summaryByKind operatorNode before i = operatorSummary A (getD (N .kinds) i 0) (before (leftEnd (N .starts) i)) (before i)
+  summaryByKind operatorNode before i = operatorSummary (getD (N .kinds) i 0) (before (leftEnd (N .starts) i)) (before i)
 
   unfoldable pub summaryStep : (ℕ → Summary) → ℕ → Summary
   summaryStep before i = summaryByKind (kindOf (getD (N .kinds) i 0)) before i
@@ -143,12 +143,12 @@ abbrev pub endsInBound : Interval → Bool
 endsInBound I = inBound (I .low) && inBound (I .high)
 
 -- An expression's interval, where the intervals of the expression and of every expression inside it are within the bound.
-abbrev pub boundedInterval : Arithmetic → List Stream → Expression → Range
-boundedInterval A ss e =
-    cond (all (λ f. endsInBound (interval A ss f)) (subexpressions e)) (record { ok = true; low = interval A ss e .low; high = interval A ss e .high }) noRange
+abbrev pub boundedInterval : List Stream → Expression → Range
+boundedInterval ss e =
+    cond (all (λ f. endsInBound (interval ss f)) (subexpressions e)) (record { ok = true; low = interval ss e .low; high = interval ss e .high }) noRange
 
-abbrev pub summaryOf : Arithmetic → List Stream → Expression → Summary
-summaryOf A ss e = record { range = boundedInterval A ss e; reach = reach e; back = back e; firsts = length (firsts e); ahead = largestOver reach (firsts e) }
+abbrev pub summaryOf : List Stream → Expression → Summary
+summaryOf ss e = record { range = boundedInterval ss e; reach = reach e; back = back e; firsts = length (firsts e); ahead = largestOver reach (firsts e) }
 
 -- The streams' lowest and highest values.
 abbrev pub lowsOf : List Stream → List ℤ

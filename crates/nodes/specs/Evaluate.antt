@@ -6,8 +6,7 @@ use mathlib.Core.List.{List, [], _∷_}
 use lib.Dec.{leb, ltb, eqb}
 use lib.IntN.{ℤ, pos, negsuc}
 use lib.ListN.{length, getD}
-use Rattle.meaning.specs.Value.{truth, bit}
-use Rattle.meaning.specs.Arithmetic.{Arithmetic}
+use Rattle.meaning.specs.Value.{nonzero, bit}
 use Rattle.nodes.specs.Postfix.{Node, kindsOf, valuesOf, startsOf}
 use Rattle.nodes.specs.Bounded.{noValue, someValue, bounded, appliedByKind}
 use Rattle.nodes.specs.declared.Evaluated.{Evaluated}
@@ -31,7 +30,7 @@ abbrev pub hasNode : Nodes → ℕ → Bool
 hasNode N i = ltb i (length (N .kinds)) && (ltb i (length (N .values)) && ltb i (length (N .starts)))
 
 -- The parts that end up to `end` are stored.
-pub record Stores (N : Nodes) (end : ℕ) : Type 0 where
+pub record HoldsParts (N : Nodes) (end : ℕ) : Type 0 where
   pub kinds : end ≤ length (N .kinds)
   pub values : end ≤ length (N .values)
   pub starts : end ≤ length (N .starts)
@@ -88,17 +87,17 @@ numbered l z = lookup (length l) (λ k. getD l k (pos 0)) z
 abbrev pub streamAt : List ℤ → ℕ → ℕ → ℤ → Evaluated
 streamAt window streams p z = lookup streams (λ k. getD window (p * streams + k) (pos 0)) z
 
-abbrev pub negated : Evaluated → Evaluated
-negated a = cond (a .ok) (someValue (bit (not (truth (a .value))))) noValue
+abbrev pub negatedResult : Evaluated → Evaluated
+negatedResult a = cond (a .ok) (someValue (bit (not (nonzero (a .value))))) noValue
 
 -- "`if` takes its first branch where the condition is not 0." The other branch may have no value.
-abbrev pub chosen : Evaluated → Evaluated → Evaluated → Evaluated
-chosen c a b = cond (c .ok) (cond (truth (c .value)) a b) noValue
+abbrev pub chosenResult : Evaluated → Evaluated → Evaluated → Evaluated
+chosenResult c a b = cond (c .ok) (cond (nonzero (c .value)) a b) noValue
 
-abbrev pub operated : Arithmetic → ℕ → Evaluated → Evaluated → Evaluated
-operated A k a b = cond (a .ok && b .ok) (appliedByKind A k (a .value) (b .value)) noValue
+abbrev pub operated : ℕ → Evaluated → Evaluated → Evaluated
+operated k a b = cond (a .ok && b .ok) (appliedByKind k (a .value) (b .value)) noValue
 
-module _ (A : Arithmetic) (N : Nodes) (W : View) where
+module _ (N : Nodes) (W : View) where
   -- "`a fby b` is a at 0, and b at i−1 later": from what ends at l and at i. In a window the value at the place 0 plays no part.
   abbrev pub followed : (ℕ → ℕ → Evaluated) → ℕ → ℕ → ℕ → Evaluated
   followed before l i zero = cond (W .whole) (before l 0) (someValue (pos 0))
@@ -110,11 +109,11 @@ module _ (A : Arithmetic) (N : Nodes) (W : View) where
   valueByKind nameNode before i p = streamAt (W .window) (W .streams) p (getD (N .values) i (pos 0))
   valueByKind firstNode before i p = cond (W .whole) (before i 0) (numbered (W .firsts) (getD (N .values) i (pos 0)))
   valueByKind nextNode before i p = cond (ltb (suc p) (places W)) (before i (suc p)) noValue
-  valueByKind negationNode before i p = negated (before i p)
+  valueByKind negationNode before i p = negatedResult (before i p)
   valueByKind conditionalNode before i p =
-      chosen (before (leftEnd (N .starts) (leftEnd (N .starts) i)) p) (before (leftEnd (N .starts) i) p) (before i p)
+      chosenResult (before (leftEnd (N .starts) (leftEnd (N .starts) i)) p) (before (leftEnd (N .starts) i) p) (before i p)
   valueByKind fbyNode before i p = followed before (leftEnd (N .starts) i) i p
-  valueByKind operatorNode before i p = operated A (getD (N .kinds) i 0) (before (leftEnd (N .starts) i) p) (before i p)
+  valueByKind operatorNode before i p = operated (getD (N .kinds) i 0) (before (leftEnd (N .starts) i) p) (before i p)
 
   unfoldable pub valueStep : (ℕ → ℕ → Evaluated) → ℕ → ℕ → Evaluated
   valueStep before i p = valueByKind (kindOf (getD (N .kinds) i 0)) before i p

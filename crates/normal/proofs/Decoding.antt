@@ -8,14 +8,13 @@ use mathlib.Core.List.{List, [], _∷_, _++_, map, map-append}
 use lib.Dec.{eqb}
 use lib.ListN.{length, length-append, length-map}
 use Rattle.meaning.specs.Value.{equal}
-use Rattle.meaning.specs.Arithmetic.{cutTowardZero}
 use Rattle.meaning.specs.Expression.{Expression, integer, name, first, next, negation, binary, conditional, fby, Sign, comparison, Constraint, always, until, leftSide, rightSide, Sheet}
 use Rattle.meaning.specs.NormalForm.{added, addedCount, rewritten, equation, addedEntries, addedBy, rewrittenConstraint, entriesBy, allAdded, allRewritten, allEntries, normalForm}
 use Rattle.nodes.specs.Code.{signCode, signAt}
 use Rattle.nodes.proofs.SignCodes.{sign-code}
 use Rattle.spans.specs.Postfix.{inPostfix, nodeCount, nodeExpressions}
-use Rattle.normal.specs.Rows.{Row, Rewriting, rewriting, fbyEntries, untilEntries, Line, untilLine, alwaysLine, lineOf, lineAt, linesOf, ownRows, addedRows, streamsAfter}
-use Rattle.normal.specs.Encoded.{expressionAt, rowsOf, recordOf, encoded}
+use Rattle.normal.specs.Rows.{Row, Rewriting, rewriting, fbyEntries, untilEntries, Line, untilLine, alwaysLine, relationLine, lineAt, rewritingLines, ownRows, addedRows, streamsAfter}
+use Rattle.normal.specs.Encoded.{expressionAt, normalRows, entryRecord, normalEntries}
 use Rattle.normal.proofs.Places.{Stand, Stand-append, stand-self, root-at, sides-stand}
 
 -- ---- how many streams are added
@@ -43,7 +42,7 @@ added-counted p (fby a b) =
 
 -- ---- signs
 
-pub always-line : (s : Sign) (l r : ℕ) (a b : Rewriting) → lineOf (signCode s) l r a b ≡ alwaysLine (signCode s) l r a b
+pub always-line : (s : Sign) (l r : ℕ) (a b : Rewriting) → relationLine (signCode s) l r a b ≡ alwaysLine (signCode s) l r a b
 always-line s l r a b = ap (λ t. cond t (untilLine l r a b) (alwaysLine (signCode s) l r a b)) (sign-code s .1)
 
 -- The constraint of a row, where a node stands for the expression of the sheet's node.
@@ -152,16 +151,16 @@ module _ (s : Sheet) where
   pub line-count : (p : ℕ) (c : Constraint) → Stand L p (inPostfix (leftSide c)) → Stand L (p + nodeCount (leftSide c)) (inPostfix (rightSide c)) → lineAt p c .adds .added ≡ length (addedBy c)
   line-count p c ha hb = line-says p c ha hb .count
 
-  own-say : (p n : ℕ) (cs : List Constraint) → Stand L p (nodeExpressions cs) → map says (ownRows n (linesOf p cs)) ≡ allRewritten n cs
-  unfolding linesOf ownRows allRewritten
+  own-say : (p n : ℕ) (cs : List Constraint) → Stand L p (nodeExpressions cs) → map says (ownRows n (rewritingLines p cs)) ≡ allRewritten n cs
+  unfolding rewritingLines ownRows allRewritten
   own-say p n [] h = refl
   own-say p n (c ∷ cs) h =
       let g = sides-stand L p c cs h in
       let w = line-says p c (g .0) (g .1) in
       ap₂ _∷_ (w .own n) (own-say _ _ cs (g .2) ∙ ap (λ k. allRewritten (n + k) cs) (w .count))
 
-  added-say : (p n : ℕ) (cs : List Constraint) → Stand L p (nodeExpressions cs) → map says (addedRows n (linesOf p cs)) ≡ allEntries n cs
-  unfolding linesOf addedRows allEntries
+  added-say : (p n : ℕ) (cs : List Constraint) → Stand L p (nodeExpressions cs) → map says (addedRows n (rewritingLines p cs)) ≡ allEntries n cs
+  unfolding rewritingLines addedRows allEntries
   added-say p n [] h = refl
   added-say p n (c ∷ cs) h =
       let g = sides-stand L p c cs h in
@@ -169,15 +168,15 @@ module _ (s : Sheet) where
       map-append says (lineAt p c .adds .rows n) _
       ∙ ap₂ _++_ (w .entries n) (added-say _ _ cs (g .2) ∙ ap (λ k. allEntries (n + k) cs) (w .count))
 
-  all-say : map says (rowsOf s) ≡ normalForm cutTowardZero s .constraints
+  all-say : map says (normalRows s) ≡ normalForm s .constraints
   unfolding normalForm
   all-say =
-      map-append says (ownRows (length (s .streams)) (linesOf 0 (s .constraints))) (addedRows (length (s .streams)) (linesOf 0 (s .constraints)))
+      map-append says (ownRows (length (s .streams)) (rewritingLines 0 (s .constraints))) (addedRows (length (s .streams)) (rewritingLines 0 (s .constraints)))
       ∙ ap₂ _++_ (own-say 0 (length (s .streams)) (s .constraints) (stand-self L)) (added-say 0 (length (s .streams)) (s .constraints) (stand-self L))
 
   -- The streams that the lines add are the added streams.
-  pub streams-counted : (p n : ℕ) (cs : List Constraint) → Stand L p (nodeExpressions cs) → streamsAfter n (linesOf p cs) ≡ n + length (allAdded cs)
-  unfolding linesOf streamsAfter allAdded
+  pub streams-counted : (p n : ℕ) (cs : List Constraint) → Stand L p (nodeExpressions cs) → streamsAfter n (rewritingLines p cs) ≡ n + length (allAdded cs)
+  unfolding rewritingLines streamsAfter allAdded
   streams-counted p n [] h = omega arith
   streams-counted p n (c ∷ cs) h =
       let g = sides-stand L p c cs h in
@@ -185,11 +184,11 @@ module _ (s : Sheet) where
       streams-counted _ _ cs (g .2) ∙ omega (arith, w .count, length-append (addedBy c) (allAdded cs))
 
 -- Decoded one by one, the rows are the constraints of the normal form.
-pub rows-decoded : (s : Sheet) → map (decoded s) (rowsOf s) ≡ normalForm cutTowardZero s .constraints
+pub rows-decoded : (s : Sheet) → map (decoded s) (normalRows s) ≡ normalForm s .constraints
 rows-decoded s = all-say s
 
-pub rows-counted : (s : Sheet) → length (rowsOf s) ≡ length (normalForm cutTowardZero s .constraints)
-rows-counted s = sym (length-map (rowsOf s) (decoded s)) ∙ ap length (rows-decoded s)
+pub rows-counted : (s : Sheet) → length (normalRows s) ≡ length (normalForm s .constraints)
+rows-counted s = sym (length-map (normalRows s) (decoded s)) ∙ ap length (rows-decoded s)
 
-pub encoded-length : (text : List ℕ) (s : Sheet) → length (encoded text s) ≡ length (normalForm cutTowardZero s .constraints)
-encoded-length text s = length-map (rowsOf s) (recordOf text s) ∙ rows-counted s
+pub encoded-length : (text : List ℕ) (s : Sheet) → length (normalEntries text s) ≡ length (normalForm s .constraints)
+encoded-length text s = length-map (normalRows s) (entryRecord text s) ∙ rows-counted s

@@ -10,12 +10,12 @@ use lib.IntN.{ℤ, pos}
 use lib.ListN.{length, getD, set, take, length-append}
 use lib.Seq.{sets, take-suc-set, take-length}
 use borrow.Author.Tests.{eq-eqb, ne-eqb, lt-ltb, le-ltb}
+use Rattle.basics.proofs.Lists.{sets-append}
 use Rattle.nodes.specs.declared.Range.{Range}
 use Rattle.spans.specs.Stored.{spanBound}
-use Rattle.normal.specs.Table.{rowBound, sourceAt, endsOf, endsUpTo, spansFrom, withSpans, blank, rowAt, storedPlace, storedSpan, entryAt, listed}
+use Rattle.normal.specs.Table.{rowBound, sourceAt, endsOf, endsUpTo, spansFrom, withSpans, blank, rowAt, storedPlace, storedSpan, storedEntry, listed}
 use Rattle.normal.specs.Fields.{rightIsNode, replacesIn, entryWith}
 use Rattle.normal.specs.declared.Entry.{Entry}
-use Rattle.meaning.proofs.Lists.{sets-append}
 
 pub length-endsUpTo : (range : ℕ → Range) (numbers : List ℕ) (n : ℕ) → length (endsUpTo range numbers n) ≡ n * 2
 unfolding endsUpTo
@@ -43,12 +43,12 @@ module _ (numbers : List ℕ) (ends : List ℤ) (i : ℕ) where
   abbrev pub read : Entry
   read = entryWith (storedSpan numbers) (rowAt numbers i) (getD ends (i * 2) (pos 0)) (getD ends (i * 2 + 1) (pos 0))
 
-  pub entry-beyond : rowBound ≤ i → blank ≡ entryAt numbers ends i
-  unfolding entryAt
+  pub entry-beyond : rowBound ≤ i → blank ≡ storedEntry numbers ends i
+  unfolding storedEntry
   entry-beyond h = sym (simp (le-ltb i rowBound h))
 
-  pub entry-within : i < rowBound → read ≡ entryAt numbers ends i
-  unfolding entryAt
+  pub entry-within : i < rowBound → read ≡ storedEntry numbers ends i
+  unfolding storedEntry
   entry-within h = sym (simp (lt-ltb i rowBound h))
 
 -- ---- the list after the loop

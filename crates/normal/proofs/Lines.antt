@@ -10,9 +10,9 @@ use lib.IntN.{ℤ, pos}
 use lib.ListN.{length, getD, set, drop, replicate, length-append}
 use lib.Seq.{sets, set-comm, drop-cons}
 use borrow.Author.Tests.{eq-eqb, ne-eqb, lt-ltb, le-ltb}
-use Rattle.normal.specs.Rows.{Row, Rewriting, joined, untilRow, untilEntries, untilRewriting, Line, untilLine, alwaysLine, lineOf, ownRows, addedRows, allRows, streamsAfter}
+use Rattle.normal.specs.Rows.{Row, Rewriting, bothRewritings, untilRow, untilEntries, untilRewriting, Line, untilLine, alwaysLine, relationLine, ownRows, addedRows, allRows, streamsAfter}
 use Rattle.normal.specs.Stored.{rewritingBefore, storedLine, storedLines}
-use Rattle.normal.specs.Table.{rowBound, streamLimit, flat, putRows, HasRoom, Wrote, WroteLine, WroteLines, LinesHaveRoom, endsUpTo, refusedMade, numbersWith, withSpans, madeOf}
+use Rattle.normal.specs.Table.{rowBound, streamLimit, flat, putRows, RewritingFits, Wrote, WroteLine, WroteLines, LinesHaveRoom, endsUpTo, refusedMade, numbersWith, withSpans, madeTables}
 use Rattle.normal.specs.declared.Made.{Made}
 use Rattle.normal.specs.declared.Written.{Written}
 use Rattle.nodes.specs.declared.Range.{Range}
@@ -46,8 +46,8 @@ module _ (kinds starts : List ℕ) (relation left right : ℕ) where
   abbrev b : Rewriting
   b = rewritingBefore kinds starts (right + 1)
 
-  line-is : storedLine kinds starts relation left right ≡ lineOf relation (left + 1) (right + 1) a b
-  line-is = λ i. lineOf relation (sym (add-one left) i) (sym (add-one right) i) (rewritingBefore kinds starts (sym (add-one left) i)) (rewritingBefore kinds starts (sym (add-one right) i))
+  line-is : storedLine kinds starts relation left right ≡ relationLine relation (left + 1) (right + 1) a b
+  line-is = λ i. relationLine relation (sym (add-one left) i) (sym (add-one right) i) (rewritingBefore kinds starts (sym (add-one left) i)) (rewritingBefore kinds starts (sym (add-one right) i))
 
   pub line-until : relation ≡ 7 → storedLine kinds starts relation left right ≡ untilLine (left + 1) (right + 1) a b
   line-until e = line-is ∙ ap (λ t. cond t (untilLine (left + 1) (right + 1) a b) (alwaysLine relation (left + 1) (right + 1) a b)) (eq-eqb relation 7 e)
@@ -58,17 +58,17 @@ module _ (kinds starts : List ℕ) (relation left right : ℕ) where
   until-length : (n : ℕ) → length (untilRewriting (left + 1) (right + 1) a b .rows n) ≡ length (a .rows n) + (2 + length (b .rows (suc (suc (n + a .added)))))
   until-length n = length-append (a .rows n) (untilEntries (left + 1) (right + 1) n (n + a .added) ++ b .rows (suc (suc (n + a .added)))) ∙ omega arith
 
-  module _ {row n : ℕ} (h : HasRoom (storedLine kinds starts relation left right .adds) row n) where
-    until-room : relation ≡ 7 → HasRoom (untilRewriting (left + 1) (right + 1) a b) row n
-    until-room e = subst (λ l. HasRoom (l .adds) row n) (line-until e) h
+  module _ {row n : ℕ} (h : RewritingFits (storedLine kinds starts relation left right .adds) row n) where
+    until-room : relation ≡ 7 → RewritingFits (untilRewriting (left + 1) (right + 1) a b) row n
+    until-room e = subst (λ l. RewritingFits (l .adds) row n) (line-until e) h
 
-    always-room : (relation ≡ 7 → ⊥) → HasRoom (joined a b) row n
-    always-room e = subst (λ l. HasRoom (l .adds) row n) (line-always e) h
+    always-room : (relation ≡ 7 → ⊥) → RewritingFits (bothRewritings a b) row n
+    always-room e = subst (λ l. RewritingFits (l .adds) row n) (line-always e) h
 
-    pub line-left : HasRoom a row n
+    pub line-left : RewritingFits a row n
     line-left = by (ℕ-discrete relation 7)
       where
-        by : Dec (relation ≡ 7) → HasRoom a row n
+        by : Dec (relation ≡ 7) → RewritingFits a row n
         by (yes e) = let g = until-room e in let k = until-length n in record { rows = omega (arith, g .rows); streams = omega (arith, g .streams) }
         by (no e) = room-left a b refl (always-room e)
 
@@ -79,7 +79,7 @@ module _ (kinds starts : List ℕ) (relation left right : ℕ) where
           let k = until-length n in
           (omega (arith, g .rows, x .rows), omega (arith, g .streams, x .streams), omega (arith, g .streams))
 
-      pub until-right : relation ≡ 7 → HasRoom b (r .row + 2) (r .stream + 2)
+      pub until-right : relation ≡ 7 → RewritingFits b (r .row + 2) (r .stream + 2)
       until-right e =
           let g = until-room e in
           let k = until-length n in
@@ -87,7 +87,7 @@ module _ (kinds starts : List ℕ) (relation left right : ℕ) where
           let f = ap (λ k. length (b .rows k)) s in
           record { rows = omega (arith, g .rows, x .rows); streams = omega (arith, g .streams, x .streams) }
 
-      pub always-right : (relation ≡ 7 → ⊥) → HasRoom b (r .row) (r .stream)
+      pub always-right : (relation ≡ 7 → ⊥) → RewritingFits b (r .row) (r .stream)
       always-right e = room-right a b refl x (always-room e)
 
       pub always-own : (relation ≡ 7 → ⊥) → (row ≤ rowBound) × (n ≤ streamLimit) × (r .stream ≤ streamLimit)
@@ -141,7 +141,7 @@ length-ownRows n [] = refl
 length-ownRows n (l ∷ ls) = ap suc (length-ownRows (n + l .adds .added) ls)
 
 module _ (l : Line) (ls : List Line) {row n : ℕ} (h : LinesHaveRoom (l ∷ ls) row n) where
-  pub lines-first : HasRoom (l .adds) row n
+  pub lines-first : RewritingFits (l .adds) row n
   unfolding addedRows streamsAfter
   lines-first =
       let e = length-append (l .adds .rows n) (addedRows (n + l .adds .added) ls) in
@@ -216,13 +216,13 @@ module _ (ls : List Line) (streams : ℕ) {count : ℕ} (e : length ls ≡ count
   streams-added = omega (arith, streams-more streams ls, w .streams)
 
   module _ (range : ℕ → Range) (spans : List ℕ) (room : ℕ) where
-    pub made-short : {x : Made} → room < r .row → x ≡ refusedMade 10 → x ≡ madeOf ls streams range spans room
-    unfolding madeOf
+    pub made-short : {x : Made} → room < r .row → x ≡ refusedMade 10 → x ≡ madeTables ls streams range spans room
+    unfolding madeTables
     made-short h q = let c = rows-counted in q ∙ sym (simp (lt-ltb room (length (allRows streams ls)) (omega arith)))
 
     pub made-whole : {ends : List ℤ} {numbers : List ℕ} → r .row ≤ room → numbers ≡ withSpans new spans → ends ≡ sets (replicate 8256 (pos 0)) 0 (endsUpTo range new (r .row))
-        → _≡_ {A = Made} (record { answer = record { refusal = 0; entries = r .row; added = r .stream - streams }; numbers = numbers; ends = ends }) (madeOf ls streams range spans room)
-    unfolding madeOf
+        → _≡_ {A = Made} (record { answer = record { refusal = 0; entries = r .row; added = r .stream - streams }; numbers = numbers; ends = ends }) (madeTables ls streams range spans room)
+    unfolding madeTables
     made-whole h p q =
         let c = rows-counted in
         let s = w .streams in

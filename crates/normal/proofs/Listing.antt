@@ -9,8 +9,9 @@ use lib.IntN.{ℤ, pos}
 use lib.ListN.{length, getD, set, drop, replicate, length-append, length-map, length-set, length-replicate, List·getD-append, List·getD-eq-default}
 use lib.Seq.{sets, sets-eq, length-sets, getD-set-same, getD-set-other, getD-append-add, getD-drop, ext-getD}
 use borrow.Author.Tests.{lt-ltb, le-ltb}
+use Rattle.basics.proofs.Lists.{All-getD, getD-map}
+use Rattle.basics.specs.Lists.{All}
 use Rattle.meaning.specs.Arithmetic.{Interval}
-use Rattle.meaning.proofs.Lists.{All, All-getD, getD-map}
 use mathlib.Core.Bool.{Bool, true, false, cond}
 use Rattle.nodes.specs.declared.Range.{Range}
 use Rattle.scan.specs.declared.Span.{Span}
@@ -20,8 +21,8 @@ use Rattle.spans.specs.Spans.{spansIn}
 use Rattle.spans.proofs.Tables.{places-length, table-few}
 use Rattle.normal.specs.Rows.{Row}
 use Rattle.normal.specs.Fields.{entryWith}
-use Rattle.normal.specs.Table.{rowBound, numbersOf, flat, sourceAt, endsOf, endsUpTo, spansFrom, withSpans, blank, rowAt, storedPlace, storedSpan, entryAt, numbersWith, endsWith, listed}
-use Rattle.normal.specs.Encoded.{spanBefore, entryOf}
+use Rattle.normal.specs.Table.{rowBound, numbersOf, flat, sourceAt, endsOf, endsUpTo, spansFrom, withSpans, blank, rowAt, storedPlace, storedSpan, storedEntry, numbersWith, endsWith, listed}
+use Rattle.normal.specs.Encoded.{spanBefore, entryFor}
 use Rattle.normal.specs.declared.Entry.{Entry}
 use Rattle.normal.proofs.Writing.{length-flat}
 use Rattle.normal.proofs.Entries.{length-endsUpTo, length-listed, entry-within, entry-beyond}
@@ -202,7 +203,7 @@ record HasRows (rows : List Row) (numbers : List ℕ) (ss : List Span) : Type 0 
 module _ (rows : List Row) (range : ℕ → Range) (interval : ℕ → Interval) (fits : length rows ≤ rowBound)
     (sound : All (λ r. endsOf (range (r .source)) ≡ interval (r .source) .low ∷ interval (r .source) .high ∷ []) rows) {numbers : List ℕ} {ss : List Span} (has : HasRows rows numbers ss) where
   abbrev entry : Row → Entry
-  entry r = entryOf ss r (interval (r .source))
+  entry r = entryFor ss r (interval (r .source))
 
   abbrev ends : List ℤ
   ends = endsWith range rows
@@ -250,30 +251,30 @@ module _ (rows : List Row) (range : ℕ → Range) (interval : ℕ → Interval)
         source = field (i * 7 + 6) (omega arith) (omega arith) j;
       }
 
-  entry-in : (i : ℕ) → i < length rows → entryAt numbers ends i ≡ entry (getD rows i noRow)
+  entry-in : (i : ℕ) → i < length rows → storedEntry numbers ends i ≡ entry (getD rows i noRow)
   entry-in i h =
       let f : i * 2 ≡ i * 2 + 0 = omega arith in
       let low = ap (λ j. getD ends j (pos 0)) f ∙ end-at i 0 h (omega arith) in
       let high = end-at i 1 h (omega arith) in
       sym (entry-within numbers ends i (omega arith)) ∙ (λ j. entryWith (λ e. has .spans e j) (row-in i h j) (low j) (high j))
 
-  entry-out : (i : ℕ) → length rows ≤ i → entryAt numbers ends i ≡ blank
+  entry-out : (i : ℕ) → length rows ≤ i → storedEntry numbers ends i ≡ blank
   entry-out i h = by (decLt i rowBound)
     where
-      by : Dec (i < rowBound) → entryAt numbers ends i ≡ blank
+      by : Dec (i < rowBound) → storedEntry numbers ends i ≡ blank
       by (yes l) =
           let low = end-out (i * 2) (omega arith) in
           let high = end-out (i * 2 + 1) (omega arith) in
           sym (entry-within numbers ends i l) ∙ (λ j. entryWith (λ e. has .spans e j) (row-out i l h j) (low j) (high j))
       by (no l) = sym (entry-beyond numbers ends i (omega arith))
 
-  listing : (room : ℕ) → length rows ≤ room → listed (entryAt numbers ends) room ≡ map entry rows ++ replicate (room - length rows) blank
+  listing : (room : ℕ) → length rows ≤ room → listed (storedEntry numbers ends) room ≡ map entry rows ++ replicate (room - length rows) blank
   listing room h =
-      ext-getD blank (listed (entryAt numbers ends) room) (map entry rows ++ replicate (room - length rows) blank)
-      (length-listed (entryAt numbers ends) room ∙ omega (arith, length-append (map entry rows) (replicate (room - length rows) blank), length-map rows entry, length-replicate (room - length rows) blank))
-      (λ i l. listed-at (entryAt numbers ends) blank room i (omega (arith, length-listed (entryAt numbers ends) room)) ∙ by i (decLt i (length rows)))
+      ext-getD blank (listed (storedEntry numbers ends) room) (map entry rows ++ replicate (room - length rows) blank)
+      (length-listed (storedEntry numbers ends) room ∙ omega (arith, length-append (map entry rows) (replicate (room - length rows) blank), length-map rows entry, length-replicate (room - length rows) blank))
+      (λ i l. listed-at (storedEntry numbers ends) blank room i (omega (arith, length-listed (storedEntry numbers ends) room)) ∙ by i (decLt i (length rows)))
     where
-      by : (i : ℕ) → Dec (i < length rows) → entryAt numbers ends i ≡ getD (map entry rows ++ replicate (room - length rows) blank) i blank
+      by : (i : ℕ) → Dec (i < length rows) → storedEntry numbers ends i ≡ getD (map entry rows ++ replicate (room - length rows) blank) i blank
       by i (yes p) =
           entry-in i p
           ∙ sym (List·getD-append (map entry rows) (replicate (room - length rows) blank) blank i (omega (arith, length-map rows entry)) ∙ getD-map entry rows i noRow blank p)
@@ -284,14 +285,14 @@ module _ (rows : List Row) (range : ℕ → Range) (interval : ℕ → Interval)
 
 -- The tables that are made, and a list of blanks.
 pub made-listing : (text : List ℕ) (rows : List Row) (range : ℕ → Range) (interval : ℕ → Interval) → length rows ≤ rowBound → All (λ r. endsOf (range (r .source)) ≡ interval (r .source) .low ∷ interval (r .source) .high ∷ []) rows → length (spansIn text) ≤ spanBound
-    → (room : ℕ) → length rows ≤ room → listed (entryAt (withSpans (numbersWith rows) (spanTable text)) (endsWith range rows)) room ≡ map (λ r. entryOf (spansIn text) r (interval (r .source))) rows ++ replicate (room - length rows) blank
+    → (room : ℕ) → length rows ≤ room → listed (storedEntry (withSpans (numbersWith rows) (spanTable text)) (endsWith range rows)) room ≡ map (λ r. entryFor (spansIn text) r (interval (r .source))) rows ++ replicate (room - length rows) blank
 made-listing text rows range interval fits sound few room h =
     let long = numbers-long rows fits in
     listing rows range interval fits sound (record { same = number-kept (numbersWith rows) text long few; spans = span-stored (numbersWith rows) text long few }) room h
 
-pub blanks : (t : List ℕ) (u : List ℤ) (room : ℕ) → t ≡ replicate 30944 0 → u ≡ replicate 8256 (pos 0) → listed (entryAt t u) room ≡ replicate room blank
+pub blanks : (t : List ℕ) (u : List ℤ) (room : ℕ) → t ≡ replicate 30944 0 → u ≡ replicate 8256 (pos 0) → listed (storedEntry t u) room ≡ replicate room blank
 unfolding endsUpTo
 blanks t u room p q =
-    (λ i. listed (entryAt (p i) (q i)) room)
+    (λ i. listed (storedEntry (p i) (q i)) room)
     ∙ listing [] (λ e. record { ok = false; low = pos 0; high = pos 0 }) (λ e. record { low = pos 0; high = pos 0 }) (omega arith) tt {ss = []} (record { same = λ j h. refl; spans = no-span-stored }) room (omega arith)
     ∙ ap (λ k. replicate k blank) (let e : room - 0 ≡ room = omega arith in e)

@@ -6,51 +6,27 @@ use native.Mathlib.Decide.{ℕ-discrete, decLt}
 use mathlib.Core.Path.{_≡_, sym, _∙_, ap, subst}
 use mathlib.Core.Bool.{cond}
 use mathlib.Core.List.{List, [], _∷_, _++_, map}
-use mathlib.Core.Logic.{_⊎_, inl, inr}
+use mathlib.Core.Logic.{inl, inr}
 use borrow.Author.Tests.{ne-eqb}
 use lib.IntN.{pos}
 use lib.ListN.{length, getD, length-append, length-map}
 use lib.Seq.{getD-append-add}
-use Rattle.meaning.specs.Arithmetic.{Interval, cutTowardZero}
+use Rattle.basics.proofs.Lists.{All-append, All-map, All-mapped, Some-left, Some-mapped, Some-right}
+use Rattle.basics.specs.Lists.{All, Some}
+use Rattle.meaning.specs.Arithmetic.{Interval}
 use Rattle.meaning.specs.Expression.{Expression, integer, name, first, next, negation, binary, conditional, fby, Constraint, always, until, leftSide, rightSide, Stream, Sheet, rangeOf}
 use Rattle.meaning.specs.Interval.{interval}
 use Rattle.meaning.specs.NormalForm.{added, addedCount, addedBy, allAdded, normalForm}
-use Rattle.meaning.proofs.Lists.{All, All-append, All-map}
 use Rattle.meaning.proofs.NormalForm.{range-added}
 use Rattle.meaning.proofs.NormalForm.Names.{streams-length}
 use Rattle.spans.specs.Postfix.{inPostfix, nodeCount, nodeExpressions}
-use Rattle.normal.specs.Rows.{Row, rewriting, Line, lineAt, linesOf, ownRows, addedRows, streamsAfter}
-use Rattle.normal.specs.Encoded.{expressionAt, sourceInterval, rowsOf, recordOf, encoded}
+use Rattle.normal.specs.Rows.{Row, rewriting, Line, lineAt, rewritingLines, ownRows, addedRows, streamsAfter}
+use Rattle.normal.specs.Encoded.{expressionAt, sourceInterval, normalRows, entryRecord, normalEntries}
 use Rattle.normal.specs.Fields.{leftIsNode}
 use Rattle.normal.specs.Says.{standsFor}
 use Rattle.normal.specs.declared.Entry.{Entry}
 use Rattle.normal.proofs.Decoding.{added-counted, always-line, line-count, streams-counted}
 use Rattle.normal.proofs.Places.{Stand, Stand-append, stand-self, some-node, root-at, sides-stand}
-
--- ---- some member of a list
-
-abbrev pub Some : {X : Type 0} → (X → Type 0) → List X → Type 0
-Some P [] = ⊥
-Some P (x ∷ xs) = P x ⊎ Some P xs
-
-module _ {X : Type 0} (P : X → Type 0) where
-  pub some-left : (xs ys : List X) → Some P xs → Some P (xs ++ ys)
-  some-left [] ys h = absurd h
-  some-left (x ∷ xs) ys (inl p) = inl p
-  some-left (x ∷ xs) ys (inr h) = inr (some-left xs ys h)
-
-  pub some-right : (xs ys : List X) → Some P ys → Some P (xs ++ ys)
-  some-right [] ys h = h
-  some-right (x ∷ xs) ys h = inr (some-right xs ys h)
-
-pub some-map : {X Y : Type 0} {P : X → Type 0} (Q : Y → Type 0) (f : X → Y) → ((x : X) → P x → Q (f x)) → (xs : List X) → Some P xs → Some Q (map f xs)
-some-map Q f g [] h = absurd h
-some-map Q f g (x ∷ xs) (inl p) = inl (g x p)
-some-map Q f g (x ∷ xs) (inr h) = inr (some-map Q f g xs h)
-
-pub all-map : {X Y : Type 0} {P : X → Type 0} (Q : Y → Type 0) (f : X → Y) → ((x : X) → P x → Q (f x)) → (xs : List X) → All P xs → All Q (map f xs)
-all-map Q f g [] h = tt
-all-map Q f g (x ∷ xs) h = (g x (h .0), all-map Q f g xs (h .1))
 
 -- ---- every added stream is named
 
@@ -79,8 +55,8 @@ rows-cover p (binary o a b) n k l h = by (decLt k (n + rewriting p a .added)) (r
     by : Dec (k < n + rewriting p a .added) → (k < n + rewriting p a .added → Some (NamesStream k) (rewriting p a .rows n))
         → (n + rewriting p a .added ≤ k → k < n + rewriting p a .added + rewriting (p + nodeCount a) b .added → Some (NamesStream k) (rewriting (p + nodeCount a) b .rows (n + rewriting p a .added)))
         → Some (NamesStream k) (rewriting p (binary o a b) .rows n)
-    by (yes q) f g = some-left (NamesStream k) (rewriting p a .rows n) _ (f q)
-    by (no q) f g = some-right (NamesStream k) (rewriting p a .rows n) _ (g (omega arith) (omega arith))
+    by (yes q) f g = Some-left (NamesStream k) (rewriting p a .rows n) _ (f q)
+    by (no q) f g = Some-right (NamesStream k) (rewriting p a .rows n) _ (g (omega arith) (omega arith))
 rows-cover p (conditional c a b) n k l h =
     by (decLt k (n + rewriting p c .added)) (decLt k (n + rewriting p c .added + rewriting (p + nodeCount c) a .added))
     (rows-cover p c n k l) (rows-cover (p + nodeCount c) a (n + rewriting p c .added) k) (rows-cover (p + nodeCount c + nodeCount a) b (n + rewriting p c .added + rewriting (p + nodeCount c) a .added) k)
@@ -90,9 +66,9 @@ rows-cover p (conditional c a b) n k l h =
         → (n + rewriting p c .added + rewriting (p + nodeCount c) a .added ≤ k → k < n + rewriting p c .added + rewriting (p + nodeCount c) a .added + rewriting (p + nodeCount c + nodeCount a) b .added
         → Some (NamesStream k) (rewriting (p + nodeCount c + nodeCount a) b .rows (n + rewriting p c .added + rewriting (p + nodeCount c) a .added)))
         → Some (NamesStream k) (rewriting p (conditional c a b) .rows n)
-    by (yes q) d f g w = some-left (NamesStream k) (rewriting p c .rows n) _ (f q)
-    by (no q) (yes d) f g w = some-right (NamesStream k) (rewriting p c .rows n) _ (some-left (NamesStream k) (rewriting (p + nodeCount c) a .rows (n + rewriting p c .added)) _ (g (omega arith) d))
-    by (no q) (no d) f g w = some-right (NamesStream k) (rewriting p c .rows n) _ (some-right (NamesStream k) (rewriting (p + nodeCount c) a .rows (n + rewriting p c .added)) _ (w (omega arith) (omega arith)))
+    by (yes q) d f g w = Some-left (NamesStream k) (rewriting p c .rows n) _ (f q)
+    by (no q) (yes d) f g w = Some-right (NamesStream k) (rewriting p c .rows n) _ (Some-left (NamesStream k) (rewriting (p + nodeCount c) a .rows (n + rewriting p c .added)) _ (g (omega arith) d))
+    by (no q) (no d) f g w = Some-right (NamesStream k) (rewriting p c .rows n) _ (Some-right (NamesStream k) (rewriting (p + nodeCount c) a .rows (n + rewriting p c .added)) _ (w (omega arith) (omega arith)))
 rows-cover p (fby a b) n k l h =
     by (decLt k (n + rewriting p a .added)) (ℕ-discrete k (n + rewriting p a .added)) (ℕ-discrete k (suc (n + rewriting p a .added))) (ℕ-discrete k (suc (suc (n + rewriting p a .added))))
     (rows-cover p a n k l) (rows-cover (p + nodeCount a) b (suc (suc (suc (n + rewriting p a .added)))) k)
@@ -101,11 +77,11 @@ rows-cover p (fby a b) n k l h =
         → (k < n + rewriting p a .added → Some (NamesStream k) (rewriting p a .rows n))
         → (suc (suc (suc (n + rewriting p a .added))) ≤ k → k < suc (suc (suc (n + rewriting p a .added))) + rewriting (p + nodeCount a) b .added → Some (NamesStream k) (rewriting (p + nodeCount a) b .rows (suc (suc (suc (n + rewriting p a .added))))))
         → Some (NamesStream k) (rewriting p (fby a b) .rows n)
-    by (yes q) c d e f g = some-left (NamesStream k) (rewriting p a .rows n) _ (f q)
-    by (no q) (yes c) d e f g = some-right (NamesStream k) (rewriting p a .rows n) _ (inr (inr (inl (record { kind = omega arith; left = sym c }))))
-    by (no q) (no c) (yes d) e f g = some-right (NamesStream k) (rewriting p a .rows n) _ (inl (record { kind = omega arith; left = sym d }))
-    by (no q) (no c) (no d) (yes e) f g = some-right (NamesStream k) (rewriting p a .rows n) _ (inr (inl (record { kind = omega arith; left = sym e })))
-    by (no q) (no c) (no d) (no e) f g = some-right (NamesStream k) (rewriting p a .rows n) _ (inr (inr (inr (inr (g (omega arith) (omega arith))))))
+    by (yes q) c d e f g = Some-left (NamesStream k) (rewriting p a .rows n) _ (f q)
+    by (no q) (yes c) d e f g = Some-right (NamesStream k) (rewriting p a .rows n) _ (inr (inr (inl (record { kind = omega arith; left = sym c }))))
+    by (no q) (no c) (yes d) e f g = Some-right (NamesStream k) (rewriting p a .rows n) _ (inl (record { kind = omega arith; left = sym d }))
+    by (no q) (no c) (no d) (yes e) f g = Some-right (NamesStream k) (rewriting p a .rows n) _ (inr (inl (record { kind = omega arith; left = sym e })))
+    by (no q) (no c) (no d) (no e) f g = Some-right (NamesStream k) (rewriting p a .rows n) _ (inr (inr (inr (inr (g (omega arith) (omega arith))))))
 
 line-cover : (p : ℕ) (c : Constraint) (n k : ℕ) → n ≤ k → k < n + lineAt p c .adds .added → Some (NamesStream k) (lineAt p c .adds .rows n)
 line-cover p (always t a b) n k l h =
@@ -113,25 +89,25 @@ line-cover p (always t a b) n k l h =
     subst (λ (m : Line). Some (NamesStream k) (m .adds .rows n)) (sym w) (by (decLt k (n + rewriting p a .added)) (subst (λ (m : Line). k < n + m .adds .added) w h))
   where
     by : Dec (k < n + rewriting p a .added) → k < n + (rewriting p a .added + rewriting (p + nodeCount a) b .added) → Some (NamesStream k) (rewriting p a .rows n ++ rewriting (p + nodeCount a) b .rows (n + rewriting p a .added))
-    by (yes q) h = some-left (NamesStream k) (rewriting p a .rows n) _ (rows-cover p a n k l q)
-    by (no q) h = some-right (NamesStream k) (rewriting p a .rows n) _ (rows-cover (p + nodeCount a) b (n + rewriting p a .added) k (omega arith) (omega arith))
+    by (yes q) h = Some-left (NamesStream k) (rewriting p a .rows n) _ (rows-cover p a n k l q)
+    by (no q) h = Some-right (NamesStream k) (rewriting p a .rows n) _ (rows-cover (p + nodeCount a) b (n + rewriting p a .added) k (omega arith) (omega arith))
 line-cover p (until a b) n k l h = by (decLt k (n + rewriting p a .added)) (ℕ-discrete k (n + rewriting p a .added)) (ℕ-discrete k (suc (n + rewriting p a .added)))
   where
     by : Dec (k < n + rewriting p a .added) → Dec (k ≡ n + rewriting p a .added) → Dec (k ≡ suc (n + rewriting p a .added)) → Some (NamesStream k) (lineAt p (until a b) .adds .rows n)
-    by (yes q) c d = some-left (NamesStream k) (rewriting p a .rows n) _ (rows-cover p a n k l q)
-    by (no q) (yes c) d = some-right (NamesStream k) (rewriting p a .rows n) _ (inl (record { kind = omega arith; left = sym c }))
-    by (no q) (no c) (yes d) = some-right (NamesStream k) (rewriting p a .rows n) _ (inr (inl (record { kind = omega arith; left = sym d })))
-    by (no q) (no c) (no d) = some-right (NamesStream k) (rewriting p a .rows n) _ (inr (inr (rows-cover (p + nodeCount a) b (suc (suc (n + rewriting p a .added))) k (omega arith) (omega arith))))
+    by (yes q) c d = Some-left (NamesStream k) (rewriting p a .rows n) _ (rows-cover p a n k l q)
+    by (no q) (yes c) d = Some-right (NamesStream k) (rewriting p a .rows n) _ (inl (record { kind = omega arith; left = sym c }))
+    by (no q) (no c) (yes d) = Some-right (NamesStream k) (rewriting p a .rows n) _ (inr (inl (record { kind = omega arith; left = sym d })))
+    by (no q) (no c) (no d) = Some-right (NamesStream k) (rewriting p a .rows n) _ (inr (inr (rows-cover (p + nodeCount a) b (suc (suc (n + rewriting p a .added))) k (omega arith) (omega arith))))
 
-lines-cover : (p : ℕ) (cs : List Constraint) (n k : ℕ) → n ≤ k → k < streamsAfter n (linesOf p cs) → Some (NamesStream k) (addedRows n (linesOf p cs))
-unfolding linesOf addedRows streamsAfter
+lines-cover : (p : ℕ) (cs : List Constraint) (n k : ℕ) → n ≤ k → k < streamsAfter n (rewritingLines p cs) → Some (NamesStream k) (addedRows n (rewritingLines p cs))
+unfolding rewritingLines addedRows streamsAfter
 lines-cover p [] n k l h = absurd (omega arith)
 lines-cover p (c ∷ cs) n k l h = by (decLt k (n + lineAt p c .adds .added)) (lines-cover (p + nodeCount (leftSide c) + nodeCount (rightSide c)) cs (n + lineAt p c .adds .added) k)
   where
-    by : Dec (k < n + lineAt p c .adds .added) → (n + lineAt p c .adds .added ≤ k → k < streamsAfter (n + lineAt p c .adds .added) (linesOf (p + nodeCount (leftSide c) + nodeCount (rightSide c)) cs) → Some (NamesStream k) (addedRows (n + lineAt p c .adds .added) (linesOf (p + nodeCount (leftSide c) + nodeCount (rightSide c)) cs)))
-        → Some (NamesStream k) (lineAt p c .adds .rows n ++ addedRows (n + lineAt p c .adds .added) (linesOf (p + nodeCount (leftSide c) + nodeCount (rightSide c)) cs))
-    by (yes q) r = some-left (NamesStream k) (lineAt p c .adds .rows n) _ (line-cover p c n k l q)
-    by (no q) r = some-right (NamesStream k) (lineAt p c .adds .rows n) _ (r (omega arith) h)
+    by : Dec (k < n + lineAt p c .adds .added) → (n + lineAt p c .adds .added ≤ k → k < streamsAfter (n + lineAt p c .adds .added) (rewritingLines (p + nodeCount (leftSide c) + nodeCount (rightSide c)) cs) → Some (NamesStream k) (addedRows (n + lineAt p c .adds .added) (rewritingLines (p + nodeCount (leftSide c) + nodeCount (rightSide c)) cs)))
+        → Some (NamesStream k) (lineAt p c .adds .rows n ++ addedRows (n + lineAt p c .adds .added) (rewritingLines (p + nodeCount (leftSide c) + nodeCount (rightSide c)) cs))
+    by (yes q) r = Some-left (NamesStream k) (lineAt p c .adds .rows n) _ (line-cover p c n k l q)
+    by (no q) r = Some-right (NamesStream k) (lineAt p c .adds .rows n) _ (r (omega arith) h)
 
 -- From kind 2 on the left is a stream.
 pub stream-left : (r : Row) → 2 ≤ r .kind → cond (leftIsNode (r .kind)) 0 (r .left) ≡ r .left
@@ -143,11 +119,11 @@ pub record NamedBy (k : ℕ) (e : Entry) : Type 0 where
   pub left : e .left ≡ k
 
 -- Every added stream is the left of some entry.
-pub streams-named : (text : List ℕ) (s : Sheet) (k : ℕ) → length (s .streams) ≤ k → k < length (normalForm cutTowardZero s .streams) → Some (NamedBy k) (encoded text s)
+pub streams-named : (text : List ℕ) (s : Sheet) (k : ℕ) → length (s .streams) ≤ k → k < length (normalForm s .streams) → Some (NamedBy k) (normalEntries text s)
 streams-named text s k l h =
-    let total = streams-counted s 0 (length (s .streams)) (s .constraints) (stand-self (nodeExpressions (s .constraints))) ∙ sym (streams-length cutTowardZero s) in
-    some-map (NamedBy k) (recordOf text s) (λ r p. record { kind = p .kind; left = stream-left r (p .kind) ∙ p .left }) (rowsOf s)
-    (some-right (NamesStream k) (ownRows (length (s .streams)) (linesOf 0 (s .constraints))) (addedRows (length (s .streams)) (linesOf 0 (s .constraints))) (lines-cover 0 (s .constraints) (length (s .streams)) k l (omega arith)))
+    let total = streams-counted s 0 (length (s .streams)) (s .constraints) (stand-self (nodeExpressions (s .constraints))) ∙ sym (streams-length s) in
+    Some-mapped (NamedBy k) (entryRecord text s) (λ r p. record { kind = p .kind; left = stream-left r (p .kind) ∙ p .left }) (normalRows s)
+    (Some-right (NamesStream k) (ownRows (length (s .streams)) (rewritingLines 0 (s .constraints))) (addedRows (length (s .streams)) (rewritingLines 0 (s .constraints))) (lines-cover 0 (s .constraints) (length (s .streams)) k l (omega arith)))
 
 -- ---- the ranges of named streams
 
@@ -292,8 +268,8 @@ module _ (s : Sheet) where
       )
 
   lines-ranged : (p n : ℕ) (cs : List Constraint) → Stand L p (nodeExpressions cs) → Stand Streamed n (allAdded cs) → length (s .streams) ≤ n → n + length (allAdded cs) ≤ total
-      → All Ranged (ownRows n (linesOf p cs)) × All Ranged (addedRows n (linesOf p cs))
-  unfolding linesOf ownRows addedRows allAdded
+      → All Ranged (ownRows n (rewritingLines p cs)) × All Ranged (addedRows n (rewritingLines p cs))
+  unfolding rewritingLines ownRows addedRows allAdded
   lines-ranged p n [] h k l u = (tt, tt)
   lines-ranged p n (c ∷ cs) h k l u =
       let g = sides-stand L p c cs h in
@@ -302,7 +278,7 @@ module _ (s : Sheet) where
       let one = line-ranged p c n (g .0) (g .1) (d .0) l (omega arith) in
       let e = line-count s p c (g .0) (g .1) in
       let more = lines-ranged (p + nodeCount (leftSide c) + nodeCount (rightSide c)) (n + length (addedBy c)) cs (g .2) (d .1) (omega arith) (omega arith) in
-      let more′ = subst (λ m. All Ranged (ownRows (n + m) (linesOf (p + nodeCount (leftSide c) + nodeCount (rightSide c)) cs)) × All Ranged (addedRows (n + m) (linesOf (p + nodeCount (leftSide c) + nodeCount (rightSide c)) cs))) (sym e) more in
+      let more′ = subst (λ m. All Ranged (ownRows (n + m) (rewritingLines (p + nodeCount (leftSide c) + nodeCount (rightSide c)) cs)) × All Ranged (addedRows (n + m) (rewritingLines (p + nodeCount (leftSide c) + nodeCount (rightSide c)) cs))) (sym e) more in
       ((one .0, more′ .0), All-append Ranged (lineAt p c .adds .rows n) _ .1 (one .1, more′ .1))
 
   streamed-added : Stand Streamed (length (s .streams)) (allAdded (s .constraints))
@@ -311,11 +287,11 @@ module _ (s : Sheet) where
       let e : 0 + length pad ≡ length (s .streams) = omega (arith, length-map (s .streams) (λ (x : Stream). integer (pos 0))) in
       subst (λ k. Stand Streamed k (allAdded (s .constraints))) e (Stand-append Streamed 0 pad (allAdded (s .constraints)) (stand-self Streamed) .1)
 
-  source-interval : (e : ℕ) → 0 < e → sourceInterval cutTowardZero s e ≡ interval cutTowardZero (s .streams) (expressionAt s (e - 1))
+  source-interval : (e : ℕ) → 0 < e → sourceInterval s e ≡ interval (s .streams) (expressionAt s (e - 1))
   source-interval zero h = absurd (omega arith)
-  source-interval (suc i) h = let q : i ≡ suc i - 1 = omega arith in ap (λ k. interval cutTowardZero (s .streams) (expressionAt s k)) q
+  source-interval (suc i) h = let q : i ≡ suc i - 1 = omega arith in ap (λ k. interval (s .streams) (expressionAt s k)) q
 
-  row-range : (r : Row) → Ranged r → 2 ≤ r .kind → sourceInterval cutTowardZero s (r .source) ≡ rangeOf (normalForm cutTowardZero s .streams) (r .left)
+  row-range : (r : Row) → Ranged r → 2 ≤ r .kind → sourceInterval s (r .source) ≡ rangeOf (normalForm s .streams) (r .left)
   row-range r h k =
       let pad = map (λ (x : Stream). integer (pos 0)) (s .streams) in
       let len = length-map (s .streams) (λ (x : Stream). integer (pos 0)) in
@@ -325,8 +301,8 @@ module _ (s : Sheet) where
       let at : r .left ≡ length (s .streams) + j = omega arith in
       let at′ : r .left ≡ length pad + j = omega arith in
       source-interval (r .source) (h .source k)
-      ∙ ap (interval cutTowardZero (s .streams)) (sym (h .stands k) ∙ ap streamed at′ ∙ getD-append-add pad (allAdded (s .constraints)) j (integer (pos 0)))
-      ∙ sym (ap (rangeOf (normalForm cutTowardZero s .streams)) at ∙ range-added cutTowardZero s j (omega arith))
+      ∙ ap (interval (s .streams)) (sym (h .stands k) ∙ ap streamed at′ ∙ getD-append-add pad (allAdded (s .constraints)) j (integer (pos 0)))
+      ∙ sym (ap (rangeOf (normalForm s .streams)) at ∙ range-added s j (omega arith))
 
   -- A row with a stream at its left has a source, the expression that the stream stands for.
   row-stands : (r : Row) → Ranged r → 2 ≤ r .kind → (0 < r .source) × (expressionAt s (r .source - 1) ≡ standsFor s (r .left))
@@ -339,19 +315,19 @@ module _ (s : Sheet) where
       (h .source k, sym (h .stands k) ∙ ap streamed at ∙ getD-append-add pad (allAdded (s .constraints)) j (integer (pos 0)))
 
 -- What the streams at the left of the rows stand for.
-pub rows-stand : (s : Sheet) → All (λ r. 2 ≤ r .kind → (0 < r .source) × (expressionAt s (r .source - 1) ≡ standsFor s (r .left))) (rowsOf s)
+pub rows-stand : (s : Sheet) → All (λ r. 2 ≤ r .kind → (0 < r .source) × (expressionAt s (r .source - 1) ≡ standsFor s (r .left))) (normalRows s)
 rows-stand s =
     let n = length (s .streams) in
     let h = lines-ranged s 0 n (s .constraints) (stand-self (nodeExpressions (s .constraints))) (streamed-added s) (omega arith) (omega arith) in
-    All-map (rowsOf s) (λ r k. row-stands s r k) (All-append (Ranged s) (ownRows n (linesOf 0 (s .constraints))) (addedRows n (linesOf 0 (s .constraints))) .1 h)
+    All-map (normalRows s) (λ r k. row-stands s r k) (All-append (Ranged s) (ownRows n (rewritingLines 0 (s .constraints))) (addedRows n (rewritingLines 0 (s .constraints))) .1 h)
 
 -- The entry names a stream only with that stream's range.
 abbrev pub HasRange : Sheet → Entry → Type 0
-HasRange s e = 2 ≤ e .kind → _≡_ {A = Interval} (record { low = e .low; high = e .high }) (rangeOf (normalForm cutTowardZero s .streams) (e .left))
+HasRange s e = 2 ≤ e .kind → _≡_ {A = Interval} (record { low = e .low; high = e .high }) (rangeOf (normalForm s .streams) (e .left))
 
-pub entries-ranged : (text : List ℕ) (s : Sheet) → All (HasRange s) (encoded text s)
+pub entries-ranged : (text : List ℕ) (s : Sheet) → All (HasRange s) (normalEntries text s)
 entries-ranged text s =
     let n = length (s .streams) in
     let h = lines-ranged s 0 n (s .constraints) (stand-self (nodeExpressions (s .constraints))) (streamed-added s) (omega arith) (omega arith) in
-    all-map (HasRange s) (recordOf text s) (λ r h k. row-range s r h k ∙ ap (rangeOf (normalForm cutTowardZero s .streams)) (sym (stream-left r k))) (rowsOf s)
-    (All-append (Ranged s) (ownRows n (linesOf 0 (s .constraints))) (addedRows n (linesOf 0 (s .constraints))) .1 h)
+    All-mapped (HasRange s) (entryRecord text s) (λ r h k. row-range s r h k ∙ ap (rangeOf (normalForm s .streams)) (sym (stream-left r k))) (normalRows s)
+    (All-append (Ranged s) (ownRows n (rewritingLines 0 (s .constraints))) (addedRows n (rewritingLines 0 (s .constraints))) .1 h)

@@ -5,11 +5,12 @@ use native.Mathlib.Decide.{ℕ-discrete}
 use mathlib.Core.Path.{_≡_, refl, sym, _∙_, ap, ap₂}
 use mathlib.Core.List.{List}
 use lib.ListN.{getD}
+use Rattle.nodes.proofs.ByKind.{part-by-kind}
 use Rattle.nodes.specs.Evaluate.{Kind, integerNode, nameNode, firstNode, nextNode, negationNode, conditionalNode, fbyNode, operatorNode, kindOf, leftEnd, answerUpTo}
 use Rattle.nodes.proofs.Parts.{leftEnd-≤, answer-step, kindOf-operator}
-use Rattle.normal.specs.Rows.{Rewriting, nothingAdded, joined, nextRewriting, fbyRewriting}
+use Rattle.normal.specs.Rows.{Rewriting, nothingAdded, bothRewritings, nextRewriting, fbyRewriting}
 use Rattle.normal.specs.Stored.{rewritingByKind, rewritingStep, rewritingBefore}
-use Rattle.normal.specs.Table.{HasRoom}
+use Rattle.normal.specs.Table.{RewritingFits}
 use Rattle.normal.proofs.Writing.{room-left, room-fby-left}
 
 module _ (kinds starts : List ℕ) where
@@ -25,9 +26,9 @@ module _ (kinds starts : List ℕ) where
     rewritingByKind-local negationNode = same i (omega arith)
     rewritingByKind-local conditionalNode =
         let m = same-left i (omega arith) in
-        ap₂ joined (same _ (same-left _ m)) (ap₂ joined (same _ m) (same i (omega arith)))
+        ap₂ bothRewritings (same _ (same-left _ m)) (ap₂ bothRewritings (same _ m) (same i (omega arith)))
     rewritingByKind-local fbyNode = ap₂ (fbyRewriting (leftEnd starts i) i) (same _ (same-left i (omega arith))) (same i (omega arith))
-    rewritingByKind-local operatorNode = ap₂ joined (same _ (same-left i (omega arith))) (same i (omega arith))
+    rewritingByKind-local operatorNode = ap₂ bothRewritings (same _ (same-left i (omega arith))) (same i (omega arith))
 
   -- What the part of node i adds.
   pub rewritingBefore-node : (i : ℕ) → rewritingBefore kinds starts (suc i) ≡ rewritingByKind starts (kindOf (getD kinds i 0)) (rewritingBefore kinds starts) i
@@ -43,9 +44,7 @@ module _ (kinds starts : List ℕ) where
 
   module _ (e : ℕ) (h : e ≡ 0 → ⊥) where
     by-kind : (k : Kind) → kindOf (getD kinds (e - 1) 0) ≡ k → before e ≡ rewritingByKind starts k before (e - 1)
-    by-kind k q =
-        let s : e ≡ suc (e - 1) = omega arith in
-        ap before s ∙ rewritingBefore-node (e - 1) ∙ ap (λ j. rewritingByKind starts j before (e - 1)) q
+    by-kind k q = sym (part-by-kind kinds before (λ j i. rewritingByKind starts j before i) rewritingBefore-node e h k q)
 
     by-number : (k : ℕ) → getD kinds (e - 1) 0 ≡ k → before e ≡ rewritingByKind starts (kindOf k) before (e - 1)
     by-number k q = by-kind (kindOf k) (ap kindOf q)
@@ -74,19 +73,19 @@ module _ (kinds starts : List ℕ) where
         by-small (suc (suc (suc (suc (suc k))))) p n t l = absurd (omega arith)
 
     module _ {m : ℕ} (em : m ≡ leftEnd starts (e - 1)) where
-      pub conditional-arm : getD kinds (e - 1) 0 ≡ 5 → {l : ℕ} → l ≡ leftEnd starts m → before e ≡ joined (before l) (joined (before m) (before (e - 1)))
-      conditional-arm q {l} el = by-number 5 q ∙ sym (ap₂ (λ x y. joined (before x) (joined (before y) (before (e - 1)))) (el ∙ ap (leftEnd starts) em) em)
+      pub conditional-arm : getD kinds (e - 1) 0 ≡ 5 → {l : ℕ} → l ≡ leftEnd starts m → before e ≡ bothRewritings (before l) (bothRewritings (before m) (before (e - 1)))
+      conditional-arm q {l} el = by-number 5 q ∙ sym (ap₂ (λ x y. bothRewritings (before x) (bothRewritings (before y) (before (e - 1)))) (el ∙ ap (leftEnd starts) em) em)
 
       pub fby-arm : getD kinds (e - 1) 0 ≡ 6 → before e ≡ fbyRewriting m (e - 1) (before m) (before (e - 1))
       fby-arm q = by-number 6 q ∙ sym (ap (λ x. fbyRewriting x (e - 1) (before x) (before (e - 1))) em)
 
-      pub operator-arm : 7 ≤ getD kinds (e - 1) 0 → before e ≡ joined (before m) (before (e - 1))
-      operator-arm k = by-kind operatorNode (kindOf-operator (getD kinds (e - 1) 0) k) ∙ sym (ap (λ x. joined (before x) (before (e - 1))) em)
+      pub operator-arm : 7 ≤ getD kinds (e - 1) 0 → before e ≡ bothRewritings (before m) (before (e - 1))
+      operator-arm k = by-kind operatorNode (kindOf-operator (getD kinds (e - 1) 0) k) ∙ sym (ap (λ x. bothRewritings (before x) (before (e - 1))) em)
 
       -- The left part of an `fby` or of an operator.
-      pub left-room : 5 ≤ getD kinds (e - 1) 0 → (getD kinds (e - 1) 0 ≡ 5 → ⊥) → {row n : ℕ} → HasRoom (before e) row n → HasRoom (before m) row n
+      pub left-room : 5 ≤ getD kinds (e - 1) 0 → (getD kinds (e - 1) 0 ≡ 5 → ⊥) → {row n : ℕ} → RewritingFits (before e) row n → RewritingFits (before m) row n
       left-room k q {row} {n} h = by (ℕ-discrete (getD kinds (e - 1) 0) 6)
         where
-          by : Dec (getD kinds (e - 1) 0 ≡ 6) → HasRoom (before m) row n
+          by : Dec (getD kinds (e - 1) 0 ≡ 6) → RewritingFits (before m) row n
           by (yes p) = room-fby-left m (e - 1) (before m) (before (e - 1)) (fby-arm p) h
           by (no p) = room-left (before m) (before (e - 1)) (operator-arm (omega arith)) h

@@ -11,18 +11,19 @@ use borrow.Author.Tests.{ne-eqb, lt-ltb, le-ltb}
 use lib.Dec.{T, ltb}
 use lib.IntN.{pos}
 use lib.ListN.{length, getD, length-append}
+use Rattle.basics.proofs.Lists.{All-append, Some-left, Some-mapped, Some-right}
+use Rattle.basics.specs.Lists.{All, Some}
 use Rattle.meaning.specs.Expression.{Expression, integer, name, first, next, negation, binary, conditional, fby, Constraint, always, until, leftSide, rightSide, Sheet}
-use Rattle.meaning.proofs.Lists.{All, All-append}
 use Rattle.spans.specs.Token.{span}
 use Rattle.spans.specs.Postfix.{inPostfix, nodeCount, nodeExpressions}
 use Rattle.spans.specs.Spans.{spansIn}
-use Rattle.normal.specs.Rows.{Row, rewriting, Line, lineAt, linesOf, ownRows, addedRows}
+use Rattle.normal.specs.Rows.{Row, rewriting, Line, lineAt, rewritingLines, ownRows, addedRows}
 use Rattle.normal.specs.Fields.{replacesIn, leftBehind}
-use Rattle.normal.specs.Encoded.{expressionAt, spanBefore, rowsOf, recordOf, encoded}
+use Rattle.normal.specs.Encoded.{expressionAt, spanBefore, normalRows, entryRecord, normalEntries}
 use Rattle.normal.specs.Says.{standsFor, isReplaced, Replaces}
 use Rattle.normal.proofs.Decoding.{always-line}
 use Rattle.normal.proofs.Places.{Stand, Stand-append, stand-self, root-at, sides-stand}
-use Rattle.normal.proofs.Ranges.{Some, some-left, some-right, some-map, stream-left, rows-stand}
+use Rattle.normal.proofs.Ranges.{stream-left, rows-stand}
 
 -- The row marks the node i.
 record Marks (i : ℕ) (r : Row) : Type 0 where
@@ -63,8 +64,8 @@ module _ (L : List Expression) where
     where
       by : Dec (i < p + nodeCount a) → Dec (i < p + nodeCount a + nodeCount b) → (i < p + nodeCount a → T (isReplaced (at i)) → Some (Marks i) (rewriting p a .rows n))
           → (p + nodeCount a ≤ i → i < p + nodeCount a + nodeCount b → T (isReplaced (at i)) → Some (Marks i) (rewriting (p + nodeCount a) b .rows (n + rewriting p a .added))) → Some (Marks i) (rewriting p (binary o a b) .rows n)
-      by (yes q) d f g = some-left (Marks i) (rewriting p a .rows n) _ (f q t)
-      by (no q) (yes d) f g = some-right (Marks i) (rewriting p a .rows n) _ (g (omega arith) d t)
+      by (yes q) d f g = Some-left (Marks i) (rewriting p a .rows n) _ (f q t)
+      by (no q) (yes d) f g = Some-right (Marks i) (rewriting p a .rows n) _ (g (omega arith) d t)
       by (no q) (no d) f g = absurd (at-root p i (binary o a b) h l k (λ m. d (omega (arith, length-append (inPostfix a) (inPostfix b ++ (binary o a b ∷ [])), length-append (inPostfix b) (binary o a b ∷ [])))) t)
   rows-mark p (conditional c a b) n i h l k t =
       let g = Stand-append L p (inPostfix c) (inPostfix a ++ (inPostfix b ++ (conditional c a b ∷ []))) h in
@@ -77,9 +78,9 @@ module _ (L : List Expression) where
           → (p + nodeCount c ≤ i → i < p + nodeCount c + nodeCount a → T (isReplaced (at i)) → Some (Marks i) (rewriting (p + nodeCount c) a .rows (n + rewriting p c .added)))
           → (p + nodeCount c + nodeCount a ≤ i → i < p + nodeCount c + nodeCount a + nodeCount b → T (isReplaced (at i)) → Some (Marks i) (rewriting (p + nodeCount c + nodeCount a) b .rows (n + rewriting p c .added + rewriting (p + nodeCount c) a .added)))
           → Some (Marks i) (rewriting p (conditional c a b) .rows n)
-      by (yes q) d e f g w = some-left (Marks i) (rewriting p c .rows n) _ (f q t)
-      by (no q) (yes d) e f g w = some-right (Marks i) (rewriting p c .rows n) _ (some-left (Marks i) (rewriting (p + nodeCount c) a .rows (n + rewriting p c .added)) _ (g (omega arith) d t))
-      by (no q) (no d) (yes e) f g w = some-right (Marks i) (rewriting p c .rows n) _ (some-right (Marks i) (rewriting (p + nodeCount c) a .rows (n + rewriting p c .added)) _ (w (omega arith) e t))
+      by (yes q) d e f g w = Some-left (Marks i) (rewriting p c .rows n) _ (f q t)
+      by (no q) (yes d) e f g w = Some-right (Marks i) (rewriting p c .rows n) _ (Some-left (Marks i) (rewriting (p + nodeCount c) a .rows (n + rewriting p c .added)) _ (g (omega arith) d t))
+      by (no q) (no d) (yes e) f g w = Some-right (Marks i) (rewriting p c .rows n) _ (Some-right (Marks i) (rewriting (p + nodeCount c) a .rows (n + rewriting p c .added)) _ (w (omega arith) e t))
       by (no q) (no d) (no e) f g w =
           absurd (at-root p i (conditional c a b) h l k (λ m. e (omega (arith, length-append (inPostfix c) (inPostfix a ++ (inPostfix b ++ (conditional c a b ∷ []))), length-append (inPostfix a) (inPostfix b ++ (conditional c a b ∷ [])), length-append (inPostfix b) (conditional c a b ∷ [])))) t)
   rows-mark p (fby a b) n i h l k t =
@@ -89,10 +90,10 @@ module _ (L : List Expression) where
     where
       by : Dec (i < p + nodeCount a) → Dec (i < p + nodeCount a + nodeCount b) → (i < p + nodeCount a → T (isReplaced (at i)) → Some (Marks i) (rewriting p a .rows n))
           → (p + nodeCount a ≤ i → i < p + nodeCount a + nodeCount b → T (isReplaced (at i)) → Some (Marks i) (rewriting (p + nodeCount a) b .rows (suc (suc (suc (n + rewriting p a .added)))))) → Some (Marks i) (rewriting p (fby a b) .rows n)
-      by (yes q) d f g = some-left (Marks i) (rewriting p a .rows n) _ (f q t)
-      by (no q) (yes d) f g = some-right (Marks i) (rewriting p a .rows n) _ (inr (inr (inr (inr (g (omega arith) d t)))))
+      by (yes q) d f g = Some-left (Marks i) (rewriting p a .rows n) _ (f q t)
+      by (no q) (yes d) f g = Some-right (Marks i) (rewriting p a .rows n) _ (inr (inr (inr (inr (g (omega arith) d t)))))
       by (no q) (no d) f g =
-          some-right (Marks i) (rewriting p a .rows n) _
+          Some-right (Marks i) (rewriting p a .rows n) _
           (inr (inr (inl (record { source = omega (arith, length-append (inPostfix a) (inPostfix b ++ (fby a b ∷ [])), length-append (inPostfix b) (fby a b ∷ [])); marked = refl }))))
 
   line-marks : (p : ℕ) (c : Constraint) (n i : ℕ) → Stand L p (inPostfix (leftSide c)) → Stand L (p + nodeCount (leftSide c)) (inPostfix (rightSide c)) → p ≤ i → i < p + nodeCount (leftSide c) + nodeCount (rightSide c) → T (isReplaced (at i))
@@ -102,16 +103,16 @@ module _ (L : List Expression) where
       subst (λ (m : Line). Some (Marks i) (m .adds .rows n)) (sym w) (by (decLt i (p + nodeCount a)))
     where
       by : Dec (i < p + nodeCount a) → Some (Marks i) (rewriting p a .rows n ++ rewriting (p + nodeCount a) b .rows (n + rewriting p a .added))
-      by (yes q) = some-left (Marks i) (rewriting p a .rows n) _ (rows-mark p a n i ha l q t)
-      by (no q) = some-right (Marks i) (rewriting p a .rows n) _ (rows-mark (p + nodeCount a) b (n + rewriting p a .added) i hb (omega arith) k t)
+      by (yes q) = Some-left (Marks i) (rewriting p a .rows n) _ (rows-mark p a n i ha l q t)
+      by (no q) = Some-right (Marks i) (rewriting p a .rows n) _ (rows-mark (p + nodeCount a) b (n + rewriting p a .added) i hb (omega arith) k t)
   line-marks p (until a b) n i ha hb l k t = by (decLt i (p + nodeCount a))
     where
       by : Dec (i < p + nodeCount a) → Some (Marks i) (lineAt p (until a b) .adds .rows n)
-      by (yes q) = some-left (Marks i) (rewriting p a .rows n) _ (rows-mark p a n i ha l q t)
-      by (no q) = some-right (Marks i) (rewriting p a .rows n) _ (inr (inr (rows-mark (p + nodeCount a) b (suc (suc (n + rewriting p a .added))) i hb (omega arith) k t)))
+      by (yes q) = Some-left (Marks i) (rewriting p a .rows n) _ (rows-mark p a n i ha l q t)
+      by (no q) = Some-right (Marks i) (rewriting p a .rows n) _ (inr (inr (rows-mark (p + nodeCount a) b (suc (suc (n + rewriting p a .added))) i hb (omega arith) k t)))
 
-  lines-mark : (p : ℕ) (cs : List Constraint) (n i : ℕ) → Stand L p (nodeExpressions cs) → p ≤ i → i < p + length (nodeExpressions cs) → T (isReplaced (at i)) → Some (Marks i) (addedRows n (linesOf p cs))
-  unfolding linesOf addedRows nodeExpressions
+  lines-mark : (p : ℕ) (cs : List Constraint) (n i : ℕ) → Stand L p (nodeExpressions cs) → p ≤ i → i < p + length (nodeExpressions cs) → T (isReplaced (at i)) → Some (Marks i) (addedRows n (rewritingLines p cs))
+  unfolding rewritingLines addedRows nodeExpressions
   lines-mark p [] n i h l k t = absurd (omega arith)
   lines-mark p (c ∷ cs) n i h l k t =
       let g = sides-stand L p c cs h in
@@ -122,10 +123,10 @@ module _ (L : List Expression) where
       total = length-append (inPostfix (leftSide c) ++ inPostfix (rightSide c)) (nodeExpressions cs) ∙ ap (λ m. m + length (nodeExpressions cs)) (length-append (inPostfix (leftSide c)) (inPostfix (rightSide c)))
 
       by : Dec (i < p + nodeCount (leftSide c) + nodeCount (rightSide c)) → (i < p + nodeCount (leftSide c) + nodeCount (rightSide c) → T (isReplaced (at i)) → Some (Marks i) (lineAt p c .adds .rows n))
-          → (p + nodeCount (leftSide c) + nodeCount (rightSide c) ≤ i → i < p + nodeCount (leftSide c) + nodeCount (rightSide c) + length (nodeExpressions cs) → T (isReplaced (at i)) → Some (Marks i) (addedRows (n + lineAt p c .adds .added) (linesOf (p + nodeCount (leftSide c) + nodeCount (rightSide c)) cs)))
-          → Some (Marks i) (lineAt p c .adds .rows n ++ addedRows (n + lineAt p c .adds .added) (linesOf (p + nodeCount (leftSide c) + nodeCount (rightSide c)) cs))
-      by (yes q) f g = some-left (Marks i) (lineAt p c .adds .rows n) _ (f q t)
-      by (no q) f g = some-right (Marks i) (lineAt p c .adds .rows n) _ (g (omega arith) (omega (arith, total)) t)
+          → (p + nodeCount (leftSide c) + nodeCount (rightSide c) ≤ i → i < p + nodeCount (leftSide c) + nodeCount (rightSide c) + length (nodeExpressions cs) → T (isReplaced (at i)) → Some (Marks i) (addedRows (n + lineAt p c .adds .added) (rewritingLines (p + nodeCount (leftSide c) + nodeCount (rightSide c)) cs)))
+          → Some (Marks i) (lineAt p c .adds .rows n ++ addedRows (n + lineAt p c .adds .added) (rewritingLines (p + nodeCount (leftSide c) + nodeCount (rightSide c)) cs))
+      by (yes q) f g = Some-left (Marks i) (lineAt p c .adds .rows n) _ (f q t)
+      by (no q) f g = Some-right (Marks i) (lineAt p c .adds .rows n) _ (g (omega arith) (omega (arith, total)) t)
 
 marked-kind : (r : Row) → replacesIn (r .kind) (r .left) (r .right) ≡ 1 → 2 ≤ r .kind
 marked-kind r h = by (ℕ-discrete (r .kind) 0) (ℕ-discrete (r .kind) 1)
@@ -140,13 +141,13 @@ marked-behind : (r : Row) → replacesIn (r .kind) (r .left) (r .right) ≡ 1 �
 marked-behind r h = let k = marked-kind r h in ap (λ b. cond b (suc (r .left)) (r .source)) (ne-eqb (r .kind) 1 (λ e. omega arith))
 
 -- Each whole `next` and `fby` has a record that marks its span.
-pub operators-replaced : (text : List ℕ) (s : Sheet) (i : ℕ) → i < length (nodeExpressions (s .constraints)) → T (isReplaced (expressionAt s i)) → Some (λ e. Replaces e (getD (spansIn text) i (span 0 0))) (encoded text s)
+pub operators-replaced : (text : List ℕ) (s : Sheet) (i : ℕ) → i < length (nodeExpressions (s .constraints)) → T (isReplaced (expressionAt s i)) → Some (λ e. Replaces e (getD (spansIn text) i (span 0 0))) (normalEntries text s)
 operators-replaced text s i h t =
     let n = length (s .streams) in
-    some-map (λ e. Replaces e (getD (spansIn text) i (span 0 0))) (recordOf text s)
+    Some-mapped (λ e. Replaces e (getD (spansIn text) i (span 0 0))) (entryRecord text s)
     (λ r m. let q : leftBehind r ≡ suc i = marked-behind r (m .marked) ∙ m .source in
-    record { marked = m .marked; begin = ap (λ k. spanBefore (spansIn text) k .start) q; end = ap (λ k. spanBefore (spansIn text) k .end) q }) (rowsOf s)
-    (some-right (Marks i) (ownRows n (linesOf 0 (s .constraints))) (addedRows n (linesOf 0 (s .constraints)))
+    record { marked = m .marked; begin = ap (λ k. spanBefore (spansIn text) k .start) q; end = ap (λ k. spanBefore (spansIn text) k .end) q }) (normalRows s)
+    (Some-right (Marks i) (ownRows n (rewritingLines 0 (s .constraints))) (addedRows n (rewritingLines 0 (s .constraints)))
     (lines-mark (nodeExpressions (s .constraints)) 0 (s .constraints) n i (stand-self (nodeExpressions (s .constraints))) (omega arith) (omega arith) t))
 
 -- ---- and no other
@@ -207,8 +208,8 @@ module _ (L : List Expression) where
     All-append Proper (rewriting p a .rows n) _ .1 (rows-proper p a n ha, (plain refl, (plain refl, rows-proper (p + nodeCount a) b (suc (suc (n + rewriting p a .added))) hb))),
   )
 
-  lines-proper : (p n : ℕ) (cs : List Constraint) → Stand L p (nodeExpressions cs) → All Proper (ownRows n (linesOf p cs)) × All Proper (addedRows n (linesOf p cs))
-  unfolding linesOf ownRows addedRows
+  lines-proper : (p n : ℕ) (cs : List Constraint) → Stand L p (nodeExpressions cs) → All Proper (ownRows n (rewritingLines p cs)) × All Proper (addedRows n (rewritingLines p cs))
+  unfolding rewritingLines ownRows addedRows
   lines-proper p n [] h = (tt, tt)
   lines-proper p n (c ∷ cs) h =
       let g = sides-stand L p c cs h in
@@ -217,17 +218,17 @@ module _ (L : List Expression) where
       ((one .0, more .0), All-append Proper (lineAt p c .adds .rows n) _ .1 (one .1, more .1))
 
 -- The row marks a node only where its stream stands for a whole `next` or `fby`.
-rows-mark-operators : (s : Sheet) → All (Proper (nodeExpressions (s .constraints))) (rowsOf s)
+rows-mark-operators : (s : Sheet) → All (Proper (nodeExpressions (s .constraints))) (normalRows s)
 rows-mark-operators s =
     let n = length (s .streams) in
-    All-append (Proper (nodeExpressions (s .constraints))) (ownRows n (linesOf 0 (s .constraints))) (addedRows n (linesOf 0 (s .constraints))) .1 (lines-proper (nodeExpressions (s .constraints)) 0 n (s .constraints) (stand-self (nodeExpressions (s .constraints))))
+    All-append (Proper (nodeExpressions (s .constraints))) (ownRows n (rewritingLines 0 (s .constraints))) (addedRows n (rewritingLines 0 (s .constraints))) .1 (lines-proper (nodeExpressions (s .constraints)) 0 n (s .constraints) (stand-self (nodeExpressions (s .constraints))))
 
 -- A record that marks its left span has a stream that stands for a whole `next` or `fby`.
-pub only-operators : (text : List ℕ) (s : Sheet) → All (λ e. e .replaces ≡ 1 → T (isReplaced (standsFor s (e .left)))) (encoded text s)
-only-operators text s = by (rowsOf s) (rows-mark-operators s) (rows-stand s)
+pub only-operators : (text : List ℕ) (s : Sheet) → All (λ e. e .replaces ≡ 1 → T (isReplaced (standsFor s (e .left)))) (normalEntries text s)
+only-operators text s = by (normalRows s) (rows-mark-operators s) (rows-stand s)
   where
     by : (rows : List Row) → All (Proper (nodeExpressions (s .constraints))) rows → All (λ r. 2 ≤ r .kind → (0 < r .source) × (expressionAt s (r .source - 1) ≡ standsFor s (r .left))) rows
-        → All (λ e. e .replaces ≡ 1 → T (isReplaced (standsFor s (e .left)))) (map (recordOf text s) rows)
+        → All (λ e. e .replaces ≡ 1 → T (isReplaced (standsFor s (e .left)))) (map (entryRecord text s) rows)
     by [] g h = tt
     by (r ∷ rows) g h = (
       λ m. let k = marked-kind r m in subst (λ x. T (isReplaced x)) (h .0 k .1 ∙ ap (standsFor s) (sym (stream-left r k))) (g .0 .replaced m),

@@ -6,13 +6,12 @@ use mathlib.Core.Path.{_≡_, refl, sym, _∙_, ap, ap₂, subst}
 use mathlib.Core.List.{List, [], _∷_, map}
 use lib.IntN.{pos}
 use lib.ListN.{length, getD}
-use Rattle.meaning.specs.Arithmetic.{cutTowardZero}
+use Rattle.basics.specs.Lists.{All}
 use Rattle.meaning.specs.Expression.{Expression, integer, Constraint, always, Sheet}
 use Rattle.meaning.specs.NormalForm.{rewritten, equation, normalForm}
-use Rattle.meaning.proofs.Lists.{All}
 use Rattle.nodes.specs.Code.{signAt}
 use Rattle.nodes.specs.Postfix.{allNodes}
-use Rattle.sheet.specs.Form.{threeHeaderLines, lineTokens}
+use Rattle.sheet.specs.Form.{lineTokens, layoutIn}
 use Rattle.sheet.specs.Refusal.{sheet, AnswerTo}
 use Rattle.sheet.proofs.Accepted.{accepted-facts}
 use Rattle.sheet.proofs.Parser.{reads-unambiguous}
@@ -23,22 +22,22 @@ use Rattle.spans.specs.Spans.{spansIn}
 use Rattle.spans.specs.Reading.{SpanReads, EachReads}
 use Rattle.spans.proofs.Sheets.{each-at}
 use Rattle.normal.specs.Rows.{Row}
-use Rattle.normal.specs.Encoded.{expressionAt, rowsOf, recordOf, encoded}
-use Rattle.normal.specs.Says.{SideSays, side, Says, constraint, streamsUntil, streamIs, streamIsNext, firstsEqual, EachSays}
+use Rattle.normal.specs.Encoded.{expressionAt, normalRows, entryRecord, normalEntries}
+use Rattle.normal.specs.Says.{SideSays, side, EntrySays, constraint, streamsUntil, streamIs, streamIsNext, firstsEqual, EachSays}
 use Rattle.normal.specs.declared.Entry.{Entry}
 use Rattle.normal.proofs.Decoding.{decoded, rows-decoded}
 use Rattle.normal.proofs.TextSpans.{text-spans, nodes-spanned}
 use Rattle.normal.proofs.Sources.{RowForm, isConstraint, isUntil, isEquation, isNext, isFirst, Sound, sheet-sound}
 
-module _ (text : List ℕ) (s : Sheet) (spans : EachReads (lineTokens text (threeHeaderLines .namesLine)) text (spansIn text) (nodeExpressions (s .constraints))) where
+module _ (text : List ℕ) (s : Sheet) (spans : EachReads (lineTokens text (layoutIn text .namesLine)) text (spansIn text) (nodeExpressions (s .constraints))) where
   abbrev spanOf : ℕ → Span
   spanOf i = getD (spansIn text) i (span 0 0)
 
   -- The text of a node's span is read as the node's expression.
-  node-reads : (i : ℕ) → i < length (allNodes 0 0 (s .constraints)) → SpanReads (lineTokens text (threeHeaderLines .namesLine)) text (span (spanOf i .start) (spanOf i .end)) (expressionAt s i)
-  node-reads i h = each-at (lineTokens text (threeHeaderLines .namesLine)) text spans i (span 0 0) (integer (pos 0)) (omega (arith, nodes-spanned s))
+  node-reads : (i : ℕ) → i < length (allNodes 0 0 (s .constraints)) → SpanReads (lineTokens text (layoutIn text .namesLine)) text (span (spanOf i .start) (spanOf i .end)) (expressionAt s i)
+  node-reads i h = each-at (lineTokens text (layoutIn text .namesLine)) text spans i (span 0 0) (integer (pos 0)) (omega (arith, nodes-spanned s))
 
-  row-says : {r : Row} → RowForm (length (allNodes 0 0 (s .constraints))) r → Says text (recordOf text s r) (decoded s r)
+  row-says : {r : Row} → RowForm (length (allNodes 0 0 (s .constraints))) r → EntrySays text (entryRecord text s r) (decoded s r)
   unfolding decoded
   row-says (isConstraint {a = a} {b = b} ha hb) = constraint refl (side (node-reads a ha)) (side (node-reads b hb))
   row-says isUntil = streamsUntil refl
@@ -46,13 +45,13 @@ module _ (text : List ℕ) (s : Sheet) (spans : EachReads (lineTokens text (thre
   row-says isNext = streamIsNext refl
   row-says isFirst = firstsEqual refl
 
-  rows-say : (rows : List Row) → All (Sound s) rows → EachSays text (map (recordOf text s) rows) (map (decoded s) rows)
+  rows-say : (rows : List Row) → All (Sound s) rows → EachSays text (map (entryRecord text s) rows) (map (decoded s) rows)
   rows-say [] h = EachSays.none
   rows-say (r ∷ rows) h = EachSays.more (row-says (h .0 .form)) (rows-say rows (h .1))
 
 -- The records of an accepted sheet say the constraints of its normal form, one by one and in order.
-pub entries-say : {text : List ℕ} {s : Sheet} → AnswerTo cutTowardZero threeHeaderLines text (sheet s) → EachSays text (encoded text s) (normalForm cutTowardZero s .constraints)
-entries-say {text} {s} r = subst (EachSays text (encoded text s)) (rows-decoded s) (rows-say text s (text-spans r) (rowsOf s) (sheet-sound s (accepted-facts r)))
+pub entries-say : {text : List ℕ} {s : Sheet} → AnswerTo text (sheet s) → EachSays text (normalEntries text s) (normalForm s .constraints)
+entries-say {text} {s} r = subst (EachSays text (normalEntries text s)) (rows-decoded s) (rows-say text s (text-spans r) (normalRows s) (sheet-sound s (accepted-facts r)))
 
 -- ---- a text and a record say at most one constraint
 
@@ -62,7 +61,7 @@ side-unique {n = n} (side h) (side k) = ap (rewritten n) (reads-unambiguous _ (h
 apart : {m n k : ℕ} → k ≡ m → k ≡ n → (m ≡ n → ⊥) → ⊥
 apart p q d = d (sym p ∙ q)
 
-pub says-unique : {text : List ℕ} {r : Entry} {c d : Constraint} → Says text r c → Says text r d → c ≡ d
+pub says-unique : {text : List ℕ} {r : Entry} {c d : Constraint} → EntrySays text r c → EntrySays text r d → c ≡ d
 says-unique {r = r} (constraint p a b) (constraint q a′ b′) = ap₂ (always (signAt (r .relation))) (side-unique a a′) (side-unique b b′)
 says-unique (constraint p a b) (streamsUntil q) = absurd (apart p q (λ e. omega arith))
 says-unique (constraint p a b) (streamIs q c) = absurd (apart p q (λ e. omega arith))

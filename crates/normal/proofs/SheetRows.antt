@@ -15,10 +15,9 @@ use Rattle.nodes.specs.Evaluate.{Nodes, nodesOf, kindOf, leftEnd}
 use Rattle.nodes.proofs.Meaning.{operatorCode-coded}
 use Rattle.nodes.proofs.Postfix.{NodeAt, StoredAt, storedInteger, storedName, storedFirst, storedNext, storedNegation, storedBinary, storedConditional, storedFby, stored-ends, leftEnd-stored, Holds, Holds-append, nodes-hold, postfix-stored, length-postfix}
 use Rattle.reader.specs.Stored.{relationsOf, leftsOf, rightsOf}
-use Rattle.meaning.specs.Arithmetic.{Arithmetic}
 use Rattle.sheet.specs.Accepted.{Accepted}
 use Rattle.spans.specs.Postfix.{inPostfix, nodeCount}
-use Rattle.normal.specs.Rows.{fbyEntries, untilEntries, ownRows, allRows, Rewriting, joined, nextRewriting, fbyRewriting, rewriting, Line, lineOf, lineAt, linesOf, addedRows, streamsAfter}
+use Rattle.normal.specs.Rows.{fbyEntries, untilEntries, ownRows, allRows, Rewriting, bothRewritings, nextRewriting, fbyRewriting, rewriting, Line, relationLine, lineAt, rewritingLines, addedRows, streamsAfter}
 use Rattle.normal.specs.Stored.{rewritingByKind, rewritingBefore, storedLine, storedLines}
 use Rattle.normal.proofs.Recursion.{rewritingBefore-node}
 use Rattle.normal.specs.Table.{rowBound, LinesHaveRoom}
@@ -76,12 +75,12 @@ module _ (N : Nodes) where
   rewriting-stored (storedBinary {m = m} {o = o} {b = b} s t x) =
       by-node x
       (ap (λ j. rewritingByKind (N .starts) j before m) (operatorCode-coded o .kind)
-      ∙ ap₂ joined (ap before (leftEnd-stored t) ∙ rewriting-stored s) (rewriting-stored t ∙ ap (λ k. rewriting k b) (stored-end s)))
+      ∙ ap₂ bothRewritings (ap before (leftEnd-stored t) ∙ rewriting-stored s) (rewriting-stored t ∙ ap (λ k. rewriting k b) (stored-end s)))
   rewriting-stored (storedConditional {c = c} {a = a} {b = b} r s t x) =
       let g = stored-end r in
       by-node x
-      (ap₂ joined (ap before (ap (leftEnd (N .starts)) (leftEnd-stored t) ∙ leftEnd-stored s) ∙ rewriting-stored r)
-      (ap₂ joined (ap before (leftEnd-stored t) ∙ rewriting-stored s ∙ ap (λ k. rewriting k a) g) (rewriting-stored t ∙ ap (λ k. rewriting k b) (stored-end s ∙ ap (λ k. k + nodeCount a) g))))
+      (ap₂ bothRewritings (ap before (ap (leftEnd (N .starts)) (leftEnd-stored t) ∙ leftEnd-stored s) ∙ rewriting-stored r)
+      (ap₂ bothRewritings (ap before (leftEnd-stored t) ∙ rewriting-stored s ∙ ap (λ k. rewriting k a) g) (rewriting-stored t ∙ ap (λ k. rewriting k b) (stored-end s ∙ ap (λ k. k + nodeCount a) g))))
   rewriting-stored (storedFby {n = n} {l = l} {m = m} {a = a} {b = b} s t x) =
       let ea = stored-end s in
       let eb : m ≡ n + nodeCount a + nodeCount b = stored-end t ∙ ap (λ k. k + nodeCount b) ea in
@@ -93,7 +92,7 @@ module _ (N : Nodes) where
 
   line-stored : (n f : ℕ) (c : Constraint) → Holds N n (sideNodes n f c)
       → storedLine (N .kinds) (N .starts) (storedConstraint n f c .relation) (storedConstraint n f c .left) (storedConstraint n f c .right)
-      ≡ lineOf (relationCode c) (n + nodeCount (leftSide c)) (n + nodeCount (leftSide c) + nodeCount (rightSide c)) (rewriting n (leftSide c)) (rewriting (n + nodeCount (leftSide c)) (rightSide c))
+      ≡ relationLine (relationCode c) (n + nodeCount (leftSide c)) (n + nodeCount (leftSide c) + nodeCount (rightSide c)) (rewriting n (leftSide c)) (rewriting (n + nodeCount (leftSide c)) (rightSide c))
   line-stored n f c h =
       let l = postfix n f (leftSide c) in
       let r = postfix (n + length l) (f + length (firsts (leftSide c))) (rightSide c) in
@@ -106,16 +105,16 @@ module _ (N : Nodes) where
       let er : suc (n + length l + length r - 1) ≡ n + nodeCount (leftSide c) + nodeCount (rightSide c) = j ∙ stored-end t ∙ ap (λ k. k + nodeCount (rightSide c)) (stored-end s) in
       let ra : before (suc (n + length l - 1)) ≡ rewriting n (leftSide c) = ap before i ∙ rewriting-stored s in
       let rb : before (suc (n + length l + length r - 1)) ≡ rewriting (n + nodeCount (leftSide c)) (rightSide c) = ap before j ∙ rewriting-stored t ∙ ap (λ k. rewriting k (rightSide c)) (stored-end s) in
-      λ k. lineOf (relationCode c) (el k) (er k) (ra k) (rb k)
+      λ k. relationLine (relationCode c) (el k) (er k) (ra k) (rb k)
 
   pub lines-stored : (n f : ℕ) (cs : List Constraint) → Holds N n (allNodes n f cs)
-      → storedLines (N .kinds) (N .starts) (relationsOf (storedConstraints n f cs)) (leftsOf (storedConstraints n f cs)) (rightsOf (storedConstraints n f cs)) ≡ linesOf n cs
-  unfolding allNodes storedConstraints storedLines linesOf
+      → storedLines (N .kinds) (N .starts) (relationsOf (storedConstraints n f cs)) (leftsOf (storedConstraints n f cs)) (rightsOf (storedConstraints n f cs)) ≡ rewritingLines n cs
+  unfolding allNodes storedConstraints storedLines rewritingLines
   lines-stored n f [] h = refl
   lines-stored n f (c ∷ cs) h =
       let g = Holds-append N n (sideNodes n f c) (allNodes (n + length (sideNodes n f c)) (f + length (sideFirsts c)) cs) h in
       let e : n + length (sideNodes n f c) ≡ n + nodeCount (leftSide c) + nodeCount (rightSide c) = omega (arith, side-count n f c) in
-      ap₂ _∷_ (line-stored n f c (g .0)) (lines-stored (n + length (sideNodes n f c)) (f + length (sideFirsts c)) cs (g .1) ∙ ap (λ k. linesOf k cs) e)
+      ap₂ _∷_ (line-stored n f c (g .0)) (lines-stored (n + length (sideNodes n f c)) (f + length (sideFirsts c)) cs (g .1) ∙ ap (λ k. rewritingLines k cs) e)
 
 -- The nodes of a sheet's constraints hold them.
 pub sheet-holds : (cs : List Constraint) → Holds (nodesOf (allNodes 0 0 cs)) 0 (allNodes 0 0 cs)
@@ -182,8 +181,8 @@ expressions-counted c cs =
     ∙ omega (arith, length-append (subexpressions (leftSide c)) (subexpressions (rightSide c)), nodes-counted (leftSide c), nodes-counted (rightSide c))
 
 -- The lines add at most three streams and four entries for each expression of the sheet.
-pub lines-few : (p n : ℕ) (cs : List Constraint) → (streamsAfter n (linesOf p cs) ≤ n + 3 * length (allExpressions cs)) × (length (addedRows n (linesOf p cs)) ≤ 4 * length (allExpressions cs))
-unfolding linesOf streamsAfter addedRows
+pub lines-few : (p n : ℕ) (cs : List Constraint) → (streamsAfter n (rewritingLines p cs) ≤ n + 3 * length (allExpressions cs)) × (length (addedRows n (rewritingLines p cs)) ≤ 4 * length (allExpressions cs))
+unfolding rewritingLines streamsAfter addedRows
 lines-few p n [] = (omega arith, omega arith)
 lines-few p n (c ∷ cs) =
     let r = p + nodeCount (leftSide c) + nodeCount (rightSide c) in
@@ -191,10 +190,10 @@ lines-few p n (c ∷ cs) =
     let h = line-few p c in
     let k = lines-few r m cs in
     let e = expressions-counted c cs in
-    (omega arith, omega (arith, h .1 n, length-append (lineAt p c .adds .rows n) (addedRows m (linesOf r cs))))
+    (omega arith, omega (arith, h .1 n, length-append (lineAt p c .adds .rows n) (addedRows m (rewritingLines r cs))))
 
-pub length-linesOf : (p : ℕ) (cs : List Constraint) → length (linesOf p cs) ≡ length cs
-unfolding linesOf
+pub length-linesOf : (p : ℕ) (cs : List Constraint) → length (rewritingLines p cs) ≡ length cs
+unfolding rewritingLines
 length-linesOf p [] = refl
 length-linesOf p (c ∷ cs) = ap suc (length-linesOf _ cs)
 
@@ -207,8 +206,8 @@ nodes-total n f (c ∷ cs) =
     ∙ omega (arith, side-count n f c, nodes-total (n + length (sideNodes n f c)) (f + length (sideFirsts c)) cs, expressions-counted c cs)
 
 -- An accepted sheet's entries and streams have room.
-module _ {A : Arithmetic} {s : Sheet} (ok : Accepted A s) where
-  pub sheet-room : LinesHaveRoom (linesOf 0 (s .constraints)) (length (s .constraints)) (length (s .streams))
+module _ {s : Sheet} (ok : Accepted s) where
+  pub sheet-room : LinesHaveRoom (rewritingLines 0 (s .constraints)) (length (s .constraints)) (length (s .streams))
   sheet-room =
       let h = lines-few 0 (length (s .streams)) (s .constraints) in
       let c = ok .constraintCount in
@@ -216,7 +215,7 @@ module _ {A : Arithmetic} {s : Sheet} (ok : Accepted A s) where
       let n = ok .streamCount in
       record { rows = omega arith; streams = omega arith }
 
-  pub rows-few : length (allRows (length (s .streams)) (linesOf 0 (s .constraints))) ≤ rowBound
+  pub rows-few : length (allRows (length (s .streams)) (rewritingLines 0 (s .constraints))) ≤ rowBound
   rows-few =
       let h = sheet-room in
-      omega (arith, h .rows, length-append (ownRows (length (s .streams)) (linesOf 0 (s .constraints))) (addedRows (length (s .streams)) (linesOf 0 (s .constraints))), length-ownRows (length (s .streams)) (linesOf 0 (s .constraints)), length-linesOf 0 (s .constraints))
+      omega (arith, h .rows, length-append (ownRows (length (s .streams)) (rewritingLines 0 (s .constraints))) (addedRows (length (s .streams)) (rewritingLines 0 (s .constraints))), length-ownRows (length (s .streams)) (rewritingLines 0 (s .constraints)), length-linesOf 0 (s .constraints))

@@ -7,13 +7,12 @@ use mathlib.Core.Path.{sym, subst}
 use mathlib.Core.Bool.{Bool, true, false, cond}
 use mathlib.Core.List.{List, [], _∷_, _++_, map}
 use lib.ListN.{length, length-append, length-map}
-use Rattle.meaning.specs.Arithmetic.{cutTowardZero}
+use Rattle.basics.proofs.Lists.{All-append, All-mapped}
+use Rattle.basics.specs.Lists.{All}
 use Rattle.meaning.specs.Expression.{Expression, integer, name, first, next, negation, binary, conditional, fby, Constraint, always, until, leftSide, rightSide, Sheet}
 use Rattle.meaning.specs.NormalForm.{normalForm}
-use Rattle.meaning.proofs.Lists.{All, All-append}
 use Rattle.meaning.proofs.NormalForm.Names.{streams-length}
 use Rattle.text.specs.Bytes.{Token}
-use Rattle.sheet.specs.Form.{threeHeaderLines}
 use Rattle.sheet.specs.Refusal.{InBounds, sheet, AnswerTo}
 use Rattle.sheet.specs.Reading.{allExpressions}
 use Rattle.sheet.specs.Accepted.{Accepted}
@@ -21,8 +20,8 @@ use Rattle.scan.specs.declared.Span.{Span}
 use Rattle.spans.specs.Spans.{spansIn}
 use Rattle.spans.specs.Reading.{EachReads}
 use Rattle.spans.specs.Postfix.{inPostfix, nodeCount, nodeExpressions}
-use Rattle.normal.specs.Rows.{Row, rewriting, Line, lineAt, linesOf, ownRows, addedRows, streamsAfter}
-use Rattle.normal.specs.Encoded.{spanBefore, rowsOf, recordOf, encoded}
+use Rattle.normal.specs.Rows.{Row, rewriting, Line, lineAt, rewritingLines, ownRows, addedRows, streamsAfter}
+use Rattle.normal.specs.Encoded.{spanBefore, normalRows, entryRecord, normalEntries}
 use Rattle.normal.specs.Fields.{leftIsNode, rightIsNode, leftBehind, rightBehind}
 use Rattle.normal.specs.declared.Entry.{Entry}
 use Rattle.normal.proofs.Lines.{streams-more}
@@ -31,7 +30,6 @@ use Rattle.normal.proofs.Places.{stand-self}
 use Rattle.normal.proofs.TextSpans.{text-spans}
 use Rattle.normal.proofs.SheetRows.{lines-few, rows-few, expressions-counted}
 use Rattle.normal.proofs.Sources.{sheet-sound}
-use Rattle.normal.proofs.Ranges.{all-map}
 
 -- The four numbers of a row are small.
 record Fits (r : Row) : Type 0 where
@@ -99,14 +97,14 @@ line-fits p (until a b) n h k = (
       (rows-fit p a n (omega arith) (omega arith), (fits (omega arith) (omega arith) (omega arith) (omega arith), (fits (omega arith) (omega arith) (omega arith) (omega arith), rows-fit (p + nodeCount a) b (suc (suc (n + rewriting p a .added))) (omega arith) (omega arith)))),
 )
 
-lines-fit : (p n : ℕ) (cs : List Constraint) → p + length (allExpressions cs) ≤ 1024 → streamsAfter n (linesOf p cs) ≤ 4095 → All Fits (ownRows n (linesOf p cs)) × All Fits (addedRows n (linesOf p cs))
-unfolding linesOf ownRows addedRows streamsAfter
+lines-fit : (p n : ℕ) (cs : List Constraint) → p + length (allExpressions cs) ≤ 1024 → streamsAfter n (rewritingLines p cs) ≤ 4095 → All Fits (ownRows n (rewritingLines p cs)) × All Fits (addedRows n (rewritingLines p cs))
+unfolding rewritingLines ownRows addedRows streamsAfter
 lines-fit p n [] h k = (tt, tt)
 lines-fit p n (c ∷ cs) h k =
     let e = expressions-counted c cs in
     let r = p + nodeCount (leftSide c) + nodeCount (rightSide c) in
     let m = n + lineAt p c .adds .added in
-    let one = line-fits p c n (omega arith) (omega (arith, streams-more m (linesOf r cs))) in
+    let one = line-fits p c n (omega arith) (omega (arith, streams-more m (rewritingLines r cs))) in
     let rest = lines-fit r m cs (omega arith) k in
     ((one .0, rest .0), All-append Fits (lineAt p c .adds .rows n) _ .1 (one .1, rest .1))
 
@@ -121,30 +119,30 @@ small-or-none : (b : Bool) {n : ℕ} → n < 65536 → cond b 0 n < 65536
 small-or-none true h = omega arith
 small-or-none false h = h
 
-module _ {s : Sheet} (ok : Accepted cutTowardZero s) where
+module _ {s : Sheet} (ok : Accepted s) where
   abbrev n : ℕ
   n = length (s .streams)
 
-  streams-few : streamsAfter n (linesOf 0 (s .constraints)) ≤ 8 + 3 * 1024
+  streams-few : streamsAfter n (rewritingLines 0 (s .constraints)) ≤ 8 + 3 * 1024
   streams-few = omega (arith, lines-few 0 n (s .constraints) .0, ok .expressionCount, ok .streamCount)
 
   -- "8 streams", and three for each token that may add streams.
-  pub streams-bounded : length (normalForm cutTowardZero s .streams) ≤ 8 + 3 * 1024
-  streams-bounded = omega (arith, streams-few, streams-counted s 0 n (s .constraints) (stand-self (nodeExpressions (s .constraints))), streams-length cutTowardZero s)
+  pub streams-bounded : length (normalForm s .streams) ≤ 8 + 3 * 1024
+  streams-bounded = omega (arith, streams-few, streams-counted s 0 n (s .constraints) (stand-self (nodeExpressions (s .constraints))), streams-length s)
 
-  pub entries-bounded : (text : List ℕ) → length (encoded text s) ≤ 32 + 4 * 1024
-  entries-bounded text = omega (arith, rows-few ok, length-map (rowsOf s) (recordOf text s))
+  pub entries-bounded : (text : List ℕ) → length (normalEntries text s) ≤ 32 + 4 * 1024
+  entries-bounded text = omega (arith, rows-few ok, length-map (normalRows s) (entryRecord text s))
 
-  pub fields-fit : (text : List ℕ) → All FieldsFit (encoded text s)
+  pub fields-fit : (text : List ℕ) → All FieldsFit (normalEntries text s)
   fields-fit text =
       let h = lines-fit 0 n (s .constraints) (omega (arith, ok .expressionCount)) (omega (arith, streams-few)) in
-      all-map FieldsFit (recordOf text s) (λ r f. record { left = small-or-none (leftIsNode (r .kind)) (f .left); leftAdded = f .leftAdded; right = small-or-none (rightIsNode (r .kind)) (f .right); rightAdded = f .rightAdded }) (rowsOf s)
-      (All-append Fits (ownRows n (linesOf 0 (s .constraints))) (addedRows n (linesOf 0 (s .constraints))) .1 h)
+      All-mapped FieldsFit (entryRecord text s) (λ r f. record { left = small-or-none (leftIsNode (r .kind)) (f .left); leftAdded = f .leftAdded; right = small-or-none (rightIsNode (r .kind)) (f .right); rightAdded = f .rightAdded }) (normalRows s)
+      (All-append Fits (ownRows n (rewritingLines 0 (s .constraints))) (addedRows n (rewritingLines 0 (s .constraints))) .1 h)
 
   -- "Magnitudes to 1,000,000,000."
-  pub ranges-bounded : (text : List ℕ) → All (λ e. InBounds (record { low = e .low; high = e .high })) (encoded text s)
+  pub ranges-bounded : (text : List ℕ) → All (λ e. InBounds (record { low = e .low; high = e .high })) (normalEntries text s)
   ranges-bounded text =
-      all-map (λ e. InBounds (record { low = e .low; high = e .high })) (recordOf text s) (λ r k. record { above = k .bounds .above; below = k .bounds .below }) (rowsOf s) (sheet-sound s ok)
+      All-mapped (λ e. InBounds (record { low = e .low; high = e .high })) (entryRecord text s) (λ r k. record { above = k .bounds .above; below = k .bounds .below }) (normalRows s) (sheet-sound s ok)
 
 -- ---- spans
 
@@ -159,12 +157,12 @@ each-within EachReads.none (suc i) = (omega arith, omega arith)
 each-within (EachReads.more r h) (suc zero) = (omega (arith, r .ordered), r .within)
 each-within (EachReads.more r h) (suc (suc i)) = each-within h (suc i)
 
-pub places-fit : {text : List ℕ} {s : Sheet} → AnswerTo cutTowardZero threeHeaderLines text (sheet s) → All (PlacesFit (length text)) (encoded text s)
-places-fit {text} {s} r = fit (rowsOf s)
+pub places-fit : {text : List ℕ} {s : Sheet} → AnswerTo text (sheet s) → All (PlacesFit (length text)) (normalEntries text s)
+places-fit {text} {s} r = fit (normalRows s)
   where
     within : (e : ℕ) → (spanBefore (spansIn text) e .start ≤ spanBefore (spansIn text) e .end) × (spanBefore (spansIn text) e .end ≤ length text)
     within e = each-within (text-spans r) e
 
-    fit : (rows : List Row) → All (PlacesFit (length text)) (map (recordOf text s) rows)
+    fit : (rows : List Row) → All (PlacesFit (length text)) (map (entryRecord text s) rows)
     fit [] = tt
     fit (x ∷ rows) = (record { left = within (leftBehind x); right = within (rightBehind x) }, fit rows)

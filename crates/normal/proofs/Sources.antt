@@ -8,13 +8,13 @@ use mathlib.Core.List.{List, [], _∷_, _++_}
 use lib.IntN.{ℤ}
 use lib.ListN.{length, getD, length-append}
 use lib.Signed.{_≤ℤ_, leZ-yes}
-use Rattle.meaning.specs.Arithmetic.{Interval, cutTowardZero}
+use Rattle.basics.proofs.Lists.{All-append, member-All}
+use Rattle.basics.specs.Lists.{All}
+use Rattle.meaning.specs.Arithmetic.{Interval}
 use Rattle.meaning.specs.Expression.{Expression, integer, name, first, next, negation, binary, conditional, fby, Constraint, always, until, leftSide, rightSide, noStream, rangeOf, Sheet}
 use Rattle.meaning.specs.Interval.{interval, subexpressions, NamesBelow}
 use Rattle.meaning.specs.Window.{firsts, sideFirsts}
-use Rattle.meaning.proofs.Arithmetic.{cutTowardZero-lawful}
 use Rattle.meaning.proofs.Facts.{getD-member}
-use Rattle.meaning.proofs.Lists.{All, All-append, member-All}
 use Rattle.sheet.specs.Refusal.{InBounds, onLeft, onRight}
 use Rattle.sheet.specs.Accepted.{Accepted}
 use Rattle.nodes.specs.Postfix.{postfix, sideNodes, allNodes}
@@ -25,9 +25,9 @@ use Rattle.nodes.specs.declared.Summary.{Summary}
 use Rattle.nodes.proofs.Bounds.{nodeSummary-summaryOf, bounded-inBounds}
 use Rattle.nodes.proofs.Postfix.{StoredAt, storedInteger, storedName, storedFirst, storedNext, storedNegation, storedBinary, storedConditional, storedFby, stored-ends, Holds, Holds-append, postfix-stored}
 use Rattle.spans.specs.Postfix.{inPostfix, nodeCount, nodeExpressions}
-use Rattle.normal.specs.Rows.{Row, rewriting, Line, lineAt, linesOf, ownRows, addedRows}
+use Rattle.normal.specs.Rows.{Row, rewriting, Line, lineAt, rewritingLines, ownRows, addedRows}
 use Rattle.normal.specs.Table.{endsOf}
-use Rattle.normal.specs.Encoded.{expressionAt, sourceInterval, rowsOf}
+use Rattle.normal.specs.Encoded.{expressionAt, sourceInterval, normalRows}
 use Rattle.normal.specs.Outcome.{sheetRange}
 use Rattle.normal.proofs.Decoding.{always-line}
 use Rattle.normal.proofs.Places.{Stand, Stand-append, stand-self, some-node, root-at, nodes-counted, sides-stand}
@@ -53,16 +53,16 @@ pub data RowForm (N : ℕ) : Row → Type 0 where
 module _ (s : Sheet) where
   -- The range that a row names is the interval of what its stream stands for, and its nodes are the sheet's.
   pub record Sound (r : Row) : Type 0 where
-    pub ends : endsOf (sheetRange s (r .source)) ≡ endsOfInterval (sourceInterval cutTowardZero s (r .source))
+    pub ends : endsOf (sheetRange s (r .source)) ≡ endsOfInterval (sourceInterval s (r .source))
     pub form : RowForm (length (allNodes 0 0 (s .constraints))) r
     pub source : r .source ≤ length (allNodes 0 0 (s .constraints))
-    pub bounds : InBounds (sourceInterval cutTowardZero s (r .source))
+    pub bounds : InBounds (sourceInterval s (r .source))
 
   -- The range of the part that ends before a place is its expression's interval, which is within the bounds.
   record Good (e : ℕ) : Type 0 where
     within : e ≤ length (allNodes 0 0 (s .constraints))
-    ends : endsOf (sheetRange s e) ≡ endsOfInterval (sourceInterval cutTowardZero s e)
-    bounds : InBounds (sourceInterval cutTowardZero s e)
+    ends : endsOf (sheetRange s e) ≡ endsOfInterval (sourceInterval s e)
+    bounds : InBounds (sourceInterval s e)
 
   abbrev N : Nodes
   N = nodesOf (allNodes 0 0 (s .constraints))
@@ -73,9 +73,9 @@ module _ (s : Sheet) where
   -- Every name is known, and no interval leaves the bounds.
   record Fine (e : Expression) : Type 0 where
     below : NamesBelow (length (s .streams)) e
-    bounds : All (λ f. InBounds (interval cutTowardZero (s .streams) f)) (subexpressions e)
+    bounds : All (λ f. InBounds (interval (s .streams) f)) (subexpressions e)
 
-  own-bounds : (e : Expression) → All (λ f. InBounds (interval cutTowardZero (s .streams) f)) (subexpressions e) → InBounds (interval cutTowardZero (s .streams) e)
+  own-bounds : (e : Expression) → All (λ f. InBounds (interval (s .streams) f)) (subexpressions e) → InBounds (interval (s .streams) e)
   unfolding subexpressions
   own-bounds (integer z) h = h .0
   own-bounds (name k) h = h .0
@@ -86,7 +86,7 @@ module _ (s : Sheet) where
   own-bounds (conditional c a b) h = h .0
   own-bounds (fby a b) h = h .0
 
-  module _ (ok : Accepted cutTowardZero s) where
+  module _ (ok : Accepted s) where
     abbrev nodes : ℕ
     nodes = length (allNodes 0 0 (s .constraints))
 
@@ -99,10 +99,10 @@ module _ (s : Sheet) where
         let at : i ≡ p + nodeCount e - 1 = omega (arith, stored-end t) in
         let is : expressionAt s i ≡ e = ap (expressionAt s) at ∙ root-at L p e h in
         let ends =
-        ap (λ (x : Summary). endsOf (x .range)) (nodeSummary-summaryOf cutTowardZero (s .streams) (allNodes 0 0 (s .constraints)) t l (g .below) few)
-        ∙ known-ends (all (λ f. endsInBound (interval cutTowardZero (s .streams) f)) (subexpressions e)) (interval cutTowardZero (s .streams) e) (bounded-inBounds cutTowardZero-lawful (s .streams) ordered e (g .below) .1 (g .bounds))
-        ∙ ap (λ x. endsOfInterval (interval cutTowardZero (s .streams) x)) (sym is) in
-        record { within = l; ends = ends; bounds = subst (λ x. InBounds (interval cutTowardZero (s .streams) x)) (sym is) (own-bounds e (g .bounds)) }
+        ap (λ (x : Summary). endsOf (x .range)) (nodeSummary-summaryOf (s .streams) (allNodes 0 0 (s .constraints)) t l (g .below) few)
+        ∙ known-ends (all (λ f. endsInBound (interval (s .streams) f)) (subexpressions e)) (interval (s .streams) e) (bounded-inBounds (s .streams) ordered e (g .below) .1 (g .bounds))
+        ∙ ap (λ x. endsOfInterval (interval (s .streams) x)) (sym is) in
+        record { within = l; ends = ends; bounds = subst (λ x. InBounds (interval (s .streams) x)) (sym is) (own-bounds e (g .bounds)) }
 
     part-good : {p f m : ℕ} {e : Expression} → StoredAt N p f e m → Stand L p (inPostfix e) → Fine e → m ≤ nodes → Good m
     part-good {p} {f} {m} {e} t h g l =
@@ -129,7 +129,7 @@ module _ (s : Sheet) where
     rows-sound {p} (storedBinary {o = o} {a = a} {b = b} t u x) h g l n =
         let k = Stand-append L p (inPostfix a) (inPostfix b ++ (binary o a b ∷ [])) h in
         let j = Stand-append L (p + nodeCount a) (inPostfix b) (binary o a b ∷ []) (k .1) in
-        let c = All-append (λ f. InBounds (interval cutTowardZero (s .streams) f)) (subexpressions a) (subexpressions b) .0 (g .bounds .1) in
+        let c = All-append (λ f. InBounds (interval (s .streams) f)) (subexpressions a) (subexpressions b) .0 (g .bounds .1) in
         let ia : Fine a = record { below = g .below .0; bounds = c .0 } in
         let ib : Fine b = record { below = g .below .1; bounds = c .1 } in
         All-append Sound (rewriting p a .rows n) _ .1
@@ -138,8 +138,8 @@ module _ (s : Sheet) where
         let k = Stand-append L p (inPostfix c) (inPostfix a ++ (inPostfix b ++ (conditional c a b ∷ []))) h in
         let j = Stand-append L (p + nodeCount c) (inPostfix a) (inPostfix b ++ (conditional c a b ∷ [])) (k .1) in
         let i = Stand-append L (p + nodeCount c + nodeCount a) (inPostfix b) (conditional c a b ∷ []) (j .1) in
-        let d = All-append (λ f. InBounds (interval cutTowardZero (s .streams) f)) (subexpressions c) (subexpressions a ++ subexpressions b) .0 (g .bounds .1) in
-        let e = All-append (λ f. InBounds (interval cutTowardZero (s .streams) f)) (subexpressions a) (subexpressions b) .0 (d .1) in
+        let d = All-append (λ f. InBounds (interval (s .streams) f)) (subexpressions c) (subexpressions a ++ subexpressions b) .0 (g .bounds .1) in
+        let e = All-append (λ f. InBounds (interval (s .streams) f)) (subexpressions a) (subexpressions b) .0 (d .1) in
         let ec = stored-end r in
         let ea : la ≡ p + nodeCount c + nodeCount a = stored-end t ∙ ap (λ q. q + nodeCount a) ec in
         let m = n + rewriting p c .added in
@@ -153,7 +153,7 @@ module _ (s : Sheet) where
     rows-sound {p} (storedFby {l = la} {m = mb} {a = a} {b = b} t u x) h g l n =
         let k = Stand-append L p (inPostfix a) (inPostfix b ++ (fby a b ∷ [])) h in
         let j = Stand-append L (p + nodeCount a) (inPostfix b) (fby a b ∷ []) (k .1) in
-        let c = All-append (λ f. InBounds (interval cutTowardZero (s .streams) f)) (subexpressions a) (subexpressions b) .0 (g .bounds .1) in
+        let c = All-append (λ f. InBounds (interval (s .streams) f)) (subexpressions a) (subexpressions b) .0 (g .bounds .1) in
         let ia : Fine a = record { below = g .below .0; bounds = c .0 } in
         let ib : Fine b = record { below = g .below .1; bounds = c .1 } in
         let ea = stored-end t in
@@ -215,8 +215,8 @@ module _ (s : Sheet) where
     AllFine cs = All (λ c. Fine (leftSide c) × Fine (rightSide c)) cs
 
     lines-sound : (p f n : ℕ) (cs : List Constraint) → Holds N p (allNodes p f cs) → Stand L p (nodeExpressions cs) → AllFine cs → p + length (allNodes p f cs) ≤ nodes
-        → All Sound (ownRows n (linesOf p cs)) × All Sound (addedRows n (linesOf p cs))
-    unfolding allNodes linesOf ownRows addedRows
+        → All Sound (ownRows n (rewritingLines p cs)) × All Sound (addedRows n (rewritingLines p cs))
+    unfolding allNodes rewritingLines ownRows addedRows
     lines-sound p f n [] hold h fine l = (tt, tt)
     lines-sound p f n (c ∷ cs) hold h fine l =
         let side = sideNodes p f c in
@@ -228,17 +228,17 @@ module _ (s : Sheet) where
         let z = length-append side rest in
         let one = line-sound p f c (q .0) (g .0) (g .1) (fine .0 .0) (fine .0 .1) (omega arith) n in
         let more = lines-sound (p + length side) (f + length (sideFirsts c)) m cs (q .1) (subst (λ k. Stand L k (nodeExpressions cs)) (sym e) (g .2)) (fine .1) (omega arith) in
-        let more′ = subst (λ k. All Sound (ownRows m (linesOf k cs)) × All Sound (addedRows m (linesOf k cs))) e more in
+        let more′ = subst (λ k. All Sound (ownRows m (rewritingLines k cs)) × All Sound (addedRows m (rewritingLines k cs))) e more in
         ((one .0, more′ .0), All-append Sound (lineAt p c .adds .rows n) _ .1 (one .1, more′ .1))
 
     all-fine : AllFine (s .constraints)
     all-fine = member-All (λ c. Fine (leftSide c) × Fine (rightSide c)) (s .constraints) (λ c m.
         let k = ok .namesKnown c m in (
-          record { below = k .left; bounds = member-All (λ f. InBounds (interval cutTowardZero (s .streams) f)) (subexpressions (leftSide c)) (λ f i. ok .intervalsInBounds f (onLeft m i)) },
-          record { below = k .right; bounds = member-All (λ f. InBounds (interval cutTowardZero (s .streams) f)) (subexpressions (rightSide c)) (λ f i. ok .intervalsInBounds f (onRight m i)) },
+          record { below = k .left; bounds = member-All (λ f. InBounds (interval (s .streams) f)) (subexpressions (leftSide c)) (λ f i. ok .intervalsInBounds f (onLeft m i)) },
+          record { below = k .right; bounds = member-All (λ f. InBounds (interval (s .streams) f)) (subexpressions (rightSide c)) (λ f i. ok .intervalsInBounds f (onRight m i)) },
         ))
 
-    pub sheet-sound : All Sound (rowsOf s)
+    pub sheet-sound : All Sound (normalRows s)
     sheet-sound =
         let h = lines-sound 0 0 (length (s .streams)) (s .constraints) (sheet-holds (s .constraints)) (stand-self L) all-fine (omega arith) in
-        All-append Sound (ownRows (length (s .streams)) (linesOf 0 (s .constraints))) (addedRows (length (s .streams)) (linesOf 0 (s .constraints))) .1 h
+        All-append Sound (ownRows (length (s .streams)) (rewritingLines 0 (s .constraints))) (addedRows (length (s .streams)) (rewritingLines 0 (s .constraints))) .1 h

@@ -6,11 +6,9 @@ use mathlib.Core.List.{List, [], _∷_, map}
 use lib.IntN.{ℤ, pos}
 use lib.ListN.{length, take, replicate, length-append, length-map}
 use lib.Seq.{take-at, length-take-le}
-use Rattle.meaning.specs.Arithmetic.{cutTowardZero}
+use Rattle.basics.proofs.Lists.{getD-map}
 use Rattle.meaning.specs.Expression.{Stream, Constraint, always, Sheet, integer, comparison}
 use Rattle.meaning.specs.Value.{equal}
-use Rattle.meaning.proofs.Lists.{getD-map}
-use Rattle.sheet.specs.Form.{threeHeaderLines}
 use Rattle.sheet.specs.Refusal.{Answer, refused, sheet, AnswerTo}
 use Rattle.sheet.specs.Reading.{answerTo}
 use Rattle.sheet.specs.Accepted.{Accepted}
@@ -25,9 +23,9 @@ use Rattle.reader.specs.Stored.{padded, relationsOf, leftsOf, rightsOf, storedS
 use Rattle.reader.specs.declared.Sheet.{Sheet as StoredSheet}
 use Rattle.reader.specs.declared.Reading.{Reading}
 use Rattle.spans.specs.Stored.{spanTable}
-use Rattle.normal.specs.Rows.{linesOf}
+use Rattle.normal.specs.Rows.{rewritingLines}
 use Rattle.normal.specs.Stored.{storedLines, rangeBefore}
-use Rattle.normal.specs.Table.{HasLines, LinesHaveRoom, refusedMade, madeOf}
+use Rattle.normal.specs.Table.{HasLines, LinesHaveRoom, refusedMade, madeTables}
 use Rattle.normal.specs.Outcome.{sheetRange, entriesFor}
 use Rattle.normal.specs.declared.Made.{Made}
 use Rattle.normal.proofs.SheetRows.{lines-stored, sheet-holds, nodes-total, sheet-room}
@@ -144,9 +142,9 @@ module _ (s : Sheet) where
   Asked l = HasLines (l .kinds) (l .relations) (l .lefts) (l .rights) × LinesHaveRoom (storedLines (l .kinds) (l .starts) (l .relations) (l .lefts) (l .rights)) (length (l .relations)) (length (l .lows))
 
   abbrev pub madeFrom : Lists → List ℕ → ℕ → Made
-  madeFrom l spans room = madeOf (storedLines (l .kinds) (l .starts) (l .relations) (l .lefts) (l .rights)) (length (l .lows)) (rangeBefore cutTowardZero (stored (l .kinds) (l .values) (l .starts)) (l .lows) (l .highs)) spans room
+  madeFrom l spans room = madeTables (storedLines (l .kinds) (l .starts) (l .relations) (l .lefts) (l .rights)) (length (l .lows)) (rangeBefore (stored (l .kinds) (l .values) (l .starts)) (l .lows) (l .highs)) spans room
 
-  lines-are : storedLines (kindsOf nodes) (startsOf nodes) (relationsOf constraints) (leftsOf constraints) (rightsOf constraints) ≡ linesOf 0 (s .constraints)
+  lines-are : storedLines (kindsOf nodes) (startsOf nodes) (relationsOf constraints) (leftsOf constraints) (rightsOf constraints) ≡ rewritingLines 0 (s .constraints)
   lines-are = lines-stored (nodesOf nodes) 0 0 (s .constraints) (sheet-holds (s .constraints))
 
   noConstraint : Constraint
@@ -155,7 +153,7 @@ module _ (s : Sheet) where
   noStored : StoredConstraint
   noStored = record { relation = 0; left = 0; right = 0 }
 
-  sheet-asked : Accepted cutTowardZero s → Asked (sheetLists s)
+  sheet-asked : Accepted s → Asked (sheetLists s)
   sheet-asked ok =
       let k = stored-count 0 0 (s .constraints) in
       let er = mapped (λ (x : StoredConstraint). x .relation) constraints k in
@@ -175,12 +173,12 @@ module _ (s : Sheet) where
               omega (arith, b .1, getD-map (λ (x : StoredConstraint). x .right) constraints j noStored 0 (omega arith), en);
         },
         subst (λ ls. LinesHaveRoom ls (length (relationsOf constraints)) (length (lowsOf (s .streams)))) (sym lines-are)
-            (subst (λ n. LinesHaveRoom (linesOf 0 (s .constraints)) n (length (lowsOf (s .streams)))) (sym er)
-            (subst (LinesHaveRoom (linesOf 0 (s .constraints)) (length (s .constraints))) (sym (length-map (s .streams) (λ (x : Stream). x .range .low))) room)),
+            (subst (λ n. LinesHaveRoom (rewritingLines 0 (s .constraints)) n (length (lowsOf (s .streams)))) (sym er)
+            (subst (LinesHaveRoom (rewritingLines 0 (s .constraints)) (length (s .constraints))) (sym (length-map (s .streams) (λ (x : Stream). x .range .low))) room)),
       )
 
   sheet-made : (text : List ℕ) (room : ℕ) → madeFrom (sheetLists s) (spanTable text) room ≡ entriesFor text (sheet s) room
-  sheet-made text room = λ i. madeOf (lines-are i) (length-map (s .streams) (λ (x : Stream). x .range .low) i) (sheetRange s) (spanTable text) room
+  sheet-made text room = λ i. madeTables (lines-are i) (length-map (s .streams) (λ (x : Stream). x .range .low) i) (sheetRange s) (spanTable text) room
 
 -- ---- the reader's answer
 
@@ -189,11 +187,11 @@ pub record SheetRead (a : Answer) (x : Reading) : Type 0 where
   pub source : Sheet
   pub is : a ≡ sheet source
   pub stored : x .sheet ≡ storedSheet source
-  pub accepted : Accepted cutTowardZero source
+  pub accepted : Accepted source
 
-module _ (text : List ℕ) {x : Reading} (e : x ≡ readingOf (answerTo cutTowardZero threeHeaderLines text)) where
+module _ (text : List ℕ) {x : Reading} (e : x ≡ readingOf (answerTo text)) where
   abbrev answer : Answer
-  answer = answerTo cutTowardZero threeHeaderLines text
+  answer = answerTo text
 
   pub reading-refused : (x .refusal ≡ 0 → ⊥) → (room : ℕ) {m : Made} → m ≡ refusedMade (x .refusal) → m ≡ entriesFor text answer room
   reading-refused h room {m} q = q ∙ by answer e
@@ -203,9 +201,9 @@ module _ (text : List ℕ) {x : Reading} (e : x ≡ readingOf (answerTo cutTowar
       by (sheet s) p = absurd (h (ap (λ (y : Reading). y .refusal) p))
 
   pub reading-sheet : x .refusal ≡ 0 → SheetRead answer x
-  reading-sheet h = by answer e (answer-correct cutTowardZero threeHeaderLines text)
+  reading-sheet h = by answer e (answer-correct text)
     where
-      by : (a : Answer) → x ≡ readingOf a → AnswerTo cutTowardZero threeHeaderLines text a → SheetRead a x
+      by : (a : Answer) → x ≡ readingOf a → AnswerTo text a → SheetRead a x
       by (refused n) p r = let z = ap (λ (y : Reading). y .refusal) p in absurd (omega (arith, refusal-positive r))
       by (sheet s) p r = record { source = s; is = refl; stored = ap (λ (y : Reading). y .sheet) p; accepted = accepted-facts r }
 

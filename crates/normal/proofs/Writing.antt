@@ -6,9 +6,9 @@ use mathlib.Core.List.{List, [], _∷_, _++_, append-assoc}
 use lib.IntN.{ℤ}
 use lib.ListN.{length, set, length-append}
 use lib.Seq.{sets}
-use Rattle.meaning.proofs.Lists.{sets-append}
-use Rattle.normal.specs.Rows.{Row, Rewriting, equationRow, nothingAdded, joined, nextEntries, nextRewriting, fbyEntries, fbyRewriting, untilRow, untilEntries}
-use Rattle.normal.specs.Table.{rowBound, streamLimit, numbersOf, flat, putRows, HasRoom, Wrote}
+use Rattle.basics.proofs.Lists.{sets-append}
+use Rattle.normal.specs.Rows.{Row, Rewriting, equationRow, nothingAdded, bothRewritings, nextEntries, nextRewriting, fbyEntries, fbyRewriting, untilRow, untilEntries}
+use Rattle.normal.specs.Table.{rowBound, streamLimit, numbersOf, flat, putRows, RewritingFits, Wrote}
 use Rattle.normal.specs.declared.Written.{Written}
 
 -- ---- stores
@@ -89,8 +89,8 @@ abbrev pub written : ℕ → ℕ → Written
 written r n = record { row = r; stream = n }
 
 module _ {w a : Rewriting} (is : w ≡ a) {row n : ℕ} where
-  pub room-same : HasRoom w row n → HasRoom a row n
-  room-same h = subst (λ x. HasRoom x row n) is h
+  pub room-same : RewritingFits w row n → RewritingFits a row n
+  room-same h = subst (λ x. RewritingFits x row n) is h
 
   pub wrote-same : {t u : List ℕ} {r : Written} → Wrote a row n t u r → Wrote w row n t u r
   wrote-same {t} {u} {r} x = subst (λ z. Wrote z row n t u r) (sym is) x
@@ -99,15 +99,15 @@ pub wrote-nothing : {w : Rewriting} → w ≡ nothingAdded → (row n : ℕ) (t 
 wrote-nothing is row n t = wrote-same is (record { rows = omega arith; streams = omega arith; table = refl })
 
 -- Of w, which is what two parts add one after the other.
-module _ (a b : Rewriting) {w : Rewriting} (is : w ≡ joined a b) {row n : ℕ} where
-  joined-room : HasRoom w row n → HasRoom (joined a b) row n
-  joined-room h = subst (λ x. HasRoom x row n) is h
+module _ (a b : Rewriting) {w : Rewriting} (is : w ≡ bothRewritings a b) {row n : ℕ} where
+  joined-room : RewritingFits w row n → RewritingFits (bothRewritings a b) row n
+  joined-room h = subst (λ x. RewritingFits x row n) is h
 
-  pub room-left : HasRoom w row n → HasRoom a row n
+  pub room-left : RewritingFits w row n → RewritingFits a row n
   room-left h = let g = joined-room h in let e = length-append (a .rows n) (b .rows (n + a .added)) in record { rows = omega (arith, g .rows); streams = omega (arith, g .streams) }
 
   module _ {t u : List ℕ} {r : Written} (x : Wrote a row n t u r) where
-    pub room-right : HasRoom w row n → HasRoom b (r .row) (r .stream)
+    pub room-right : RewritingFits w row n → RewritingFits b (r .row) (r .stream)
     room-right h =
         let g = joined-room h in
         let e = length-append (a .rows n) (b .rows (n + a .added)) in
@@ -127,14 +127,14 @@ module _ (a b : Rewriting) {w : Rewriting} (is : w ≡ joined a b) {row n : ℕ}
 
 -- Of w, which is what a `next` adds.
 module _ (e : ℕ) (b : Rewriting) {w : Rewriting} (is : w ≡ nextRewriting e b) {row n : ℕ} where
-  pub room-own-next : HasRoom w row n → (row + 2 ≤ rowBound) × (n + 2 ≤ streamLimit)
+  pub room-own-next : RewritingFits w row n → (row + 2 ≤ rowBound) × (n + 2 ≤ streamLimit)
   room-own-next h =
-      let g : HasRoom (nextRewriting e b) row n = subst (λ x. HasRoom x row n) is h in
+      let g : RewritingFits (nextRewriting e b) row n = subst (λ x. RewritingFits x row n) is h in
       (omega (arith, g .rows), omega (arith, g .streams))
 
-  pub room-next : HasRoom w row n → HasRoom b (row + 2) (n + 2)
+  pub room-next : RewritingFits w row n → RewritingFits b (row + 2) (n + 2)
   room-next h =
-      let g : HasRoom (nextRewriting e b) row n = subst (λ x. HasRoom x row n) is h in
+      let g : RewritingFits (nextRewriting e b) row n = subst (λ x. RewritingFits x row n) is h in
       let f = ap (λ k. length (b .rows k)) (two-more n) in
       record { rows = omega (arith, g .rows); streams = omega (arith, g .streams) }
 
@@ -153,23 +153,23 @@ fby-length l e a b n = length-append (a .rows n) (fbyEntries l e n (n + a .added
 
 -- Of w, which is what an `fby` adds.
 module _ (l e : ℕ) (a b : Rewriting) {w : Rewriting} (is : w ≡ fbyRewriting l e a b) {row n : ℕ} where
-  fby-room : HasRoom w row n → HasRoom (fbyRewriting l e a b) row n
-  fby-room h = subst (λ x. HasRoom x row n) is h
+  fby-room : RewritingFits w row n → RewritingFits (fbyRewriting l e a b) row n
+  fby-room h = subst (λ x. RewritingFits x row n) is h
 
-  pub room-fby-left : HasRoom w row n → HasRoom a row n
+  pub room-fby-left : RewritingFits w row n → RewritingFits a row n
   room-fby-left h = let g = fby-room h in let k = fby-length l e a b n in record { rows = omega (arith, g .rows); streams = omega (arith, g .streams) }
 
   module _ {t u : List ℕ} {r : Written} (x : Wrote a row n t u r) where
     behind : r .stream + 3 ≡ suc (suc (suc (n + a .added)))
     behind = omega (arith, x .streams)
 
-    pub room-fby-own : HasRoom w row n → (r .row + 4 ≤ rowBound) × (r .stream + 3 ≤ streamLimit) × (n ≤ streamLimit)
+    pub room-fby-own : RewritingFits w row n → (r .row + 4 ≤ rowBound) × (r .stream + 3 ≤ streamLimit) × (n ≤ streamLimit)
     room-fby-own h =
         let g = fby-room h in
         let k = fby-length l e a b n in
         (omega (arith, g .rows, x .rows), omega (arith, g .streams, x .streams), omega (arith, g .streams))
 
-    pub room-fby-right : HasRoom w row n → HasRoom b (r .row + 4) (r .stream + 3)
+    pub room-fby-right : RewritingFits w row n → RewritingFits b (r .row + 4) (r .stream + 3)
     room-fby-right h =
         let g = fby-room h in
         let k = fby-length l e a b n in

@@ -16,7 +16,7 @@ use Prim.Native.Nat.{ℕ, zero, suc}
 use mathlib.Core.List.{List, map}
 use lib.IntN.{pos}
 use lib.ListN.{length, getD}
-use Rattle.meaning.specs.Arithmetic.{Arithmetic, Interval, cutTowardZero}
+use Rattle.meaning.specs.Arithmetic.{Interval}
 use Rattle.meaning.specs.Expression.{Expression, integer, Sheet}
 use Rattle.meaning.specs.Interval.{interval}
 use Rattle.scan.specs.declared.Span.{Span}
@@ -24,7 +24,7 @@ use Rattle.spans.specs.Token.{span}
 use Rattle.spans.specs.Postfix.{nodeExpressions}
 use Rattle.spans.specs.Spans.{spansIn}
 use Rattle.outcome.specs.NormalForm.{NormalAnswer}
-use Rattle.normal.specs.Rows.{Row, linesOf, allRows}
+use Rattle.normal.specs.Rows.{Row, rewritingLines, allRows}
 use Rattle.normal.specs.Fields.{entryWith}
 use Rattle.normal.specs.declared.Entry.{Entry}
 use Rattle.normal.specs.declared.NormalForm.{NormalForm}
@@ -36,28 +36,28 @@ expressionAt s i = getD (nodeExpressions (s .constraints)) i (integer (pos 0))
 abbrev pub noInterval : Interval
 noInterval = record { low = pos 0; high = pos 0 }
 
-abbrev pub sourceInterval : Arithmetic → Sheet → ℕ → Interval
-sourceInterval A s zero = noInterval
-sourceInterval A s (suc i) = interval A (s .streams) (expressionAt s i)
+abbrev pub sourceInterval : Sheet → ℕ → Interval
+sourceInterval s zero = noInterval
+sourceInterval s (suc i) = interval (s .streams) (expressionAt s i)
 
 -- The span of the expression whose node stands before a place; 0 to 0 where there is none.
 abbrev pub spanBefore : List Span → ℕ → Span
 spanBefore ss zero = span 0 0
 spanBefore ss (suc i) = getD ss i (span 0 0)
 
-abbrev pub entryOf : List Span → Row → Interval → Entry
-entryOf ss r I = entryWith (spanBefore ss) r (I .low) (I .high)
+abbrev pub entryFor : List Span → Row → Interval → Entry
+entryFor ss r I = entryWith (spanBefore ss) r (I .low) (I .high)
 
-abbrev pub rowsOf : Sheet → List Row
-rowsOf s = allRows (length (s .streams)) (linesOf 0 (s .constraints))
+abbrev pub normalRows : Sheet → List Row
+normalRows s = allRows (length (s .streams)) (rewritingLines 0 (s .constraints))
 
 -- The record of a row of the sheet that has this text.
-abbrev pub recordOf : List ℕ → Sheet → Row → Entry
-recordOf text s r = entryOf (spansIn text) r (sourceInterval cutTowardZero s (r .source))
+abbrev pub entryRecord : List ℕ → Sheet → Row → Entry
+entryRecord text s r = entryFor (spansIn text) r (sourceInterval s (r .source))
 
 -- The entries of the normal form of the sheet that has this text.
-abbrev pub encoded : List ℕ → Sheet → List Entry
-encoded text s = map (recordOf text s) (rowsOf s)
+abbrev pub normalEntries : List ℕ → Sheet → List Entry
+normalEntries text s = map (entryRecord text s) (normalRows s)
 
-abbrev pub answerOf : NormalForm → NormalAnswer
-answerOf r = record { refusal = r .refusal; entries = r .entries; added = r .added }
+abbrev pub normalAnswerOf : NormalForm → NormalAnswer
+normalAnswerOf r = record { refusal = r .refusal; entries = r .entries; added = r .added }

@@ -49,8 +49,8 @@ abbrev pub nothingAdded : Rewriting
 nothingAdded = record { added = 0; rows = λ n. [] }
 
 -- Those of two parts, one after the other.
-abbrev pub joined : Rewriting → Rewriting → Rewriting
-joined a b = record { added = a .added + b .added; rows = λ n. a .rows n ++ b .rows (n + a .added) }
+abbrev pub bothRewritings : Rewriting → Rewriting → Rewriting
+bothRewritings a b = record { added = a .added + b .added; rows = λ n. a .rows n ++ b .rows (n + a .added) }
 
 -- "`next` adds two streams and two entries": x₂ == expr and x₁ == next x₂, of an expression that ends before the place e.
 abbrev pub nextEntries : ℕ → ℕ → List Row
@@ -85,9 +85,9 @@ rewriting p (name k) = nothingAdded
 rewriting p (first e) = rewriting p e
 rewriting p (next e) = nextRewriting (p + nodeCount e) (rewriting p e)
 rewriting p (negation e) = rewriting p e
-rewriting p (binary o a b) = joined (rewriting p a) (rewriting (p + nodeCount a) b)
+rewriting p (binary o a b) = bothRewritings (rewriting p a) (rewriting (p + nodeCount a) b)
 rewriting p (conditional c a b) =
-    joined (rewriting p c) (joined (rewriting (p + nodeCount c) a) (rewriting (p + nodeCount c + nodeCount a) b))
+    bothRewritings (rewriting p c) (bothRewritings (rewriting (p + nodeCount c) a) (rewriting (p + nodeCount c + nodeCount a) b))
 rewriting p (fby a b) =
     fbyRewriting (p + nodeCount a) (p + nodeCount a + nodeCount b) (rewriting p a) (rewriting (p + nodeCount a) b)
 
@@ -114,20 +114,20 @@ abbrev pub untilLine : ℕ → ℕ → Rewriting → Rewriting → Line
 untilLine l r a b = record { own = λ n. untilRow (n + a .added) l; adds = untilRewriting l r a b }
 
 abbrev pub alwaysLine : ℕ → ℕ → ℕ → Rewriting → Rewriting → Line
-alwaysLine relation l r a b = record { own = λ n. constraintRow relation l n r (n + a .added); adds = joined a b }
+alwaysLine relation l r a b = record { own = λ n. constraintRow relation l n r (n + a .added); adds = bothRewritings a b }
 
-abbrev pub lineOf : ℕ → ℕ → ℕ → Rewriting → Rewriting → Line
-lineOf relation l r a b = cond (eqb relation 7) (untilLine l r a b) (alwaysLine relation l r a b)
+abbrev pub relationLine : ℕ → ℕ → ℕ → Rewriting → Rewriting → Line
+relationLine relation l r a b = cond (eqb relation 7) (untilLine l r a b) (alwaysLine relation l r a b)
 
 -- The line of a constraint whose nodes stand from the place p on, and the lines of constraints.
 abbrev pub lineAt : ℕ → Constraint → Line
 lineAt p c =
     let l = p + nodeCount (leftSide c) in
-    lineOf (relationCode c) l (l + nodeCount (rightSide c)) (rewriting p (leftSide c)) (rewriting l (rightSide c))
+    relationLine (relationCode c) l (l + nodeCount (rightSide c)) (rewriting p (leftSide c)) (rewriting l (rightSide c))
 
-unfoldable pub linesOf : ℕ → List Constraint → List Line
-linesOf p [] = []
-linesOf p (c ∷ cs) = lineAt p c ∷ linesOf (p + nodeCount (leftSide c) + nodeCount (rightSide c)) cs
+unfoldable pub rewritingLines : ℕ → List Constraint → List Line
+rewritingLines p [] = []
+rewritingLines p (c ∷ cs) = lineAt p c ∷ rewritingLines (p + nodeCount (leftSide c) + nodeCount (rightSide c)) cs
 
 -- ---- all entries
 

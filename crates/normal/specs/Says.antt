@@ -10,7 +10,7 @@ use Rattle.meaning.specs.Value.{equal}
 use Rattle.meaning.specs.Expression.{Expression, integer, name, first, next, negation, binary, conditional, fby, comparison, Constraint, always, until, Sheet}
 use Rattle.meaning.specs.NormalForm.{rewritten, equation, allAdded}
 use Rattle.nodes.specs.Code.{signAt}
-use Rattle.sheet.specs.Form.{threeHeaderLines, lineTokens}
+use Rattle.sheet.specs.Form.{lineTokens, layoutIn}
 use Rattle.scan.specs.declared.Span.{Span}
 use Rattle.spans.specs.Token.{span}
 use Rattle.spans.specs.Reading.{SpanReads}
@@ -18,25 +18,25 @@ use Rattle.normal.specs.declared.Entry.{Entry}
 
 -- The text from `begin` to before `end` is read as an expression, by the names of line 1; rewritten, with added streams numbered from n on, it is this one.
 pub data SideSays (text : List ℕ) (begin end n : ℕ) : Expression → Type 0 where
-  side : {e : Expression} → SpanReads (lineTokens text (threeHeaderLines .namesLine)) text (span begin end) e → SideSays text begin end n (rewritten n e)
+  side : {e : Expression} → SpanReads (lineTokens text (layoutIn text .namesLine)) text (span begin end) e → SideSays text begin end n (rewritten n e)
 
-pub data Says (text : List ℕ) (r : Entry) : Constraint → Type 0 where
+pub data EntrySays (text : List ℕ) (r : Entry) : Constraint → Type 0 where
   -- a rewritten constraint
   constraint : {a b : Expression} → r .kind ≡ 1 → SideSays text (r .«left_begin») (r .«left_end») (r .«left_added») a → SideSays text (r .«right_begin») (r .«right_end») (r .«right_added») b
-      → Says text r (always (signAt (r .relation)) a b)
+      → EntrySays text r (always (signAt (r .relation)) a b)
   -- `x₁ until x₂`
-  streamsUntil : r .kind ≡ 2 → Says text r (until (name (r .left)) (name (r .right)))
+  streamsUntil : r .kind ≡ 2 → EntrySays text r (until (name (r .left)) (name (r .right)))
   -- `x₂ == expr`
-  streamIs : {b : Expression} → r .kind ≡ 3 → SideSays text (r .«right_begin») (r .«right_end») (r .«right_added») b → Says text r (equation (r .left) b)
+  streamIs : {b : Expression} → r .kind ≡ 3 → SideSays text (r .«right_begin») (r .«right_end») (r .«right_added») b → EntrySays text r (equation (r .left) b)
   -- `x₁ == next x₂`
-  streamIsNext : r .kind ≡ 4 → Says text r (equation (r .left) (next (name (r .right))))
+  streamIsNext : r .kind ≡ 4 → EntrySays text r (equation (r .left) (next (name (r .right))))
   -- `first x₁ == first x₂`
-  firstsEqual : r .kind ≡ 5 → Says text r (always (comparison equal) (first (name (r .left))) (first (name (r .right))))
+  firstsEqual : r .kind ≡ 5 → EntrySays text r (always (comparison equal) (first (name (r .left))) (first (name (r .right))))
 
 -- The records say the constraints, one by one.
 pub data EachSays (text : List ℕ) : List Entry → List Constraint → Type 0 where
   none : EachSays text [] []
-  more : {r : Entry} {rs : List Entry} {c : Constraint} {cs : List Constraint} → Says text r c → EachSays text rs cs → EachSays text (r ∷ rs) (c ∷ cs)
+  more : {r : Entry} {rs : List Entry} {c : Constraint} {cs : List Constraint} → EntrySays text r c → EachSays text rs cs → EachSays text (r ∷ rs) (c ∷ cs)
 
 -- The expression that an added stream of the sheet's normal form stands for.
 abbrev pub standsFor : Sheet → ℕ → Expression
@@ -44,7 +44,7 @@ standsFor s k = getD (allAdded (s .constraints)) (k - length (s .streams)) (inte
 
 -- The span at the left of a record that names a stream is the text of the expression that the stream stands for.
 pub record LeftStands (text : List ℕ) (s : Sheet) (r : Entry) : Type 0 where
-  pub reads : 2 ≤ r .kind → SpanReads (lineTokens text (threeHeaderLines .namesLine)) text (span (r .«left_begin») (r .«left_end»)) (standsFor s (r .left))
+  pub reads : 2 ≤ r .kind → SpanReads (lineTokens text (layoutIn text .namesLine)) text (span (r .«left_begin») (r .«left_end»)) (standsFor s (r .left))
 
 -- A whole `next` or `fby`.
 abbrev pub isReplaced : Expression → Bool

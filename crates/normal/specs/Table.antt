@@ -36,7 +36,7 @@ abbrev pub putRows : List ℕ → ℕ → List Row → List ℕ
 putRows table n rows = sets table (n * 7) (flat rows)
 
 -- There is room for what is added in rows from a row on and in streams from a number on.
-pub record HasRoom (a : Rewriting) (row stream : ℕ) : Type 0 where
+pub record RewritingFits (a : Rewriting) (row stream : ℕ) : Type 0 where
   pub rows : row + length (a .rows stream) ≤ rowBound
   pub streams : stream + a .added ≤ streamLimit
 
@@ -138,8 +138,8 @@ abbrev pub storedSpan : List ℕ → ℕ → Span
 storedSpan numbers e = span (storedPlace numbers 0 e) (storedPlace numbers 1 e)
 
 -- The entry with the number i.
-unfoldable pub entryAt : List ℕ → List ℤ → ℕ → Entry
-entryAt numbers ends i = cond (ltb i rowBound) (entryWith (storedSpan numbers) (rowAt numbers i) (getD ends (i * 2) (pos 0)) (getD ends (i * 2 + 1) (pos 0))) blank
+unfoldable pub storedEntry : List ℕ → List ℤ → ℕ → Entry
+storedEntry numbers ends i = cond (ltb i rowBound) (entryWith (storedSpan numbers) (rowAt numbers i) (getD ends (i * 2) (pos 0)) (getD ends (i * 2 + 1) (pos 0))) blank
 
 -- The tables with the entries of lines in them, or a refusal with tables of zeros.
 abbrev pub refusedMade : ℕ → Made
@@ -151,8 +151,8 @@ numbersWith rows = putRows (replicate 30944 0) 0 rows
 abbrev pub endsWith : (ℕ → Range) → List Row → List ℤ
 endsWith range rows = sets (replicate 8256 (pos 0)) 0 (endsUpTo range (numbersWith rows) (length rows))
 
-unfoldable pub madeOf : List Line → ℕ → (ℕ → Range) → List ℕ → ℕ → Made
-madeOf ls streams range spans room =
+unfoldable pub madeTables : List Line → ℕ → (ℕ → Range) → List ℕ → ℕ → Made
+madeTables ls streams range spans room =
     let rows = allRows streams ls in
     cond (ltb room (length rows))
     (refusedMade 10)

@@ -7,17 +7,15 @@ ghost use mathlib.Core.List.{[], _∷_};
 ghost use Prim.Native.Nat.{suc, _+_, _*_, _-_, _≤_, _<_};
 ghost use lib.ListN.{length};
 ghost use lib.Seq.{sets};
-ghost use Rattle.meaning.specs.Arithmetic.{cutTowardZero};
 ghost use Rattle.nodes.specs.Evaluate.{stored};
-ghost use Rattle.sheet.specs.Form.{threeHeaderLines};
 ghost use Rattle.sheet.specs.Reading.{answerTo};
 ghost use Rattle.outcome.specs.NormalForm.{NormalOutcome};
-ghost use Rattle.normal.specs.Encoded.{encoded, answerOf};
+ghost use Rattle.normal.specs.Encoded.{normalEntries, normalAnswerOf};
 ghost use Rattle.normal.specs.Outcome.{entriesFor};
 ghost use Rattle.normal.specs.Fields.{leftIsNode, rightIsNode, replacesIn};
 ghost use Rattle.normal.specs.Rows.{untilRow, equationRow, nextEntries, fbyEntries, untilEntries};
 ghost use Rattle.normal.specs.Stored.{rewritingBefore, storedLine, storedLines, rangeBefore};
-ghost use Rattle.normal.specs.Table.{rowBound, streamLimit, putRows, HasRoom, Wrote, WroteLine, WroteLines, LinesHaveRoom, HasLines, endsUpTo, refusedMade, madeOf, withSpans, blank, storedPlace, entryAt, listed};
+ghost use Rattle.normal.specs.Table.{rowBound, streamLimit, putRows, RewritingFits, Wrote, WroteLine, WroteLines, LinesHaveRoom, HasLines, endsUpTo, refusedMade, madeTables, withSpans, blank, storedPlace, storedEntry, listed};
 
 // One entry of the normal form (specs/Encoded says what its fields are). Laid out as in C, so that an exported function can be lent a list of them;
 // twelve numbers of two bytes and two of eight, with no bytes between them.
@@ -138,7 +136,7 @@ fn write_rows(
     stream: usize,
     table: &mut [u16; 30944],
 ) -> Written
-    requires { ⌜ (end ≤ length (now kinds)) × (end ≤ 1024) × HasRoom (rewritingBefore (now kinds) (now starts) end) row stream ⌝ }
+    requires { ⌜ (end ≤ length (now kinds)) × (end ≤ 1024) × RewritingFits (rewritingBefore (now kinds) (now starts) end) row stream ⌝ }
     ensures { λ r. ⌜ Wrote (rewritingBefore (now (kinds .entry)) (now (starts .entry)) end) row stream (now (table .entry)) (now (table .exit)) r ⌝ }
 {
     if end == 0 {
@@ -149,28 +147,28 @@ fn write_rows(
     }
     let last = end - 1;
     let kind = kinds[last];
-    if kind < 2 {
+    if kind < nodes::FIRST_NODE {
         return Written {
             row: row,
             stream: stream,
         };
     }
-    if kind == 3 {
+    if kind == nodes::NEXT_NODE {
         put_next(table, row, stream, last);
         return write_rows(kinds, starts, last, row + 2, stream + 2, table);
     }
-    if kind < 5 {
+    if kind < nodes::CONDITIONAL_NODE {
         return write_rows(kinds, starts, last, row, stream, table);
     }
     let middle = left_end(starts, last);
-    if kind == 5 {
+    if kind == nodes::CONDITIONAL_NODE {
         let first = left_end(starts, middle);
         let c = write_rows(kinds, starts, first, row, stream, table);
         let a = write_rows(kinds, starts, middle, c.row, c.stream, table);
         return write_rows(kinds, starts, last, a.row, a.stream, table);
     }
     let a = write_rows(kinds, starts, middle, row, stream, table);
-    if kind == 6 {
+    if kind == nodes::FBY_NODE {
         put_fby(table, a.row, a.stream, middle, last, stream);
         return write_rows(kinds, starts, last, a.row + 4, a.stream + 3, table);
     }
@@ -208,11 +206,11 @@ fn write_line(
     stream: usize,
     table: &mut [u16; 30944],
 ) -> Written
-    requires { ⌜ (left < length (now kinds)) × (right < length (now kinds)) × (length (now kinds) ≤ 1024) × (own < row) × HasRoom (storedLine (now kinds) (now starts) relation left right .adds) row stream ⌝ }
+    requires { ⌜ (left < length (now kinds)) × (right < length (now kinds)) × (length (now kinds) ≤ 1024) × (own < row) × RewritingFits (storedLine (now kinds) (now starts) relation left right .adds) row stream ⌝ }
     ensures { λ r. ⌜ WroteLine (storedLine (now (kinds .entry)) (now (starts .entry)) relation left right) own row stream (now (table .entry)) (now (table .exit)) r ⌝ }
 {
     let a = write_rows(kinds, starts, left + 1, row, stream, table);
-    if relation == 7 {
+    if relation == nodes::UNTIL_RELATION {
         put_until(table, own, a.row, a.stream, left + 1, right + 1, stream);
         return write_rows(kinds, starts, right + 1, a.row + 2, a.stream + 2, table);
     }
@@ -278,7 +276,7 @@ fn range_before(
     highs: &[i64],
     end: usize,
 ) -> Range
-    ensures { λ r. ⌜ r ≡ rangeBefore cutTowardZero (stored (now (kinds .entry)) (now (values .entry)) (now (starts .entry))) (now (lows .entry)) (now (highs .entry)) end ⌝ }
+    ensures { λ r. ⌜ r ≡ rangeBefore (stored (now (kinds .entry)) (now (values .entry)) (now (starts .entry))) (now (lows .entry)) (now (highs .entry)) end ⌝ }
 {
     if end == 0 {
         return Range {
@@ -319,7 +317,7 @@ fn write_ends(
     ends: &mut [i64; 8256],
 )
     requires { ⌜ rows ≤ rowBound ⌝ }
-    ensures { λ r. ⌜ now (ends .exit) ≡ sets (now (ends .entry)) 0 (endsUpTo (rangeBefore cutTowardZero (stored (now (kinds .entry)) (now (values .entry)) (now (starts .entry))) (now (lows .entry)) (now (highs .entry))) (now (numbers .entry)) rows) ⌝ }
+    ensures { λ r. ⌜ now (ends .exit) ≡ sets (now (ends .entry)) 0 (endsUpTo (rangeBefore (stored (now (kinds .entry)) (now (values .entry)) (now (starts .entry))) (now (lows .entry)) (now (highs .entry))) (now (numbers .entry)) rows) ⌝ }
 {
     let mut i = 0;
     while i < rows {
@@ -372,7 +370,7 @@ fn make(
 ) -> Made
     requires { ⌜ HasLines (now kinds) (now relations) (now lefts) (now rights) ⌝ }
     requires { ⌜ LinesHaveRoom (storedLines (now kinds) (now starts) (now relations) (now lefts) (now rights)) (length (now relations)) (length (now lows)) ⌝ }
-    ensures { λ r. ⌜ r ≡ madeOf (storedLines (now (kinds .entry)) (now (starts .entry)) (now (relations .entry)) (now (lefts .entry)) (now (rights .entry))) (length (now (lows .entry))) (rangeBefore cutTowardZero (stored (now (kinds .entry)) (now (values .entry)) (now (starts .entry))) (now (lows .entry)) (now (highs .entry))) (now (spans .entry)) room ⌝ }
+    ensures { λ r. ⌜ r ≡ madeTables (storedLines (now (kinds .entry)) (now (starts .entry)) (now (relations .entry)) (now (lefts .entry)) (now (rights .entry))) (length (now (lows .entry))) (rangeBefore (stored (now (kinds .entry)) (now (values .entry)) (now (starts .entry))) (now (lows .entry)) (now (highs .entry))) (now (spans .entry)) room ⌝ }
 {
     let streams = lows.len();
     let mut numbers: [u16; 30944] = [0; 30944];
@@ -496,7 +494,7 @@ fn blank_entry() -> Entry
 
 // The entry with the number i; all fields are 0 where there is none.
 pub fn entry_at(numbers: &[u16; 30944], ends: &[i64; 8256], i: usize) -> Entry
-    ensures { λ r. ⌜ r ≡ entryAt (now (numbers .entry)) (now (ends .entry)) i ⌝ }
+    ensures { λ r. ⌜ r ≡ storedEntry (now (numbers .entry)) (now (ends .entry)) i ⌝ }
 {
     if 4128 <= i {
         return blank_entry();
@@ -529,7 +527,7 @@ pub fn entry_at(numbers: &[u16; 30944], ends: &[i64; 8256], i: usize) -> Entry
 
 // Stores the entries that the numbers give, and entries of zeros behind them.
 fn fill(list: &mut [Entry], numbers: &[u16; 30944], ends: &[i64; 8256])
-    ensures { λ r. ⌜ now (list .exit) ≡ listed (entryAt (now (numbers .entry)) (now (ends .entry))) (length (now (list .entry))) ⌝ }
+    ensures { λ r. ⌜ now (list .exit) ≡ listed (storedEntry (now (numbers .entry)) (now (ends .entry))) (length (now (list .entry))) ⌝ }
 {
     let mut i = 0;
     while i < list.len() {
@@ -540,7 +538,7 @@ fn fill(list: &mut [Entry], numbers: &[u16; 30944], ends: &[i64; 8256])
 
 // The entries of the sheet that the bytes give in tables, or the refusal's number with tables of zeros.
 pub fn read_entries(text: &[u8], room: usize) -> Made
-    ensures { λ r. ⌜ r ≡ entriesFor (now (text .entry)) (answerTo cutTowardZero threeHeaderLines (now (text .entry))) room ⌝ }
+    ensures { λ r. ⌜ r ≡ entriesFor (now (text .entry)) (answerTo (now (text .entry))) room ⌝ }
 {
     let reading = reader::read(text);
     if reading.refusal != 0 {
@@ -576,7 +574,7 @@ pub fn read_entries(text: &[u8], room: usize) -> Made
 // Gives the entries of the normal form of the sheet's bytes in the lent list, with zeros behind them; in a refusal 1 to 7, or 10 where the list
 // is shorter than the entries, the list is zero.
 pub fn normal_form(text: &[u8], list: &mut [Entry]) -> NormalForm
-    ensures { λ r. ⌜ NormalOutcome blank (encoded (now (text .entry))) cutTowardZero threeHeaderLines (now (text .entry)) (length (now (list .entry))) (answerOf r) (now (list .exit)) ⌝ }
+    ensures { λ r. ⌜ NormalOutcome blank (normalEntries (now (text .entry))) (now (text .entry)) (length (now (list .entry))) (normalAnswerOf r) (now (list .exit)) ⌝ }
 {
     let made = read_entries(text, list.len());
     let numbers = made.numbers;

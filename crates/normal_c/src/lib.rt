@@ -1,16 +1,14 @@
 // The entry by which C programs call `normal_form`. A slice is a pointer and a length there.
 ghost use lib.ListN.{length};
-ghost use Rattle.meaning.specs.Arithmetic.{cutTowardZero};
-ghost use Rattle.sheet.specs.Form.{threeHeaderLines};
 ghost use Rattle.outcome.specs.NormalForm.{NormalOutcome};
-ghost use Rattle.normal.specs.Encoded.{encoded, answerOf};
+ghost use Rattle.normal.specs.Encoded.{normalEntries, normalAnswerOf};
 ghost use Rattle.normal.specs.Table.{blank};
 use normal::Entry;
 use normal::NormalForm;
 
 #[no_mangle]
 pub extern "C" fn normal_form_c(text: &[u8], list: &mut [Entry]) -> NormalForm
-    ensures { λ r. ⌜ NormalOutcome blank (encoded (now (text .entry))) cutTowardZero threeHeaderLines (now (text .entry)) (length (now (list .entry))) (answerOf r) (now (list .exit)) ⌝ }
+    ensures { λ r. ⌜ NormalOutcome blank (normalEntries (now (text .entry))) (now (text .entry)) (length (now (list .entry))) (normalAnswerOf r) (now (list .exit)) ⌝ }
 {
     normal::normal_form(text, list)
 }

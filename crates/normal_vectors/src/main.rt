@@ -1,27 +1,12 @@
 // Prints the entries of the normal forms of the sheets that standard input gives. The enumerator wrote the input and what is expected: two
 // numbers of four bytes, low first (the length of the sheet and of the list), then the sheet's bytes, sheet after sheet. For each sheet a line
 // with the refusal's number, the number of entries and of added streams, and then a line for each entry with its fields.
-ghost use Prim.Native.Nat.{_<_, _≤_, _+_};
+ghost use Prim.Native.Nat.{_<_};
 ghost use lib.ListN.{length};
 use normal::Entry;
 
 // The kind of `-` among the operators.
 const DIFFERENCE: u8 = 8;
-
-fn wide(b: u8) -> u32
-    ensures { λ r. ⌜ r < 256 ⌝ }
-{
-    b as u32
-}
-
-// The number whose four bytes stand at this place.
-fn number(all: &[u8], at: usize) -> u32
-    requires { ⌜ at + 4 ≤ length (now all) ⌝ }
-{
-    let low = wide(all[at]) + wide(all[at + 1]) * 256;
-    let high = wide(all[at + 2]) + wide(all[at + 3]) * 256;
-    low + high * 65536
-}
 
 fn print(n: u64, end: &[u8]) {
     io::print_decimal(1, n);
@@ -94,12 +79,12 @@ fn one(all: &[u8], at: usize) -> usize
         return end;
     }
     let start = at + 8;
-    let size = number(all, at) as usize;
+    let size = cases::number(all, at) as usize;
     if end - start < size {
         return end;
     }
     let next = start + size;
-    answer(&all[start..next], number(all, at + 4) as usize);
+    answer(&all[start..next], cases::number(all, at + 4) as usize);
     next
 }
 

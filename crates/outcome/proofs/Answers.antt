@@ -3,26 +3,24 @@ use Prim.Native.Nat.{ℕ}
 use native.Mathlib.Omega.{arith}
 use mathlib.Core.Path.{_≡_}
 use mathlib.Core.List.{List}
-use Rattle.meaning.specs.Arithmetic.{Arithmetic}
 use Rattle.meaning.specs.Expression.{Sheet}
-use Rattle.sheet.specs.Form.{Layout}
-use Rattle.sheet.specs.Refusal.{Answer, refused, sheet, AnswerTo}
+use Rattle.sheet.specs.Refusal.{refused, sheet, AnswerTo}
 use Rattle.sheet.proofs.Reading.{answer-unique}
 
-module _ {A : Arithmetic} {L : Layout} {text : List ℕ} where
-  pub one-number : {n m : ℕ} → AnswerTo A L text (refused n) → AnswerTo A L text (refused m) → n ≡ m
+module _ {text : List ℕ} where
+  pub one-number : {n m : ℕ} → AnswerTo text (refused n) → AnswerTo text (refused m) → n ≡ m
   one-number {n} {m} r r′ = inside (answer-unique r r′)
     where
       inside : refused n ≡ refused m → n ≡ m
       inside e = cc
 
-  pub one-sheet : {s t : Sheet} → AnswerTo A L text (sheet s) → AnswerTo A L text (sheet t) → s ≡ t
+  pub one-sheet : {s t : Sheet} → AnswerTo text (sheet s) → AnswerTo text (sheet t) → s ≡ t
   one-sheet {s} {t} r r′ = inside (answer-unique r r′)
     where
       inside : sheet s ≡ sheet t → s ≡ t
       inside e = cc
 
-  pub refused≢sheet : {n : ℕ} {s : Sheet} → AnswerTo A L text (refused n) → AnswerTo A L text (sheet s) → ⊥
+  pub refused≢sheet : {n : ℕ} {s : Sheet} → AnswerTo text (refused n) → AnswerTo text (sheet s) → ⊥
   refused≢sheet {n} {s} r r′ = inside (answer-unique r r′)
     where
       inside : refused n ≡ sheet s → ⊥

@@ -9,36 +9,34 @@ use mathlib.Core.Logic.{_⊎_, inl, inr}
 use mathlib.Core.List.{List, [], _∷_, _++_}
 use lib.ListN.{length, getD, take, drop, length-append, length-replicate, List·getD-append}
 use lib.Seq.{length-take-le, getD-take, drop-at}
+use Rattle.automaton.specs.Words.{Word}
 use Rattle.automaton.specs.Solutions.{NoSolution}
 use Rattle.automaton.specs.Table.{SameRows}
-use Rattle.automaton.specs.Stored.{StoredTable, HasTable, entry-at, final-at}
+use Rattle.automaton.specs.Stored.{StoredTable, HasTable, entryAt, finalAt}
 use Rattle.automaton.proofs.Places.{place-before}
 use Rattle.automaton.proofs.Transfer.{rows-table}
 use Rattle.meaning.specs.Value.{Streams}
-use Rattle.meaning.specs.Arithmetic.{Arithmetic}
 use Rattle.meaning.specs.Expression.{Sheet, Solution}
 use Rattle.meaning.specs.Letter.{letterCount, SolutionWord}
 use Rattle.meaning.specs.Situation.{SituationCount, MoreSituations}
 use Rattle.meaning.specs.Scope.{NamesKnown}
 use Rattle.meaning.proofs.Word.{spelled-once, solution-word}
 use Rattle.meaning.proofs.Exploration.{Situation-discrete, counted-or-more}
-use Rattle.sheet.specs.Form.{Layout}
 use Rattle.sheet.specs.Refusal.{Answer, refused, sheet, AnswerTo}
 use Rattle.sheet.specs.Reading.{answerTo}
 use Rattle.sheet.proofs.Reading.{answer-correct}
-use Rattle.sheet.proofs.Accepted.{accepted-facts}
-use Rattle.outcome.specs.Room.{Lent, rowsHeld, fewestRows, zeros, zeroTables}
+use Rattle.outcome.specs.Room.{LentTable, rowsHeld, fewestRows, zeros, zeroTables}
 use Rattle.outcome.specs.Compile.{CompileAnswer, Room, roomRows, Tables, HoldsTable, SituationsFit, tooManySituations, tooFewRows, noSolution, compiled, CompileOutcome, unread, read, situationBound}
 use Rattle.outcome.proofs.SituationGraph.{table-or-no-word}
 use Rattle.outcome.proofs.StateCount.{states-at-most-situations}
 
 -- ---- the rows that the tables hold fit them
 
-fewest-first : (t : Lent) (ts : List Lent) → fewestRows t ts ≤ rowsHeld t
+fewest-first : (t : LentTable) (ts : List LentTable) → fewestRows t ts ≤ rowsHeld t
 fewest-first t [] = omega arith
 fewest-first t (u ∷ us) = omega arith
 
-fewest-second : (t u : Lent) (us : List Lent) → fewestRows t (u ∷ us) ≤ rowsHeld u
+fewest-second : (t u : LentTable) (us : List LentTable) → fewestRows t (u ∷ us) ≤ rowsHeld u
 fewest-second t u us = let h = fewest-first u us in omega arith
 
 pub rows-fit : (n k size : ℕ) → n ≤ size / k → n * k ≤ size
@@ -62,17 +60,14 @@ module _ (N size : ℕ) (l : List ℕ) (enough : N ≤ length l) (fits : N ≤ s
   unfolding padded
   padded-below i h = List·getD-append (take N l) (zeros (size - N)) 0 i (omega (arith, length-take-le N l enough)) ∙ getD-take N l i 0 h
 
-module _ (A : Arithmetic) (s : Sheet) (room : Room) where
-  abbrev k : ℕ
-  k = letterCount (s .streams)
-
+module _ {Sol : Word → Type 0} {k : ℕ} (room : Room) where
   -- A table that fits the room can be held in it.
-  holds-padded : {n : ℕ} {entries finals : List ℕ} → StoredTable (SolutionWord A s) k n entries finals → n * k ≤ room .entries → n ≤ room .finals
-      → HoldsTable A s room n (record { entries = padded (n * k) (room .entries) entries; finals = padded n (room .finals) finals; work = zeroTables (room .work) })
+  holds-padded : {n : ℕ} {entries finals : List ℕ} → StoredTable Sol k n entries finals → n * k ≤ room .entries → n ≤ room .finals
+      → HoldsTable Sol k room n (record { entries = padded (n * k) (room .entries) entries; finals = padded n (room .finals) finals; work = zeroTables (room .work) })
   holds-padded {n} {entries} {finals} t fe ff =
       let es = padded (n * k) (room .entries) entries in
       let fs = padded n (room .finals) finals in
-      let same : SameRows k n (entry-at k entries) (final-at finals) n (entry-at k es) (final-at fs) =
+      let same : SameRows k n (entryAt k entries) (finalAt finals) n (entryAt k es) (finalAt fs) =
       record {
         states = refl;
         entries = λ i a hi ha. sym (padded-below (n * k) (room .entries) entries (t .entries-fit) fe (i * k + a) (omega (arith, place-before k i a n 0 ha (inl hi))));
@@ -93,54 +88,54 @@ module _ (A : Arithmetic) (s : Sheet) (room : Room) where
       }
 
 -- An outcome, whatever its numbers and contents.
-pub record HasOutcome (A : Arithmetic) (L : Layout) (text : List ℕ) (room : Room) : Type 0 where
+pub record HasOutcome (text : List ℕ) (room : Room) : Type 0 where
   pub answer : CompileAnswer
   pub tables : Tables
-  pub outcome : CompileOutcome A L text room answer tables
+  pub outcome : CompileOutcome text room answer tables
 
 -- No word is a solution, so no streams are.
-pub no-streams : {A : Arithmetic} {s : Sheet} → NamesKnown s → NoSolution (letterCount (s .streams)) (SolutionWord A s) → (w : Streams) → Solution A s w → ⊥
-no-streams {A} {s} known f w x =
+pub no-streams : {s : Sheet} → NamesKnown s → NoSolution (letterCount (s .streams)) (SolutionWord s) → (w : Streams) → Solution s w → ⊥
+no-streams {s} known f w x =
     let p = spelled-once (s .streams) w (x .ranged) in
-    f (p .word) (p .spells .letters) (solution-word A known (p .spells) .1 x)
+    f (p .word) (p .spells .letters) (solution-word known (p .spells) .1 x)
 
-module _ (A : Arithmetic) (L : Layout) (text : List ℕ) (room : Room) where
-  fit-outcome : {s : Sheet} {m : ℕ} → AnswerTo A L text (sheet s) → SituationsFit A s room m → HasOutcome A L text room
-  fit-outcome {s} {m} r e = go (table-or-no-word Situation-discrete A s (e .counted) (omega (arith, e .withinBound)))
+module _ (text : List ℕ) (room : Room) where
+  fit-outcome : {s : Sheet} {m : ℕ} → AnswerTo text (sheet s) → SituationsFit s room m → HasOutcome text room
+  fit-outcome {s} {m} r e = go (table-or-no-word Situation-discrete s (e .counted) (omega (arith, e .withinBound)))
     where
-      go : HasTable (SolutionWord A s) (letterCount (s .streams)) ⊎ NoSolution (letterCount (s .streams)) (SolutionWord A s) → HasOutcome A L text room
+      go : HasTable (SolutionWord s) (letterCount (s .streams)) ⊎ NoSolution (letterCount (s .streams)) (SolutionWord s) → HasOutcome text room
       go (inl t) =
           let n = t .states in
-          let le : n ≤ m = states-at-most-situations A s (t .stored .table) (e .counted) in
+          let le : n ≤ m = states-at-most-situations s (t .stored .table) (e .counted) in
           let rows = e .withinRoom in
           let one = fewest-first (record { perRow = letterCount (s .streams); size = room .entries }) (record { perRow = 1; size = room .finals } ∷ room .work) in
           let two = fewest-second (record { perRow = letterCount (s .streams); size = room .entries }) (record { perRow = 1; size = room .finals }) (room .work) in
           let fe : n * letterCount (s .streams) ≤ room .entries = rows-fit n (letterCount (s .streams)) (room .entries) (omega arith) in
           let ff : n * 1 ≤ room .finals = rows-fit n 1 (room .finals) (omega arith) in
-          record { answer = _; tables = _; outcome = read r (compiled e (holds-padded A s room (t .stored) fe (omega arith))) }
-      go (inr f) = record { answer = _; tables = _; outcome = read r (noSolution e (no-streams (record { sides = accepted-facts r .namesKnown }) f)) }
+          record { answer = _; tables = _; outcome = read r (compiled e (holds-padded room (t .stored) fe (omega arith))) }
+      go (inr f) = record { answer = _; tables = _; outcome = read r (noSolution e f) }
 
-  read-outcome : {s : Sheet} → AnswerTo A L text (sheet s) → HasOutcome A L text room
+  read-outcome : {s : Sheet} → AnswerTo text (sheet s) → HasOutcome text room
   read-outcome {s} r = go (decLe situationBound rows)
     where
       rows : ℕ
       rows = roomRows room (letterCount (s .streams))
 
-      many : situationBound ≤ rows → ((m : ℕ) × (m ≤ situationBound) × SituationCount A s m) ⊎ MoreSituations A s situationBound → HasOutcome A L text room
+      many : situationBound ≤ rows → ((m : ℕ) × (m ≤ situationBound) × SituationCount s m) ⊎ MoreSituations s situationBound → HasOutcome text room
       many h (inl c) = fit-outcome r (record { counted = c .2; withinBound = c .1; withinRoom = omega (arith, c .1, h) })
       many h (inr x) = record { answer = _; tables = _; outcome = read r (tooManySituations h x) }
 
-      few : rows < situationBound → ((m : ℕ) × (m ≤ rows) × SituationCount A s m) ⊎ MoreSituations A s rows → HasOutcome A L text room
+      few : rows < situationBound → ((m : ℕ) × (m ≤ rows) × SituationCount s m) ⊎ MoreSituations s rows → HasOutcome text room
       few h (inl c) = fit-outcome r (record { counted = c .2; withinBound = omega (arith, c .1, h); withinRoom = c .1 })
       few h (inr x) = record { answer = _; tables = _; outcome = read r (tooFewRows h x) }
 
-      go : Dec (situationBound ≤ rows) → HasOutcome A L text room
-      go (yes h) = many h (counted-or-more A s situationBound)
-      go (no h) = few (omega arith) (counted-or-more A s rows)
+      go : Dec (situationBound ≤ rows) → HasOutcome text room
+      go (yes h) = many h (counted-or-more s situationBound)
+      go (no h) = few (omega arith) (counted-or-more s rows)
 
-  pub compile-total : HasOutcome A L text room
-  compile-total = go (answerTo A L text) (answer-correct A L text)
+  pub compile-total : HasOutcome text room
+  compile-total = go (answerTo text) (answer-correct text)
     where
-      go : (a : Answer) → AnswerTo A L text a → HasOutcome A L text room
+      go : (a : Answer) → AnswerTo text a → HasOutcome text room
       go (refused n) r = record { answer = _; tables = _; outcome = unread r }
       go (sheet s) r = read-outcome r

@@ -8,16 +8,13 @@ use mathlib.Core.Path.{_≡_, refl, sym, _∙_, ap, subst}
 use mathlib.Core.List.{List}
 use lib.ListN.{length, getD, drop}
 use lib.Seq.{ext-getD, getD-drop}
+use Rattle.basics.proofs.Count.{count-unique, count-excludes-more}
+use Rattle.automaton.specs.Words.{Word}
+use Rattle.automaton.specs.Solutions.{NoSolution}
 use Rattle.automaton.proofs.Equality.{unique-used-rows}
 use Rattle.automaton.proofs.Paths.{has-solution}
-use Rattle.meaning.specs.Value.{Streams}
-use Rattle.meaning.specs.Arithmetic.{Arithmetic}
-use Rattle.meaning.specs.Expression.{Sheet, Solution}
-use Rattle.meaning.specs.Letter.{letterCount}
-use Rattle.meaning.proofs.Count.{count-unique, count-excludes-more}
-use Rattle.sheet.specs.Form.{Layout}
 use Rattle.outcome.proofs.Answers.{one-number, one-sheet, refused≢sheet}
-use Rattle.outcome.specs.Compile.{CompileAnswer, refusedBy, Room, Tables, HoldsTable, SheetOutcome, tooManySituations, tooFewRows, noSolution, compiled, CompileOutcome, unread, read, situationBound}
+use Rattle.outcome.specs.Compile.{CompileAnswer, refusedAnswer, Room, Tables, HoldsTable, SheetOutcome, tooManySituations, tooFewRows, noSolution, compiled, CompileOutcome, unread, read, situationBound, WordsOutcome}
 
 -- ---- two lists that agree below a place, and hold the same from it on
 
@@ -37,11 +34,12 @@ rows-below (suc k) n l m h i b =
     let e : i / suc k * suc k + i % suc k ≡ i = div-add-mod' i (suc k) in
     rw e at (h (i / suc k) (i % suc k) (div-lt-iff-lt-mul (omega arith) .1 b) (mod-lt i (omega arith)))
 
-module _ (A : Arithmetic) (s : Sheet) (room : Room) where
-  -- Two tables held for one sheet are the same.
-  holds-unique : {n n′ : ℕ} {t t′ : Tables} → HoldsTable A s room n t → HoldsTable A s room n′ t′ → (n ≡ n′) × (t ≡ t′)
+-- ---- what is given of a set of words is one
+
+module _ {Sol : Word → Type 0} {k : ℕ} {room : Room} where
+  -- Two tables held of one set are the same.
+  holds-unique : {n n′ : ℕ} {t t′ : Tables} → HoldsTable Sol k room n t → HoldsTable Sol k room n′ t′ → (n ≡ n′) × (t ≡ t′)
   holds-unique {n} {n′} {t} {t′} h h′ =
-      let k = letterCount (s .streams) in
       let u = unique-used-rows (h .table) (h′ .table) in
       let e : n ≡ n′ = u .states in
       let es : t .entries ≡ t′ .entries =
@@ -51,33 +49,34 @@ module _ (A : Arithmetic) (s : Sheet) (room : Room) where
       same-lists n (t .finals) (t′ .finals) (h .finalsSize ∙ sym (h′ .finalsSize)) (u .finals) (h .finalsBeyond ∙ rw e (sym (h′ .finalsBeyond))) in
       (e, λ i. record { entries = es i; finals = fs i; work = (h .workZero ∙ sym (h′ .workZero)) i })
 
-  solved : {n : ℕ} {t : Tables} → HoldsTable A s room n t → ((w : Streams) → Solution A s w → ⊥) → ⊥
-  solved h f = has-solution (h .table .table) (λ w b x. f _ (x .solves))
+  solved : {n : ℕ} {t : Tables} → HoldsTable Sol k room n t → NoSolution k Sol → ⊥
+  solved h f = has-solution (h .table .table) f
 
-  sheet-unique : {a b : CompileAnswer} {t u : Tables} → SheetOutcome A s room a t → SheetOutcome A s room b u → (a ≡ b) × (t ≡ u)
-  sheet-unique (tooManySituations r x) (tooManySituations r′ x′) = (refl, refl)
-  sheet-unique (tooManySituations r x) (tooFewRows r′ x′) = absurd (omega arith)
-  sheet-unique (tooManySituations r x) (noSolution e f) = absurd (count-excludes-more A s (e .counted) situationBound (e .withinBound) x)
-  sheet-unique (tooManySituations r x) (compiled e h) = absurd (count-excludes-more A s (e .counted) situationBound (e .withinBound) x)
-  sheet-unique (tooFewRows r x) (tooManySituations r′ x′) = absurd (omega arith)
-  sheet-unique (tooFewRows r x) (tooFewRows r′ x′) = (refl, refl)
-  sheet-unique (tooFewRows r x) (noSolution e f) = absurd (count-excludes-more A s (e .counted) _ (e .withinRoom) x)
-  sheet-unique (tooFewRows r x) (compiled e h) = absurd (count-excludes-more A s (e .counted) _ (e .withinRoom) x)
-  sheet-unique (noSolution e f) (tooManySituations r x) = absurd (count-excludes-more A s (e .counted) situationBound (e .withinBound) x)
-  sheet-unique (noSolution e f) (tooFewRows r x) = absurd (count-excludes-more A s (e .counted) _ (e .withinRoom) x)
-  sheet-unique (noSolution e f) (noSolution e′ f′) = (refl, refl)
-  sheet-unique (noSolution e f) (compiled e′ h) = absurd (solved h f)
-  sheet-unique (compiled e h) (tooManySituations r x) = absurd (count-excludes-more A s (e .counted) situationBound (e .withinBound) x)
-  sheet-unique (compiled e h) (tooFewRows r x) = absurd (count-excludes-more A s (e .counted) _ (e .withinRoom) x)
-  sheet-unique (compiled e h) (noSolution e′ f) = absurd (solved h f)
-  sheet-unique (compiled e h) (compiled e′ h′) =
+module _ {Sol : Word → Type 0} {k : ℕ} {X : Type 0} {Counted : X → Type 0} {room : Room} where
+  pub words-unique : {a b : CompileAnswer} {t u : Tables} → WordsOutcome Sol k Counted room a t → WordsOutcome Sol k Counted room b u → (a ≡ b) × (t ≡ u)
+  words-unique (tooManySituations r x) (tooManySituations r′ x′) = (refl, refl)
+  words-unique (tooManySituations r x) (tooFewRows r′ x′) = absurd (omega arith)
+  words-unique (tooManySituations r x) (noSolution e f) = absurd (count-excludes-more (e .counted) situationBound (e .withinBound) x)
+  words-unique (tooManySituations r x) (compiled e h) = absurd (count-excludes-more (e .counted) situationBound (e .withinBound) x)
+  words-unique (tooFewRows r x) (tooManySituations r′ x′) = absurd (omega arith)
+  words-unique (tooFewRows r x) (tooFewRows r′ x′) = (refl, refl)
+  words-unique (tooFewRows r x) (noSolution e f) = absurd (count-excludes-more (e .counted) _ (e .withinRoom) x)
+  words-unique (tooFewRows r x) (compiled e h) = absurd (count-excludes-more (e .counted) _ (e .withinRoom) x)
+  words-unique (noSolution e f) (tooManySituations r x) = absurd (count-excludes-more (e .counted) situationBound (e .withinBound) x)
+  words-unique (noSolution e f) (tooFewRows r x) = absurd (count-excludes-more (e .counted) _ (e .withinRoom) x)
+  words-unique (noSolution e f) (noSolution e′ f′) = (refl, refl)
+  words-unique (noSolution e f) (compiled e′ h) = absurd (solved h f)
+  words-unique (compiled e h) (tooManySituations r x) = absurd (count-excludes-more (e .counted) situationBound (e .withinBound) x)
+  words-unique (compiled e h) (tooFewRows r x) = absurd (count-excludes-more (e .counted) _ (e .withinRoom) x)
+  words-unique (compiled e h) (noSolution e′ f) = absurd (solved h f)
+  words-unique (compiled e h) (compiled e′ h′) =
       let one = holds-unique h h′ in
-      let m = count-unique A s (e .counted) (e′ .counted) in
+      let m = count-unique (e .counted) (e′ .counted) in
       (λ i. record { refusal = 0; states = one .0 i; situations = m i }, one .1)
 
-module _ (A : Arithmetic) (L : Layout) (text : List ℕ) (room : Room) where
-  pub compile-unique : {a b : CompileAnswer} {t u : Tables} → CompileOutcome A L text room a t → CompileOutcome A L text room b u → (a ≡ b) × (t ≡ u)
-  compile-unique (unread r) (unread r′) = (ap refusedBy (one-number r r′), refl)
+module _ (text : List ℕ) (room : Room) where
+  pub compile-unique : {a b : CompileAnswer} {t u : Tables} → CompileOutcome text room a t → CompileOutcome text room b u → (a ≡ b) × (t ≡ u)
+  compile-unique (unread r) (unread r′) = (ap refusedAnswer (one-number r r′), refl)
   compile-unique (unread r) (read r′ o) = absurd (refused≢sheet r r′)
   compile-unique (read r o) (unread r′) = absurd (refused≢sheet r′ r)
-  compile-unique {b = b} {u = u} (read {s = s} r o) (read r′ o′) = sheet-unique A s room o (subst (λ q. SheetOutcome A q room b u) (one-sheet r′ r) o′)
+  compile-unique {b = b} {u = u} (read {s = s} r o) (read r′ o′) = words-unique o (subst (λ q. SheetOutcome q room b u) (one-sheet r′ r) o′)

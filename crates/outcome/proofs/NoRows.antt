@@ -3,27 +3,25 @@ use Prim.Native.Nat.{ℕ}
 use native.Mathlib.Omega.{arith}
 use mathlib.Core.Path.{_≡_, sym, subst}
 use mathlib.Core.List.{List, [], _∷_, List·Memᴰ·eq-of-singleton, List·Memᴰ·not-nil}
-use Rattle.meaning.specs.Arithmetic.{Arithmetic}
 use Rattle.meaning.specs.Expression.{Sheet}
 use Rattle.meaning.specs.Letter.{letterCount}
 use Rattle.meaning.specs.Situation.{situation, IsSituation, MoreSituations}
 use Rattle.meaning.proofs.Exploration.{start-situation}
-use Rattle.sheet.specs.Form.{Layout}
 use Rattle.sheet.specs.Refusal.{sheet, AnswerTo}
-use Rattle.outcome.specs.Compile.{CompileAnswer, refusedBy, Room, roomRows, Tables, allZero, tooFewRows, CompileOutcome, read}
+use Rattle.outcome.specs.Compile.{CompileAnswer, refusedAnswer, Room, roomRows, Tables, allZero, tooFewRows, CompileOutcome, read}
 use Rattle.outcome.proofs.CompileUnique.{compile-unique}
 
-pub some-situation : (A : Arithmetic) (s : Sheet) → MoreSituations A s 0
-some-situation A s =
+pub some-situation : (s : Sheet) → MoreSituations s 0
+some-situation s =
     record {
-      list = situation A (s .constraints) [] ∷ [];
+      list = situation (s .constraints) [] ∷ [];
       distinct = (List·Memᴰ·not-nil, tt);
-      found = λ t m. subst (IsSituation A s) (sym (List·Memᴰ·eq-of-singleton m)) (start-situation A s);
+      found = λ t m. subst (IsSituation s) (sym (List·Memᴰ·eq-of-singleton m)) (start-situation s);
       longer = omega arith;
     }
 
-module _ (A : Arithmetic) (L : Layout) (text : List ℕ) (room : Room) {s : Sheet} (r : AnswerTo A L text (sheet s)) (none : roomRows room (letterCount (s .streams)) ≡ 0) where
-  pub no-rows-refused : {a : CompileAnswer} {t : Tables} → CompileOutcome A L text room a t → (a ≡ refusedBy 10) × (t ≡ allZero room)
+module _ (text : List ℕ) (room : Room) {s : Sheet} (r : AnswerTo text (sheet s)) (none : roomRows room (letterCount (s .streams)) ≡ 0) where
+  pub no-rows-refused : {a : CompileAnswer} {t : Tables} → CompileOutcome text room a t → (a ≡ refusedAnswer 10) × (t ≡ allZero room)
   no-rows-refused o =
-      compile-unique A L text room o
-      (read r (tooFewRows (omega (arith, none)) (subst (MoreSituations A s) (sym none) (some-situation A s))))
+      compile-unique text room o
+      (read r (tooFewRows (omega (arith, none)) (subst (MoreSituations s) (sym none) (some-situation s))))

@@ -10,7 +10,7 @@ use lib.Dec.{leb, ltb}
 use lib.ListN.{length, take, drop, length-append}
 use lib.Seq.{sets, sets-eq, length-sets, take-at}
 use borrow.Author.Tests.{leb-true, leb-false, ltb-true, ltb-false}
-use Rattle.meaning.proofs.Lists.{sets-append}
+use Rattle.basics.proofs.Lists.{sets-append}
 use Rattle.print.specs.Append.{Appends}
 use Rattle.print.specs.Table.{linesFrom}
 use Rattle.pages.specs.Lines.{lineRoom, HoldsLine, HoldsLines, IsPage}

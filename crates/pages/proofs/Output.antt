@@ -8,13 +8,13 @@ use mathlib.Core.List.{List, [], _++_, map, append-assoc, append-nil}
 use lib.Dec.{eqb, ltb}
 use lib.ListN.{length, getD, length-map}
 use borrow.Author.Tests.{eq-eqb, ne-eqb, ltb-true, ltb-false}
+use Rattle.basics.proofs.Tests.{cond-cases}
 use Rattle.meaning.specs.Expression.{Stream}
 use Rattle.meaning.specs.Letter.{letterCount}
 use Rattle.meaning.specs.Window.{joinOver}
-use Rattle.meaning.proofs.Lists.{cond-cases}
 use Rattle.sheet.specs.Refusal.{letterBound}
 use Rattle.nodes.specs.Bounds.{lowsOf, highsOf}
-use Rattle.automaton.specs.Table.{no-state}
+use Rattle.automaton.specs.Table.{noState}
 use Rattle.letters.specs.Described.{described, cutCount}
 use Rattle.letters.proofs.Streams.{letterCount-unnamed}
 use Rattle.print.specs.Text.{headingLine, refusalLine}
@@ -110,7 +110,7 @@ module _ (p : Printout) (refusal : p .refusal < 4294967296) (lows : AllFit (p .l
       by : (t : Bool) → ltb place (length (p .entries)) ≡ t → length (placeText (p .lows) (p .highs) (p .entries) (p .finals) place) ≤ lineRoom
       by true e =
           let h = ltb-true place (length (p .entries)) e in
-          place-length (p .lows) (p .highs) (p .entries) (p .finals) place lows highs (omega (arith, entries place, getD-inside (p .entries) place no-state 0 h)) finals (omega arith)
+          place-length (p .lows) (p .highs) (p .entries) (p .finals) place lows highs (omega (arith, entries place, getD-inside (p .entries) place noState 0 h)) finals (omega arith)
       by false e = omega (arith, ap length (nothing-beyond (p .lows) (p .highs) (p .entries) (p .finals) place (ltb-false place (length (p .entries)) e)))
 
   table-short : (k : ℕ) → length (tableLine p k) ≤ lineRoom

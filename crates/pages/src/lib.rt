@@ -1,6 +1,6 @@
 // Fills lent bytes with whole lines of what `sluice` prints, from a place on, so that a program only has to write the filled bytes. Place 0 has the
 // heading, or the line of a refusal, and the places after it have the lines of the entries, or nothing where an entry is 65,535.
-use arithmetic::fewer;
+use basics::fewer;
 ghost use mathlib.Core.Path.{_≡_};
 ghost use Prim.Native.Nat.{ℕ, _+_, _≤_, _<_};
 ghost use lib.ListN.{length, take};

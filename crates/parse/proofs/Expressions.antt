@@ -7,20 +7,21 @@ use mathlib.Core.Option.{some, none}
 use native.Mathlib.Omega.{arith}
 use lib.IntN.{pos}
 use lib.ListN.{length}
+use Rattle.nodes.specs.Evaluate.{Nodes}
+use Rattle.basics.proofs.Reflects.{to-true}
 use Rattle.text.specs.Bytes.{Token, bytesOf}
 use Rattle.text.specs.Token.{sameBytes}
-use Rattle.text.proofs.Reflects.{to-true}
 use Rattle.text.proofs.Token.{sameBytes-reflects}
 use Rattle.meaning.specs.Expression.{Expression, conditional}
 use Rattle.nodes.specs.Postfix.{node}
-use Rattle.sheet.specs.Vocabulary.{joined, operatorOf}
+use Rattle.sheet.specs.Vocabulary.{infixed, operatorOf}
 use Rattle.sheet.specs.Parser.{parsed, andThen, expect, afterPart, conditionalBy, expressionBy, partTo}
 use Rattle.scan.specs.Word.{codeOr255, infixCode}
 use Rattle.parse.specs.declared.NumberedToken.{NumberedToken}
 use Rattle.parse.specs.declared.Read.{Read}
 use Rattle.parse.specs.Numbered.{TokenNumbered}
-use Rattle.parse.specs.Stored.{Arrays, store}
-use Rattle.parse.specs.Reading.{Stores, Found, Reading}
+use Rattle.parse.specs.Stored.{store}
+use Rattle.parse.specs.Reading.{StoresTree, TreeRead, Reading}
 use Rattle.parse.proofs.Trees.{stores-joined, stores-conditional}
 use Rattle.parse.proofs.Readers.{wordOf, word-is, word-is-not, word-number, expression-part, after-ends, Operator-at, part-empty}
 
@@ -32,7 +33,7 @@ expect-first w e = ap (expect w) e ∙ same w
 
 module _ (names : List Token) (text : List ℕ) (rest : ℕ → List Token) (at : ℕ) where
   -- An expression that begins with `if` is what stands after it.
-  pub if-reading : {j : ℕ} {old new : Arrays} {n f : ℕ} {r : Read} → j ≡ at + 1 → rest at ≡ bytesOf "if" ∷ rest j → Reading (λ d. conditionalBy (partTo names d)) rest j old new n f r → Reading (λ d. expressionBy (partTo names d)) rest at old new n f r
+  pub if-reading : {j : ℕ} {old new : Nodes} {n f : ℕ} {r : Read} → j ≡ at + 1 → rest at ≡ bytesOf "if" ∷ rest j → Reading (λ d. conditionalBy (partTo names d)) rest j old new n f r → Reading (λ d. expressionBy (partTo names d)) rest at old new n f r
   unfolding expressionBy
   if-reading q e k =
       record {
@@ -59,9 +60,9 @@ module _ (names : List Token) (text : List ℕ) (rest : ℕ → List Token) (at 
     pub part-missing : ((d : ℕ) → length (rest at) ≤ d → partTo names d (rest at) ≡ none) → (d : ℕ) → length (rest at) ≤ d → expressionBy (partTo names d) (rest at) ≡ none
     part-missing h d l = expression-part (partTo names d) (part-empty names refl d) k other ∙ ap (λ o. andThen o (λ y. afterPart (partTo names d) (y .tree) (y .rest))) (h d l)
 
-    module _ {old mid : Arrays} {n f : ℕ} {a : Read} (h : Found (partTo names) rest at old mid n f a) {t : NumberedToken} (j : TokenNumbered text rest (a .next) t) where
+    module _ {old mid : Nodes} {n f : ℕ} {a : Read} (h : TreeRead (partTo names) rest at old mid n f a) {t : NumberedToken} (j : TokenNumbered text rest (a .next) t) where
       -- A part alone.
-      pub part-alone : codeOr255 infixCode (operatorOf (wordOf text t)) ≡ 255 → Found (λ d. expressionBy (partTo names d)) rest at old mid n f a
+      pub part-alone : codeOr255 infixCode (operatorOf (wordOf text t)) ≡ 255 → TreeRead (λ d. expressionBy (partTo names d)) rest at old mid n f a
       part-alone c =
           record {
             tree = h .tree;
@@ -81,17 +82,17 @@ module _ (names : List Token) (text : List ℕ) (rest : ℕ → List Token) (at 
         pub second-missing : ((d : ℕ) → length (rest (t .next)) ≤ d → partTo names d (rest (t .next)) ≡ none) → (d : ℕ) → length (rest at) ≤ d → expressionBy (partTo names d) (rest at) ≡ none
         second-missing g d l =
             let less = second-fewer in
-            after-part d (h .reads d l) ∙ o .goes-on (partTo names d) (h .tree) ∙ ap (λ m. andThen m (λ y. parsed (joined (o .operator) (h .tree) (y .tree)) (y .rest))) (g d (omega arith))
+            after-part d (h .reads d l) ∙ o .goes-on (partTo names d) (h .tree) ∙ ap (λ m. andThen m (λ y. parsed (infixed (o .operator) (h .tree) (y .tree)) (y .rest))) (g d (omega arith))
 
-        pub second-found : {end new : Arrays} {b : Read} {both : Bool} → Found (partTo names) rest (t .next) mid end (a .nodes) (a .firsts) b → new ≡ store end (b .nodes) (node code (pos 0) n ∷ []) → both ≡ (a .beyond || b .beyond)
-            → Found (λ d. expressionBy (partTo names d)) rest at old new n f (record { ok = true; next = b .next; nodes = b .nodes + 1; firsts = b .firsts; beyond = both })
+        pub second-found : {end new : Nodes} {b : Read} {both : Bool} → TreeRead (partTo names) rest (t .next) mid end (a .nodes) (a .firsts) b → new ≡ store end (b .nodes) (node code (pos 0) n ∷ []) → both ≡ (a .beyond || b .beyond)
+            → TreeRead (λ d. expressionBy (partTo names d)) rest at old new n f (record { ok = true; next = b .next; nodes = b .nodes + 1; firsts = b .firsts; beyond = both })
         second-found {end} {new} {b} {both} g e q =
             let less = second-fewer in
             let size = ap length (o .first) in
             record {
-              tree = joined (o .operator) (h .tree) (g .tree);
-              reads = λ d l. after-part d (h .reads d l) ∙ o .goes-on (partTo names d) (h .tree) ∙ ap (λ m. andThen m (λ y. parsed (joined (o .operator) (h .tree) (y .tree)) (y .rest))) (g .reads d (omega arith));
-              stores = subst (Stores (joined (o .operator) (h .tree) (g .tree)) old new n f (b .nodes + 1) (b .firsts)) (sym q) (stores-joined (o .operator) (o .code-is) (h .stores) (g .stores) e);
+              tree = infixed (o .operator) (h .tree) (g .tree);
+              reads = λ d l. after-part d (h .reads d l) ∙ o .goes-on (partTo names d) (h .tree) ∙ ap (λ m. andThen m (λ y. parsed (infixed (o .operator) (h .tree) (y .tree)) (y .rest))) (g .reads d (omega arith));
+              stores = subst (StoresTree (infixed (o .operator) (h .tree) (g .tree)) old new n f (b .nodes + 1) (b .firsts)) (sym q) (stores-joined (o .operator) (o .code-is) (h .stores) (g .stores) e);
               fewer = omega (arith, g .fewer);
               numbers = omega (arith, h .numbers, o .number, g .numbers);
               room = omega (arith, h .room, g .room);
@@ -102,7 +103,7 @@ module _ (names : List Token) (text : List ℕ) (rest : ℕ → List Token) (at 
   pub condition-missing : ((d : ℕ) → length (rest at) ≤ d → partTo names d (rest at) ≡ none) → (d : ℕ) → length (rest at) ≤ d → conditionalBy (partTo names d) (rest at) ≡ none
   condition-missing h d l = rw (h d l)
 
-  module _ {old mid : Arrays} {n f : ℕ} {a : Read} (h : Found (partTo names) rest at old mid n f a) {s : NumberedToken} (j : TokenNumbered text rest (a .next) s) where
+  module _ {old mid : Nodes} {n f : ℕ} {a : Read} (h : TreeRead (partTo names) rest at old mid n f a) {s : NumberedToken} (j : TokenNumbered text rest (a .next) s) where
     pub then-missing : sameBytes (bytesOf "then") (wordOf text s) ≡ false → (d : ℕ) → length (rest at) ≤ d → conditionalBy (partTo names d) (rest at) ≡ none
     then-missing e d l = rw (h .reads d l, word-is-not (bytesOf "then") j e)
 
@@ -119,7 +120,7 @@ module _ (names : List Token) (text : List ℕ) (rest : ℕ → List Token) (at 
       pub branch-missing : ((d : ℕ) → length (rest (s .next)) ≤ d → partTo names d (rest (s .next)) ≡ none) → (d : ℕ) → length (rest at) ≤ d → conditionalBy (partTo names d) (rest at) ≡ none
       branch-missing g d l = let z = then-fewer in rw (h .reads d l, expect-first (bytesOf "then") then-first, g d (omega (arith, h .fewer)))
 
-      module _ {low : Arrays} {b : Read} (g : Found (partTo names) rest (s .next) mid low (a .nodes) (a .firsts) b) {t : NumberedToken} (i : TokenNumbered text rest (b .next) t) where
+      module _ {low : Nodes} {b : Read} (g : TreeRead (partTo names) rest (s .next) mid low (a .nodes) (a .firsts) b) {t : NumberedToken} (i : TokenNumbered text rest (b .next) t) where
         pub else-missing : sameBytes (bytesOf "else") (wordOf text t) ≡ false → (d : ℕ) → length (rest at) ≤ d → conditionalBy (partTo names d) (rest at) ≡ none
         else-missing w d l = let z = then-fewer in rw (h .reads d l, expect-first (bytesOf "then") then-first, g .reads d (omega (arith, h .fewer)), word-is-not (bytesOf "else") i w)
 
@@ -139,15 +140,15 @@ module _ (names : List Token) (text : List ℕ) (rest : ℕ → List Token) (at 
               let y = else-fewer in
               rw (h .reads d l, expect-first (bytesOf "then") then-first, g .reads d (omega (arith, h .fewer)), expect-first (bytesOf "else") else-first, u d (omega (arith, h .fewer, g .fewer)))
 
-          pub last-found : {end new : Arrays} {c : Read} {any : Bool} → Found (partTo names) rest (t .next) low end (b .nodes) (b .firsts) c → new ≡ store end (c .nodes) (node 5 (pos 0) n ∷ []) → any ≡ (a .beyond || (b .beyond || c .beyond))
-              → Found (λ d. conditionalBy (partTo names d)) rest at old new n f (record { ok = true; next = c .next; nodes = c .nodes + 1; firsts = c .firsts; beyond = any })
+          pub last-found : {end new : Nodes} {c : Read} {any : Bool} → TreeRead (partTo names) rest (t .next) low end (b .nodes) (b .firsts) c → new ≡ store end (c .nodes) (node 5 (pos 0) n ∷ []) → any ≡ (a .beyond || (b .beyond || c .beyond))
+              → TreeRead (λ d. conditionalBy (partTo names d)) rest at old new n f (record { ok = true; next = c .next; nodes = c .nodes + 1; firsts = c .firsts; beyond = any })
           last-found {end} {new} {c} {any} u e′ q =
               let z = then-fewer in
               let y = else-fewer in
               record {
                 tree = conditional (h .tree) (g .tree) (u .tree);
                 reads = λ d l. rw (h .reads d l, expect-first (bytesOf "then") then-first, g .reads d (omega (arith, h .fewer)), expect-first (bytesOf "else") else-first, u .reads d (omega (arith, h .fewer, g .fewer)));
-                stores = subst (Stores (conditional (h .tree) (g .tree) (u .tree)) old new n f (c .nodes + 1) (c .firsts)) (sym q) (stores-conditional (h .stores) (g .stores) (u .stores) e′);
+                stores = subst (StoresTree (conditional (h .tree) (g .tree) (u .tree)) old new n f (c .nodes + 1) (c .firsts)) (sym q) (stores-conditional (h .stores) (g .stores) (u .stores) e′);
                 fewer = omega (arith, h .fewer, g .fewer, u .fewer);
                 numbers = omega (arith, h .numbers, then-number, g .numbers, else-number, u .numbers);
                 room = omega (arith, h .room, g .room, u .room);

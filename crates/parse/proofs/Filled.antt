@@ -6,8 +6,8 @@ use mathlib.Core.List.{List, [], _∷_, _++_, append-assoc}
 use native.Mathlib.Omega.{arith}
 use lib.ListN.{length, take, drop, getD, set, length-append}
 use lib.Seq.{sets, sets-eq, length-sets, length-take-le, drop-at, take-append-seam}
+use Rattle.basics.proofs.Lists.{sets-append}
 use Rattle.text.specs.Bytes.{isInside, tokens}
-use Rattle.meaning.proofs.Lists.{sets-append}
 use Rattle.scan.specs.Place.{between}
 use Rattle.scan.specs.Start.{beginsToken, insideBefore, tokenStartsBelow, tokenStarts}
 use Rattle.scan.proofs.Starts.{token-starts-length, starts-few, starts-none, starts-next, inside-next}

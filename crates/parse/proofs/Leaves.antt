@@ -10,18 +10,19 @@ use lib.ListN.{length}
 use mir.Syntax.{w64}
 use mir.Val.{SFits}
 use borrow.Author.Tests.{ltb-false}
+use Rattle.nodes.specs.Evaluate.{Nodes}
 use Rattle.text.specs.Bytes.{Token, ByteClass, bracket, inside, between, startsInside, addToTokens, classOf, tokens}
 use Rattle.text.specs.Token.{sameBytes, isName, isInteger, integerValue, isReserved}
 use Rattle.nodes.specs.Postfix.{node}
 use Rattle.meaning.specs.Expression.{integer, name}
-use Rattle.sheet.specs.Vocabulary.{placeOf}
+use Rattle.sheet.specs.Vocabulary.{namePlace}
 use Rattle.sheet.specs.Reading.{isBeyond}
 use Rattle.sheet.specs.Parser.{partFrom}
 use Rattle.sheet.proofs.Vocabulary.{opening-integer, opening-name}
 use Rattle.scan.specs.declared.IntegerRead.{IntegerRead}
 use Rattle.scan.specs.Integer.{integerRead, integerWithin, noInteger}
 use Rattle.parse.specs.declared.Read.{Read}
-use Rattle.parse.specs.Stored.{Arrays, store, SameBelow}
+use Rattle.parse.specs.Stored.{store, SameBelow}
 use Rattle.parse.specs.Bounded.{within}
 use Rattle.parse.specs.Reading.{LeafReading}
 use Rattle.parse.proofs.Store.{below-store}
@@ -71,7 +72,7 @@ within-fits z = by z (isBeyond z) refl
 pub integer-fits : {w : Token} {b : Bool} {v : ℤ} → IsInteger w b v → SFits w64 v
 integer-fits {w} i = subst (SFits w64) (sym (i .near)) (within-fits (integerValue w))
 
-module _ (names : List Token) (w : Token) (next : ℕ) {old new : Arrays} {n f : ℕ} where
+module _ (names : List Token) (w : Token) (next : ℕ) {old new : Nodes} {n f : ℕ} where
   pub leaf-integer : {b : Bool} {v : ℤ} → IsInteger w b v → new ≡ store old n (node 0 v n ∷ []) → LeafReading names w next old new n f (record { ok = true; next = next; nodes = n + 1; firsts = f; beyond = b })
   leaf-integer {v = v} i e =
       record {
@@ -87,19 +88,19 @@ module _ (names : List Token) (w : Token) (next : ℕ) {old new : Arrays} {n f :
         kept = below-store old n (node 0 v n ∷ []) e;
       }
 
-  pub leaf-name : T (isName w) → T (not (isReserved w)) → new ≡ store old n (node 1 (pos (placeOf names w)) n ∷ []) → LeafReading names w next old new n f (record { ok = true; next = next; nodes = n + 1; firsts = f; beyond = false })
+  pub leaf-name : T (isName w) → T (not (isReserved w)) → new ≡ store old n (node 1 (pos (namePlace names w)) n ∷ []) → LeafReading names w next old new n f (record { ok = true; next = next; nodes = n + 1; firsts = f; beyond = false })
   leaf-name h k e =
       record {
         found = λ t. record {
-          tree = name (placeOf names w);
+          tree = name (namePlace names w);
           reads = λ p us. ap (λ o. partFrom names p o w us) (opening-name w h k);
-          stores = stores-name (placeOf names w) e;
+          stores = stores-name (namePlace names w) e;
           one = refl;
           none = refl;
         };
         place = λ t. refl;
         missing = λ t. absurd (true≢false t);
-        kept = below-store old n (node 1 (pos (placeOf names w)) n ∷ []) e;
+        kept = below-store old n (node 1 (pos (namePlace names w)) n ∷ []) e;
       }
 
   pub leaf-missing : {r : Read} → r .ok ≡ false → isInteger w ≡ false → isName w && not (isReserved w) ≡ false → SameBelow n new old → LeafReading names w next old new n f r
@@ -129,14 +130,14 @@ unfolding tokens
 tokens-length [] = omega arith
 tokens-length (b ∷ l) = let z = tokens-length l in let w = tokens-add (classOf b) (startsInside l) b (tokens l) in omega arith
 
-place-most : (ns : List Token) (t : Token) → placeOf ns t ≤ length ns
-unfolding placeOf
+place-most : (ns : List Token) (t : Token) → namePlace ns t ≤ length ns
+unfolding namePlace
 place-most [] t = omega arith
 place-most (n ∷ ns) t = by (sameBytes n t) (place-most ns t)
   where
-    by : (b : Bool) → placeOf ns t ≤ length ns → cond b 0 (suc (placeOf ns t)) ≤ suc (length ns)
+    by : (b : Bool) → namePlace ns t ≤ length ns → cond b 0 (suc (namePlace ns t)) ≤ suc (length ns)
     by true h = omega arith
     by false h = omega arith
 
-pub place-length : (l : List ℕ) (t : Token) → placeOf (tokens l) t ≤ length l
+pub place-length : (l : List ℕ) (t : Token) → namePlace (tokens l) t ≤ length l
 place-length l t = let z = place-most (tokens l) t in let w = tokens-length l in omega arith

@@ -9,6 +9,7 @@ use native.Mathlib.Omega.{arith}
 use lib.IntN.{pos}
 use lib.ListN.{length, take, drop, set, length-append, length-map}
 use lib.Seq.{sets, drop-set-lt, sets-eq}
+use Rattle.nodes.specs.Evaluate.{Nodes}
 use Rattle.text.specs.Bytes.{Token, tokens}
 use Rattle.meaning.specs.Expression.{Expression, integer, name, first, next, negation, binary, conditional, fby, Constraint, always, until}
 use Rattle.meaning.specs.Interval.{subexpressions}
@@ -22,29 +23,29 @@ use Rattle.sheet.specs.Parser.{parseConstraint}
 use Rattle.sheet.proofs.Grammar.{reads-count}
 use Rattle.sheet.proofs.Parser.{parseConstraint-sound}
 use Rattle.parse.specs.declared.ConstraintRead.{ConstraintRead}
-use Rattle.parse.specs.Stored.{Arrays, store, SameBelow}
-use Rattle.parse.specs.Bounded.{bounded, boundedConstraint, constraintBeyond}
+use Rattle.parse.specs.Stored.{store, SameBelow}
+use Rattle.parse.specs.Bounded.{boundedExpression, boundedConstraint, constraintBeyond}
 use Rattle.parse.specs.Reading.{constraintRead, StartsOutcome, areKept, areStored, ConstraintOutcome, isTooLong, isNoConstraint, isRead}
 use Rattle.parse.proofs.Store.{below-refl, below-store}
 use Rattle.parse.proofs.Trees.{anyOf-append, length-last}
 
-below-sym : {n : ℕ} {a b : Arrays} → SameBelow n a b → SameBelow n b a
+below-sym : {n : ℕ} {a b : Nodes} → SameBelow n a b → SameBelow n b a
 below-sym s = record { kinds = sym (s .kinds); values = sym (s .values); starts = sym (s .starts) }
 
-below-both : {n : ℕ} {a b c : Arrays} → SameBelow n a c → SameBelow n b c → SameBelow n a b
+below-both : {n : ℕ} {a b c : Nodes} → SameBelow n a c → SameBelow n b c → SameBelow n a b
 below-both s t = record { kinds = s .kinds ∙ sym (t .kinds); values = s .values ∙ sym (t .values); starts = s .starts ∙ sym (t .starts) }
 
 -- The answer is settled, the arrays are where the answer is a constraint or the line is too long, and they are below n in any case.
-pub record Settled (n : ℕ) (new new′ : Arrays) (r r′ : ConstraintRead) : Type 0 where
+pub record Settled (n : ℕ) (new new′ : Nodes) (r r′ : ConstraintRead) : Type 0 where
   pub answer : r ≡ r′
   pub read : r .ok ≡ true → new ≡ new′
   pub tooLong : r .fits ≡ false → new ≡ new′
   pub below : SameBelow n new new′
 
-same-arrays : {n : ℕ} {new new′ : Arrays} {r r′ : ConstraintRead} → r ≡ r′ → new ≡ new′ → Settled n new new′ r r′
+same-arrays : {n : ℕ} {new new′ : Nodes} {r r′ : ConstraintRead} → r ≡ r′ → new ≡ new′ → Settled n new new′ r r′
 same-arrays {n} {new} e h = record { answer = e; read = λ t. h; tooLong = λ t. h; below = subst (SameBelow n new) h (below-refl n new) }
 
-pub outcome-unique : {names line : List ℕ} {n f : ℕ} {old new new′ : Arrays} {r r′ : ConstraintRead} → ConstraintOutcome names line n f old new r → ConstraintOutcome names line n f old new′ r′ → Settled n new new′ r r′
+pub outcome-unique : {names line : List ℕ} {n f : ℕ} {old new new′ : Nodes} {r r′ : ConstraintRead} → ConstraintOutcome names line n f old new r → ConstraintOutcome names line n f old new′ r′ → Settled n new new′ r r′
 outcome-unique (isTooLong u e h) (isTooLong u′ e′ h′) = same-arrays (e ∙ sym e′) (h ∙ sym h′)
 outcome-unique (isTooLong u e h) (isNoConstraint w p e′ h′) = absurd (u w)
 outcome-unique (isTooLong u e h) (isRead w p e′ h′) = absurd (u w)
@@ -66,7 +67,7 @@ starts-unique (areStored w e) (areKept u e′) = absurd (u w)
 starts-unique (areStored w e) (areStored w′ e′) = e ∙ sym e′
 
 -- In any case the arrays hold below n what they held.
-pub outcome-below : {names line : List ℕ} {n f : ℕ} {old new : Arrays} {r : ConstraintRead} → ConstraintOutcome names line n f old new r → SameBelow n new old
+pub outcome-below : {names line : List ℕ} {n f : ℕ} {old new : Nodes} {r : ConstraintRead} → ConstraintOutcome names line n f old new r → SameBelow n new old
 outcome-below {n = n} {old = old} {new = new} (isTooLong u e h) = subst (SameBelow n new) h (below-refl n new)
 outcome-below (isNoConstraint w p e h) = h
 outcome-below {n = n} {f = f} {old = old} (isRead {c} w p e h) = below-store old n (sideNodes n f (boundedConstraint c)) h
@@ -107,8 +108,8 @@ postfix-count n f (fby a b) =
     omega arith
 
 -- Integers beyond the bound are replaced one by one.
-bounded-count : (e : Expression) → length (subexpressions (bounded e)) ≡ length (subexpressions e)
-unfolding bounded subexpressions
+bounded-count : (e : Expression) → length (subexpressions (boundedExpression e)) ≡ length (subexpressions e)
+unfolding boundedExpression subexpressions
 bounded-count (integer z) = refl
 bounded-count (name k) = refl
 bounded-count (first e) = ap suc (bounded-count e)
@@ -117,39 +118,39 @@ bounded-count (negation e) = ap suc (bounded-count e)
 bounded-count (binary o a b) =
     let x = bounded-count a in
     let y = bounded-count b in
-    let z = length-append (subexpressions (bounded a)) (subexpressions (bounded b)) in
+    let z = length-append (subexpressions (boundedExpression a)) (subexpressions (boundedExpression b)) in
     let w = length-append (subexpressions a) (subexpressions b) in
     omega arith
 bounded-count (conditional c a b) =
     let s = bounded-count c in
     let x = bounded-count a in
     let y = bounded-count b in
-    let t = length-append (subexpressions (bounded c)) (subexpressions (bounded a) ++ subexpressions (bounded b)) in
-    let z = length-append (subexpressions (bounded a)) (subexpressions (bounded b)) in
+    let t = length-append (subexpressions (boundedExpression c)) (subexpressions (boundedExpression a) ++ subexpressions (boundedExpression b)) in
+    let z = length-append (subexpressions (boundedExpression a)) (subexpressions (boundedExpression b)) in
     let u = length-append (subexpressions c) (subexpressions a ++ subexpressions b) in
     let w = length-append (subexpressions a) (subexpressions b) in
     omega arith
 bounded-count (fby a b) =
     let x = bounded-count a in
     let y = bounded-count b in
-    let z = length-append (subexpressions (bounded a)) (subexpressions (bounded b)) in
+    let z = length-append (subexpressions (boundedExpression a)) (subexpressions (boundedExpression b)) in
     let w = length-append (subexpressions a) (subexpressions b) in
     omega arith
 
 -- The `first`s stay where integers beyond the bound are replaced, and there are no more of them than expressions.
-pub bounded-firsts : (e : Expression) → length (firsts (bounded e)) ≡ length (firsts e)
-unfolding bounded firsts
+pub bounded-firsts : (e : Expression) → length (firsts (boundedExpression e)) ≡ length (firsts e)
+unfolding boundedExpression firsts
 bounded-firsts (integer z) = refl
 bounded-firsts (name k) = refl
 bounded-firsts (first e) = ap suc (bounded-firsts e)
 bounded-firsts (next e) = bounded-firsts e
 bounded-firsts (negation e) = bounded-firsts e
-bounded-firsts (binary o a b) = length-append (firsts (bounded a)) (firsts (bounded b)) ∙ ap₂ _+_ (bounded-firsts a) (bounded-firsts b) ∙ sym (length-append (firsts a) (firsts b))
+bounded-firsts (binary o a b) = length-append (firsts (boundedExpression a)) (firsts (boundedExpression b)) ∙ ap₂ _+_ (bounded-firsts a) (bounded-firsts b) ∙ sym (length-append (firsts a) (firsts b))
 bounded-firsts (conditional c a b) =
-    length-append (firsts (bounded c)) (firsts (bounded a) ++ firsts (bounded b))
-    ∙ ap₂ _+_ (bounded-firsts c) (length-append (firsts (bounded a)) (firsts (bounded b)) ∙ ap₂ _+_ (bounded-firsts a) (bounded-firsts b) ∙ sym (length-append (firsts a) (firsts b)))
+    length-append (firsts (boundedExpression c)) (firsts (boundedExpression a) ++ firsts (boundedExpression b))
+    ∙ ap₂ _+_ (bounded-firsts c) (length-append (firsts (boundedExpression a)) (firsts (boundedExpression b)) ∙ ap₂ _+_ (bounded-firsts a) (bounded-firsts b) ∙ sym (length-append (firsts a) (firsts b)))
     ∙ sym (length-append (firsts c) (firsts a ++ firsts b))
-bounded-firsts (fby a b) = length-append (firsts (bounded a)) (firsts (bounded b)) ∙ ap₂ _+_ (bounded-firsts a) (bounded-firsts b) ∙ sym (length-append (firsts a) (firsts b))
+bounded-firsts (fby a b) = length-append (firsts (boundedExpression a)) (firsts (boundedExpression b)) ∙ ap₂ _+_ (bounded-firsts a) (bounded-firsts b) ∙ sym (length-append (firsts a) (firsts b))
 
 firsts-few : (e : Expression) → length (firsts e) ≤ length (subexpressions e)
 unfolding firsts subexpressions
@@ -177,23 +178,23 @@ pub record Few (ts : List Token) (n f : ℕ) (c : Constraint) : Type 0 where
 
 module _ (ts : List Token) (n f : ℕ) (a b : Expression) (h : length (subexpressions a) + length (subexpressions b) ≤ length ts) where
   abbrev left : List Node
-  left = postfix n f (bounded a)
+  left = postfix n f (boundedExpression a)
 
   abbrev right : List Node
-  right = postfix (n + length left) (f + length (firsts (bounded a))) (bounded b)
+  right = postfix (n + length left) (f + length (firsts (boundedExpression a))) (boundedExpression b)
 
   sides-nodes : length (left ++ right) ≤ length ts
   sides-nodes =
       let z = length-append left right in
-      let x = postfix-count n f (bounded a) in
-      let y = postfix-count (n + length left) (f + length (firsts (bounded a))) (bounded b) in
+      let x = postfix-count n f (boundedExpression a) in
+      let y = postfix-count (n + length left) (f + length (firsts (boundedExpression a))) (boundedExpression b) in
       let p = bounded-count a in
       let q = bounded-count b in
       omega arith
 
-  sides-firsts : length (firsts (bounded a) ++ firsts (bounded b)) ≤ length ts
+  sides-firsts : length (firsts (boundedExpression a) ++ firsts (boundedExpression b)) ≤ length ts
   sides-firsts =
-      let z = length-append (firsts (bounded a)) (firsts (bounded b)) in
+      let z = length-append (firsts (boundedExpression a)) (firsts (boundedExpression b)) in
       let x = bounded-firsts a in
       let y = bounded-firsts b in
       let p = firsts-few a in
@@ -220,12 +221,12 @@ module _ {A : Type 0} where
   sets-after x n m [] h = refl
   sets-after x n m (v ∷ vs) h = sets-after (set x n v) (suc n) m vs (omega arith) ∙ drop-set-lt m x n v (omega arith)
 
-pub record SameFrom (m : ℕ) (a b : Arrays) : Type 0 where
+pub record SameFrom (m : ℕ) (a b : Nodes) : Type 0 where
   pub kinds : drop m (a .kinds) ≡ drop m (b .kinds)
   pub values : drop m (a .values) ≡ drop m (b .values)
   pub starts : drop m (a .starts) ≡ drop m (b .starts)
 
-pub store-after : (a : Arrays) {b : Arrays} (n : ℕ) (l : List Node) → b ≡ store a n l → SameFrom (n + length l) b a
+pub store-after : (a : Nodes) {b : Nodes} (n : ℕ) (l : List Node) → b ≡ store a n l → SameFrom (n + length l) b a
 unfolding store
 store-after a n l e =
     record {
@@ -238,12 +239,12 @@ store-after a n l e =
 abbrev pub pasted : {A : Type 0} → List A → ℕ → List A → List A
 pasted x n vs = take n x ++ vs ++ drop (n + length vs) x
 
-pub record Holds (n : ℕ) (l : List Node) (a b : Arrays) : Type 0 where
+pub record Holds (n : ℕ) (l : List Node) (a b : Nodes) : Type 0 where
   pub kinds : b .kinds ≡ pasted (a .kinds) n (kindsOf l)
   pub values : b .values ≡ pasted (a .values) n (valuesOf l)
   pub starts : b .starts ≡ pasted (a .starts) n (startsOf l)
 
-pub store-holds : (a : Arrays) {b : Arrays} (n : ℕ) (l : List Node) → b ≡ store a n l → n + length l ≤ length (a .kinds) → n + length l ≤ length (a .values) → n + length l ≤ length (a .starts) → Holds n l a b
+pub store-holds : (a : Nodes) {b : Nodes} (n : ℕ) (l : List Node) → b ≡ store a n l → n + length l ≤ length (a .kinds) → n + length l ≤ length (a .values) → n + length l ≤ length (a .starts) → Holds n l a b
 unfolding store
 store-holds a n l e h i j =
     record {
@@ -260,8 +261,8 @@ or-none false c e = (refl, e)
 any-none : (l m : List Expression) → anyOf isIntegerBeyond (l ++ m) ≡ false → (anyOf isIntegerBeyond l ≡ false) × (anyOf isIntegerBeyond m ≡ false)
 any-none l m e = or-none (anyOf isIntegerBeyond l) (anyOf isIntegerBeyond m) (sym (anyOf-append isIntegerBeyond l m) ∙ e)
 
-pub bounded-same : (e : Expression) → anyOf isIntegerBeyond (subexpressions e) ≡ false → bounded e ≡ e
-unfolding bounded subexpressions
+pub bounded-same : (e : Expression) → anyOf isIntegerBeyond (subexpressions e) ≡ false → boundedExpression e ≡ e
+unfolding boundedExpression subexpressions
 bounded-same (integer z) h = ap (λ b. integer (cond b (pos 0) z)) (or-none (isBeyond z) false h .0)
 bounded-same (name k) h = refl
 bounded-same (first e) h = ap first (bounded-same e h)

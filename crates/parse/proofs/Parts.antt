@@ -9,6 +9,7 @@ use lib.Dec.{eqb}
 use lib.IntN.{ℤ}
 use lib.ListN.{length, drop, getD}
 use lib.Seq.{getD-drop}
+use Rattle.nodes.specs.Evaluate.{Nodes}
 use Rattle.text.specs.Bytes.{Token, bytesOf, tokens}
 use Rattle.text.specs.Token.{sameBytes}
 use Rattle.nodes.specs.Postfix.{node, postfix}
@@ -21,31 +22,31 @@ use Rattle.scan.proofs.Tokens.{between-first}
 use Rattle.scan.proofs.Words.{code-none, code-some}
 use Rattle.parse.specs.declared.NumberedToken.{NumberedToken}
 use Rattle.parse.specs.declared.Read.{Read}
-use Rattle.parse.specs.Stored.{Arrays, store, SameBelow}
-use Rattle.parse.specs.Bounded.{bounded}
+use Rattle.parse.specs.Stored.{store, SameBelow}
+use Rattle.parse.specs.Bounded.{boundedExpression}
 use Rattle.parse.specs.Numbered.{tokensFrom, Placed, TokenNumbered}
-use Rattle.parse.specs.Reading.{Stores, Found, Reading, Leaf, LeafReading, firstsInside, prefixValue}
+use Rattle.parse.specs.Reading.{StoresTree, TreeRead, Reading, Leaf, LeafReading, firstsInside, prefixValue}
 use Rattle.parse.proofs.Store.{below-store}
 use Rattle.parse.proofs.Trees.{stores-prefix}
 use Rattle.parse.proofs.Numbers.{token-within, token-number, placed-later, left-stored, inner-placed, inner-first, closing-token}
 use Rattle.parse.proofs.Readers.{same-word, wordOf, part-by, part-prefix, part-prefix-none, part-none, part-bracket, part-bracket-none, part-open, inner-length, open-bytes, open-tokens}
 
-module _ {R : ℕ → Reader} {rest : ℕ → List Token} {at : ℕ} {old new : Arrays} {n f : ℕ} {r : Read} where
+module _ {R : ℕ → Reader} {rest : ℕ → List Token} {at : ℕ} {old new : Nodes} {n f : ℕ} {r : Read} where
   -- Nothing was read.
   pub reading-missing : r .ok ≡ false → ((d : ℕ) → length (rest at) ≤ d → R d (rest at) ≡ none) → SameBelow n new old → Reading R rest at old new n f r
   reading-missing e h k = record { found = λ t. absurd (true≢false (sym t ∙ e)); missing = λ t. h; kept = k }
 
   -- A tree was read.
-  pub reading-found : r .ok ≡ true → Found R rest at old new n f r → Reading R rest at old new n f r
+  pub reading-found : r .ok ≡ true → TreeRead R rest at old new n f r → Reading R rest at old new n f r
   reading-found e h =
       record {
         found = λ t. h;
         missing = λ t. absurd (true≢false (sym e ∙ t));
-        kept = below-store old n (postfix n f (bounded (h .tree))) (h .stores .arrays);
+        kept = below-store old n (postfix n f (boundedExpression (h .tree))) (h .stores .arrays);
       }
 
 -- The starts that give the tokens from a number on give them from the number on that a reader or a token has gone to.
-pub found-placed : {R : ℕ → Reader} {text : List ℕ} {origin : ℕ} {starts : List ℕ} {at : ℕ} {old new : Arrays} {n f : ℕ} {r : Read} → Placed text origin starts at → Found R (tokensFrom text origin starts) at old new n f r → Placed text origin starts (r .next)
+pub found-placed : {R : ℕ → Reader} {text : List ℕ} {origin : ℕ} {starts : List ℕ} {at : ℕ} {old new : Nodes} {n f : ℕ} {r : Read} → Placed text origin starts at → TreeRead R (tokensFrom text origin starts) at old new n f r → Placed text origin starts (r .next)
 found-placed p h = placed-later p (omega (arith, h .numbers, h .fewer))
 
 pub number-placed : {text : List ℕ} {origin : ℕ} {starts : List ℕ} {at next : ℕ} → Placed text origin starts at → next ≡ at + 1 → Placed text origin starts next
@@ -77,15 +78,15 @@ a-prefix {w} e n = let (p, is, code) = code-some prefixCode (prefixOf w) (λ h. 
 
 module _ (names : List Token) (rest : ℕ → List Token) {at next : ℕ} {w : Token} (number : next ≡ at + 1) (e : rest at ≡ w ∷ rest next) where
   -- `first`, `next` or `not` before a part.
-  pub prefix-found : {old mid new : Arrays} {n f g k : ℕ} {v : ℤ} {r : Read} → Prefix-at w k → g ≡ firstsInside k f → v ≡ prefixValue k f → Found (partTo names) rest next old mid n g r → new ≡ store mid (r .nodes) (node k v n ∷ [])
-      → Found (partTo names) rest at old new n f (record { ok = true; next = r .next; nodes = r .nodes + 1; firsts = r .firsts; beyond = r .beyond })
+  pub prefix-found : {old mid new : Nodes} {n f g k : ℕ} {v : ℤ} {r : Read} → Prefix-at w k → g ≡ firstsInside k f → v ≡ prefixValue k f → TreeRead (partTo names) rest next old mid n g r → new ≡ store mid (r .nodes) (node k v n ∷ [])
+      → TreeRead (partTo names) rest at old new n f (record { ok = true; next = r .next; nodes = r .nodes + 1; firsts = r .firsts; beyond = r .beyond })
   prefix-found {old} {mid} {n = n} {f = f} {k = k} {r = r} p i q h s =
       let z = ap length e in
       let most = firsts-inside-most k f in
       record {
         tree = prefixed (p .prefix) (h .tree);
         reads = part-prefix names e (p .is) (h .reads);
-        stores = stores-prefix (p .prefix) (p .code) q (subst (λ j. Stores (h .tree) old mid n j (r .nodes) (r .firsts) (r .beyond)) i (h .stores)) s;
+        stores = stores-prefix (p .prefix) (p .code) q (subst (λ j. StoresTree (h .tree) old mid n j (r .nodes) (r .firsts) (r .beyond)) i (h .stores)) s;
         fewer = omega (arith, h .fewer);
         numbers = omega (arith, h .numbers);
         room = omega (arith, h .room);
@@ -96,10 +97,10 @@ module _ (names : List Token) (rest : ℕ → List Token) {at next : ℕ} {w : T
   prefix-missing p h = part-prefix-none names e (p .is) h
 
   -- An integer or a name.
-  pub leaf-reading : {old new : Arrays} {n f : ℕ} {r : Read} → prefixOf w ≡ none → sameBytes (bytesOf "(") w ≡ false → LeafReading names w next old new n f r → Reading (partTo names) rest at old new n f r
+  pub leaf-reading : {old new : Nodes} {n f : ℕ} {r : Read} → prefixOf w ≡ none → sameBytes (bytesOf "(") w ≡ false → LeafReading names w next old new n f r → Reading (partTo names) rest at old new n f r
   leaf-reading {old} {new} {n} {f} {r} p b l = record { found = found; missing = λ t. let (i, s) = l .missing t in part-none names e p i s b; kept = l .kept }
     where
-      found : r .ok ≡ true → Found (partTo names) rest at old new n f r
+      found : r .ok ≡ true → TreeRead (partTo names) rest at old new n f r
       found t =
           let h : Leaf names w old new n f r = l .found t in
           let z = ap length e in
@@ -181,7 +182,7 @@ module _ (names : List Token) {text : List ℕ} {origin : ℕ} {starts : List �
     pub bracket-missing : ((d : ℕ) → length (inside (s .next)) ≤ d → expressionBy (partTo names d) (inside (s .next)) ≡ none) → (d : ℕ) → length (rest at) ≤ d → partTo names d (rest at) ≡ none
     bracket-missing h = part-bracket-none names text from close partner-forward partner-bytes first b (λ d l a q. Option·none-ne-some _ (sym (reads-inner d (h d (omega (arith, ap length inside-first)))) ∙ q))
 
-    module _ {old new : Arrays} {n f : ℕ} {r : Read} (h : Found (λ d. expressionBy (partTo names d)) inside (s .next) old new n f r) where
+    module _ {old new : Nodes} {n f : ℕ} {r : Read} (h : TreeRead (λ d. expressionBy (partTo names d)) inside (s .next) old new n f r) where
       found-inner : (d : ℕ) → length (tokens inner) ≤ d → expressionBy (partTo names d) (tokens inner) ≡ parsed (h .tree) (inside (r .next))
       found-inner d l = reads-inner d (h .reads d (omega (arith, ap length inside-first)))
 
@@ -201,7 +202,7 @@ module _ (names : List Token) {text : List ℕ} {origin : ℕ} {starts : List �
         after-closing : rest (r .next + 1) ≡ tokens (drop (close + 1) text)
         after-closing = later .follows (r .next) (omega (arith, h .numbers, h .fewer)) ∙ ap (drop 1) closing
 
-        pub bracket-found : Found (partTo names) rest at old new n f (record { ok = true; next = r .next + 1; nodes = r .nodes; firsts = r .firsts; beyond = r .beyond })
+        pub bracket-found : TreeRead (partTo names) rest at old new n f (record { ok = true; next = r .next + 1; nodes = r .nodes; firsts = r .firsts; beyond = r .beyond })
         bracket-found =
             let size = inside-length in
             let none-left = ap length m in

@@ -9,16 +9,17 @@ use native.Mathlib.Omega.{arith}
 use lib.Dec.{eqb}
 use lib.IntN.{ℤ}
 use lib.ListN.{length}
+use Rattle.nodes.specs.Evaluate.{Nodes}
 use Rattle.text.specs.Bytes.{Token}
 use Rattle.nodes.specs.Postfix.{node}
-use Rattle.sheet.specs.Vocabulary.{prefixes, prefixOf}
+use Rattle.sheet.specs.Vocabulary.{prefixTokens, prefixOf}
 use Rattle.sheet.specs.Parser.{partTo}
 use Rattle.scan.specs.Place.{between}
 use Rattle.scan.specs.Word.{codeOr255, prefixCode}
 use Rattle.scan.proofs.Tokens.{between-none}
 use Rattle.parse.specs.declared.NumberedToken.{NumberedToken}
 use Rattle.parse.specs.declared.Read.{Read}
-use Rattle.parse.specs.Stored.{Arrays, store}
+use Rattle.parse.specs.Stored.{store}
 use Rattle.parse.specs.Numbered.{TokenNumbered, noneLeft, numbered}
 use Rattle.parse.specs.Reading.{firstsInside, prefixValue}
 use Rattle.parse.specs.Prefixes.{firstsBefore, readUpTo, Passes, passesNone, passesMore, Leads}
@@ -26,7 +27,7 @@ use Rattle.parse.proofs.Parts.{firsts-inside-most, a-prefix, prefix-fou
 
 -- A token that is a prefix is there.
 pub prefix-stands : (text : List ℕ) (r : NumberedToken) {k : ℕ} → k ≡ codeOr255 prefixCode (prefixOf (between text (r .start) (r .end))) → (k ≡ 255 → ⊥) → r .start ≡ r .end → ⊥
-unfolding prefixOf prefixes
+unfolding prefixOf prefixTokens
 prefix-stands text r c n h = n (c ∙ ap (λ w. codeOr255 prefixCode (prefixOf w)) (ap (between text (r .start)) (sym h) ∙ between-none text (r .start)))
 
 -- The token that is found by a number is the one that is left to read there.
@@ -107,7 +108,7 @@ module _ {rest : ℕ → List Token} {at f m g : ℕ} (l : Last-passed rest at f
 
 -- ---- what was read
 
-pub leads-none : {rest : ℕ → List Token} {n m g : ℕ} {mid : Arrays} {r : Read} → Leads rest n m g mid r m g mid (readUpTo r (r .nodes))
+pub leads-none : {rest : ℕ → List Token} {n m g : ℕ} {mid : Nodes} {r : Read} → Leads rest n m g mid r m g mid (readUpTo r (r .nodes))
 leads-none =
     record {
       read = refl;
@@ -115,7 +116,7 @@ leads-none =
           record { tree = h .tree; reads = h .reads; stores = h .stores; fewer = h .fewer; numbers = h .numbers; room = h .room; roomFirsts = h .roomFirsts };
     }
 
-module _ {rest : ℕ → List Token} {n m g : ℕ} {mid : Arrays} {r : Read} {at f number inside last : ℕ} {now new : Arrays}
+module _ {rest : ℕ → List Token} {n m g : ℕ} {mid : Nodes} {r : Read} {at f number inside last : ℕ} {now new : Nodes}
     (h : Leads rest n m g mid r number inside now (readUpTo r last)) (l : Last-passed rest at f number inside) where
   -- One prefix more, from the place before its token.
   pub leads-more : 0 < number → {k : ℕ} {v : ℤ} → k ≡ l .kind → v ≡ prefixValue k (l .before) → new ≡ store now last (node k v n ∷ []) → Leads rest n m g mid r (number - 1) (l .before) new (readUpTo r (last + 1))
@@ -128,7 +129,7 @@ module _ {rest : ℕ → List Token} {n m g : ℕ} {mid : Arrays} {r : Read} {at
       }
 
 -- At the first of them the part is read that they begin.
-pub leads-end : {rest : ℕ → List Token} {n m g : ℕ} {mid : Arrays} {r : Read} {at f number inside : ℕ} {new : Arrays} {s : Read} → Leads rest n m g mid r number inside new s → Passes rest at f number inside → number ≤ at
+pub leads-end : {rest : ℕ → List Token} {n m g : ℕ} {mid : Nodes} {r : Read} {at f number inside : ℕ} {new : Nodes} {s : Read} → Leads rest n m g mid r number inside new s → Passes rest at f number inside → number ≤ at
     → Leads rest n m g mid r at f new s
 leads-end {rest} {n} {m} {g} {mid} {r} {at = at} {f = f} {number = number} {new = new} {s = s} h p l =
     let e : number ≡ at = omega (arith, passes-later p) in

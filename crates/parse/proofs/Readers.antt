@@ -7,14 +7,14 @@ use mathlib.Core.Option.{Option, some, none}
 use native.Mathlib.Omega.{arith}
 use lib.ListN.{length, take, drop, length-take, length-append}
 use lib.Seq.{take-append-seam, drop-append-add, drop-drop}
+use Rattle.basics.proofs.Reflects.{from-true}
 use Rattle.text.specs.Bytes.{Token, bytesOf, tokens}
 use Rattle.text.specs.Token.{sameBytes, isName, isInteger, isReserved}
-use Rattle.text.proofs.Reflects.{from-true}
 use Rattle.text.proofs.Token.{sameBytes-reflects}
 use Rattle.meaning.specs.Expression.{Expression}
 use Rattle.meaning.specs.Value.{less, atMost, equal, atLeast, greater, different}
 use Rattle.meaning.specs.Arithmetic.{add, subtract, multiply, divide, remainder, compare, and, or}
-use Rattle.sheet.specs.Vocabulary.{Infix, pointwise, followedBy, joined, operators, operatorOf, Prefix, prefixed, prefixOf}
+use Rattle.sheet.specs.Vocabulary.{Infix, pointwise, followedBy, infixed, operatorTokens, operatorOf, Prefix, prefixed, prefixOf}
 use Rattle.sheet.specs.Parser.{Parsed, parsed, andThen, expect, Reader, operationFrom, afterPart, conditionalBy, expressionBy, noOpening, openingFrom, plainOpening, openingOf, partFrom, partTo}
 use Rattle.sheet.proofs.Vocabulary.{opening-prefix}
 use Rattle.sheet.proofs.Balance.{Partner, bracket-read, bracket-read-back, no-partner}
@@ -145,7 +145,7 @@ pub record Operator-at (text : List ℕ) (rest : ℕ → List Token) (at : ℕ) 
   pub code-is : code ≡ infixCode operator
   pub first : rest at ≡ wordOf text r ∷ rest (r .next)
   pub number : r .next ≡ at + 1
-  pub goes-on : (p : Reader) (a : Expression) → afterPart p a (rest at) ≡ andThen (p (rest (r .next))) (λ y. parsed (joined operator a (y .tree)) (y .rest))
+  pub goes-on : (p : Reader) (a : Expression) → afterPart p a (rest at) ≡ andThen (p (rest (r .next))) (λ y. parsed (infixed operator a (y .tree)) (y .rest))
 
 -- The first token of a text at a place, compared with a word.
 module _ {text : List ℕ} {rest : ℕ → List Token} {at : ℕ} {r : NumberedToken} where
@@ -189,7 +189,7 @@ module _ {text : List ℕ} {rest : ℕ → List Token} {at : ℕ} {r : NumberedT
       ap (afterPart p a) e ∙ ap (λ o. operationFrom p a (wordOf text r ∷ rest (r .next)) o (rest (r .next))) none-there ∙ sym (ap (parsed a) e)
 
   pub operator-at : {code : ℕ} → TokenNumbered text rest at r → code ≡ codeOr255 infixCode (operatorOf (wordOf text r)) → (code ≡ 255 → ⊥) → Operator-at text rest at r code
-  unfolding operatorOf operators
+  unfolding operatorOf operatorTokens
   operator-at (noneLeft p q e) c n = absurd (n (c ∙ ap (λ w. codeOr255 infixCode (operatorOf w)) (no-word text r p q)))
   operator-at (numbered _ _ m e _) c n =
       let (o, is, code) = code-some infixCode (operatorOf (wordOf text r)) (λ h. n (c ∙ h)) in

@@ -10,19 +10,19 @@ use Rattle.sheet.specs.Reading.{anyOf, isBeyond, isIntegerBeyond}
 abbrev pub within : ℤ → ℤ
 within z = cond (isBeyond z) (pos 0) z
 
-unfoldable pub bounded : Expression → Expression
-bounded (integer z) = integer (within z)
-bounded (name k) = name k
-bounded (first e) = first (bounded e)
-bounded (next e) = next (bounded e)
-bounded (negation e) = negation (bounded e)
-bounded (binary o a b) = binary o (bounded a) (bounded b)
-bounded (conditional c a b) = conditional (bounded c) (bounded a) (bounded b)
-bounded (fby a b) = fby (bounded a) (bounded b)
+unfoldable pub boundedExpression : Expression → Expression
+boundedExpression (integer z) = integer (within z)
+boundedExpression (name k) = name k
+boundedExpression (first e) = first (boundedExpression e)
+boundedExpression (next e) = next (boundedExpression e)
+boundedExpression (negation e) = negation (boundedExpression e)
+boundedExpression (binary o a b) = binary o (boundedExpression a) (boundedExpression b)
+boundedExpression (conditional c a b) = conditional (boundedExpression c) (boundedExpression a) (boundedExpression b)
+boundedExpression (fby a b) = fby (boundedExpression a) (boundedExpression b)
 
 abbrev pub boundedConstraint : Constraint → Constraint
-boundedConstraint (always s a b) = always s (bounded a) (bounded b)
-boundedConstraint (until a b) = until (bounded a) (bounded b)
+boundedConstraint (always s a b) = always s (boundedExpression a) (boundedExpression b)
+boundedConstraint (until a b) = until (boundedExpression a) (boundedExpression b)
 
 unfoldable pub hasBeyond : Expression → Bool
 hasBeyond e = anyOf isIntegerBeyond (subexpressions e)

@@ -4,13 +4,13 @@ use mathlib.Core.Path.{_≡_}
 use mathlib.Core.Bool.{true, cond}
 use mathlib.Core.List.{List, _∷_}
 use lib.Dec.{eqb}
+use Rattle.nodes.specs.Evaluate.{Nodes}
 use Rattle.text.specs.Bytes.{Token}
 use Rattle.sheet.specs.Vocabulary.{prefixOf}
 use Rattle.sheet.specs.Parser.{partTo}
 use Rattle.scan.specs.Word.{codeOr255, prefixCode}
 use Rattle.parse.specs.declared.Read.{Read}
-use Rattle.parse.specs.Stored.{Arrays}
-use Rattle.parse.specs.Reading.{Found, firstsInside}
+use Rattle.parse.specs.Reading.{TreeRead, firstsInside}
 
 -- The number of the first `first` from the node of this kind on, where g is that of the first `first` inside it.
 abbrev pub firstsBefore : ℕ → ℕ → ℕ
@@ -27,6 +27,6 @@ pub data Passes (rest : ℕ → List Token) (at f : ℕ) : ℕ → ℕ → Type 
       → Passes rest at f m′ g′
 
 -- A part that was read as r from the token with the number m on leads to one that was read as s from the token with the number `at` on.
-pub record Leads (rest : ℕ → List Token) (n m g : ℕ) (mid : Arrays) (r : Read) (at f : ℕ) (new : Arrays) (s : Read) : Type 0 where
+pub record Leads (rest : ℕ → List Token) (n m g : ℕ) (mid : Nodes) (r : Read) (at f : ℕ) (new : Nodes) (s : Read) : Type 0 where
   pub read : s .ok ≡ true
-  pub found : (names : List Token) (old : Arrays) → Found (partTo names) rest m old mid n g r → Found (partTo names) rest at old new n f s
+  pub found : (names : List Token) (old : Nodes) → TreeRead (partTo names) rest m old mid n g r → TreeRead (partTo names) rest at old new n f s

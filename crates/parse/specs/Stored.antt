@@ -2,25 +2,17 @@
 use Prim.Native.Nat.{ℕ}
 use mathlib.Core.Path.{_≡_}
 use mathlib.Core.List.{List}
-use lib.IntN.{ℤ}
 use lib.ListN.{take}
 use lib.Seq.{sets}
+use Rattle.nodes.specs.Evaluate.{Nodes}
 use Rattle.nodes.specs.Postfix.{Node, kindsOf, valuesOf, startsOf}
 
-pub record Arrays : Type 0 where
-  pub kinds : List ℕ
-  pub values : List ℤ
-  pub starts : List ℕ
-
-abbrev pub arrays : List ℕ → List ℤ → List ℕ → Arrays
-arrays k v s = record { kinds = k; values = v; starts = s }
-
 -- The arrays with these nodes stored one after the other from the place n on.
-unfoldable pub store : Arrays → ℕ → List Node → Arrays
+unfoldable pub store : Nodes → ℕ → List Node → Nodes
 store a n l = record { kinds = sets (a .kinds) n (kindsOf l); values = sets (a .values) n (valuesOf l); starts = sets (a .starts) n (startsOf l) }
 
 -- Both hold the same below the place n.
-pub record SameBelow (n : ℕ) (a b : Arrays) : Type 0 where
+pub record SameBelow (n : ℕ) (a b : Nodes) : Type 0 where
   pub kinds : take n (a .kinds) ≡ take n (b .kinds)
   pub values : take n (a .values) ≡ take n (b .values)
   pub starts : take n (a .starts) ≡ take n (b .starts)

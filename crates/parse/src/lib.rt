@@ -1,21 +1,23 @@
 // Reads one constraint line into stored nodes.
+use basics::either;
 ghost use mathlib.Core.Path.{_≡_};
-ghost use mathlib.Core.Bool.{false, _||_};
+ghost use mathlib.Core.Bool.{false};
 ghost use mathlib.Core.List.{[], _∷_};
 ghost use Prim.Native.Nat.{_+_, _≤_, _<_};
 ghost use lib.Dec.{leb};
 ghost use lib.IntN.{pos};
 ghost use lib.ListN.{length};
 ghost use lib.Seq.{sets};
+ghost use Rattle.nodes.specs.Evaluate.{stored};
 ghost use Rattle.text.specs.Bytes.{tokens};
 ghost use Rattle.scan.specs.Place.{between};
 ghost use Rattle.scan.specs.Start.{tokenStarts};
 ghost use Rattle.nodes.specs.Postfix.{node};
 ghost use Rattle.sheet.specs.Parser.{partTo, conditionalBy, expressionBy};
-ghost use Rattle.parse.specs.Stored.{arrays, store};
+ghost use Rattle.parse.specs.Stored.{store};
 ghost use Rattle.parse.specs.Numbered.{tokensFrom, Placed, TokenNumbered};
-ghost use Rattle.parse.specs.Prefixes.{firstsBefore, readUpTo, Passes, Leads};
-ghost use Rattle.parse.specs.Reading.{Room, Reading, LeafReading, firstsInside, prefixValue, unread, Fits, StartsOutcome, ConstraintOutcome};
+ghost use Rattle.parse.specs.Prefixes.{firstsBefore, Passes, Leads};
+ghost use Rattle.parse.specs.Reading.{LineFits, Reading, LeafReading, firstsInside, prefixValue, unread, Fits, StartsOutcome, ConstraintOutcome};
 
 // What reading a part or an expression gives: whether there is one, the number of the token after it, the numbers of nodes and of `first`s
 // stored so far, and whether an integer in it is beyond the magnitude bound.
@@ -41,7 +43,7 @@ struct Passed {
     firsts: usize,
 }
 
-// What reading a constraint line gives: whether the arrays have room for it, whether it is a constraint, and then its relation, the places
+// What reading a constraint line gives: whether the stored have room for it, whether it is a constraint, and then its relation, the places
 // of the last nodes of its sides, the numbers of nodes and of `first`s stored so far, and whether an integer in it is beyond the bound.
 pub struct ConstraintRead {
     pub fits: bool,
@@ -64,13 +66,6 @@ fn nothing() -> Read
         firsts: 0,
         beyond: false,
     }
-}
-
-// Whether one of both holds; both are known, so that no branch is needed.
-fn either(left: bool, right: bool) -> bool
-    ensures { λ r. ⌜ r ≡ left || right ⌝ }
-{
-    left | right
 }
 
 // The answer where no constraint was read.
@@ -108,7 +103,7 @@ fn put(
     start: usize,
 )
     requires { ⌜ (at < 1024) × (start ≤ at) ⌝ }
-    ensures { λ r. ⌜ arrays (now (kinds .exit)) (now (values .exit)) (now (starts .exit)) ≡ store (arrays (now (kinds .entry)) (now (values .entry)) (now (starts .entry))) at (node kind value start ∷ []) ⌝ }
+    ensures { λ r. ⌜ stored (now (kinds .exit)) (now (values .exit)) (now (starts .exit)) ≡ store (stored (now (kinds .entry)) (now (values .entry)) (now (starts .entry))) at (node kind value start ∷ []) ⌝ }
 {
     kinds[at] = kind;
     values[at] = value;
@@ -127,7 +122,7 @@ fn leaf(
     firsts: usize,
 ) -> Read
     requires { ⌜ nodes < 1024 ⌝ }
-    ensures { λ r. ⌜ LeafReading (tokens (now (names .entry))) (now (word .entry)) next (arrays (now (kinds .entry)) (now (values .entry)) (now (starts .entry))) (arrays (now (kinds .exit)) (now (values .exit)) (now (starts .exit))) nodes firsts r ⌝ }
+    ensures { λ r. ⌜ LeafReading (tokens (now (names .entry))) (now (word .entry)) next (stored (now (kinds .entry)) (now (values .entry)) (now (starts .entry))) (stored (now (kinds .exit)) (now (values .exit)) (now (starts .exit))) nodes firsts r ⌝ }
 {
     let integer = scan::read_integer(word);
     if integer.ok {
@@ -163,7 +158,11 @@ fn firsts_inside(kind: u8, firsts: usize) -> usize
     requires { ⌜ firsts < 2048 ⌝ }
     ensures { λ r. ⌜ r ≡ firstsInside kind firsts ⌝ }
 {
-    if kind == 2 { firsts + 1 } else { firsts }
+    if kind == nodes::FIRST_NODE {
+        firsts + 1
+    } else {
+        firsts
+    }
 }
 
 // The value of the node of `first`, `next` or `not`.
@@ -171,7 +170,11 @@ fn prefix_value(kind: u8, firsts: usize) -> i64
     requires { ⌜ firsts < 2048 ⌝ }
     ensures { λ r. ⌜ r ≡ prefixValue kind firsts ⌝ }
 {
-    if kind == 2 { value_of(firsts) } else { 0 }
+    if kind == nodes::FIRST_NODE {
+        value_of(firsts)
+    } else {
+        0
+    }
 }
 
 // The token with the number `at`, where `token_starts` holds the places of the line at which its tokens begin, and the text is the part of
@@ -199,7 +202,7 @@ fn token_at(text: &[u8], origin: usize, token_starts: &[usize], at: usize) -> Nu
 fn firsts_before(kind: u8, firsts: usize) -> usize
     ensures { λ r. ⌜ r ≡ firstsBefore kind firsts ⌝ }
 {
-    if kind != 2 {
+    if kind != nodes::FIRST_NODE {
         return firsts;
     }
     if firsts == 0 {
@@ -228,7 +231,7 @@ fn pass_prefixes(
         let start = token.start;
         let end = token.end;
         let kind = scan::prefix_code(&text[start..end]);
-        if kind == 255 {
+        if kind == nodes::NO_CODE {
             return Passed {
                 at: number,
                 firsts: inside,
@@ -257,7 +260,7 @@ fn put_prefixes(
     requires { ⌜ Placed (now text) origin (now «token_starts») at ⌝ }
     requires { ⌜ Passes (tokensFrom (now text) origin (now «token_starts»)) at firsts (passed .at) (passed .firsts) ⌝ }
     requires { ⌜ (nodes ≤ inner .nodes) × (inner .nodes + passed .at ≤ 1024 + at) × (firsts + length (tokensFrom (now text) origin (now «token_starts») at) ≤ 2048) ⌝ }
-    ensures { λ r. ⌜ Leads (tokensFrom (now (text .entry)) origin (now («token_starts» .entry))) nodes (passed .at) (passed .firsts) (arrays (now (kinds .entry)) (now (values .entry)) (now (starts .entry))) inner at firsts (arrays (now (kinds .exit)) (now (values .exit)) (now (starts .exit))) r ⌝ }
+    ensures { λ r. ⌜ Leads (tokensFrom (now (text .entry)) origin (now («token_starts» .entry))) nodes (passed .at) (passed .firsts) (stored (now (kinds .entry)) (now (values .entry)) (now (starts .entry))) inner at firsts (stored (now (kinds .exit)) (now (values .exit)) (now (starts .exit))) r ⌝ }
 {
     let mut number = passed.at;
     let mut inside = passed.firsts;
@@ -298,8 +301,8 @@ fn part(
     firsts: usize,
 ) -> Read
     requires { ⌜ Placed (now text) origin (now «token_starts») at ⌝ }
-    requires { ⌜ Room (tokensFrom (now text) origin (now «token_starts») at) nodes firsts ⌝ }
-    ensures { λ r. ⌜ Reading (partTo (tokens (now (names .entry)))) (tokensFrom (now (text .entry)) origin (now («token_starts» .entry))) at (arrays (now (kinds .entry)) (now (values .entry)) (now (starts .entry))) (arrays (now (kinds .exit)) (now (values .exit)) (now (starts .exit))) nodes firsts r ⌝ }
+    requires { ⌜ LineFits (tokensFrom (now text) origin (now «token_starts») at) nodes firsts ⌝ }
+    ensures { λ r. ⌜ Reading (partTo (tokens (now (names .entry)))) (tokensFrom (now (text .entry)) origin (now («token_starts» .entry))) at (stored (now (kinds .entry)) (now (values .entry)) (now (starts .entry))) (stored (now (kinds .exit)) (now (values .exit)) (now (starts .exit))) nodes firsts r ⌝ }
 {
     let token = token_at(text, origin, token_starts, at);
     let start = token.start;
@@ -309,7 +312,7 @@ fn part(
     }
     let word = &text[start..end];
     let kind = scan::prefix_code(word);
-    if kind != 255 {
+    if kind != nodes::NO_CODE {
         let inside = firsts_inside(kind, firsts);
         let passed = pass_prefixes(text, origin, token_starts, token.next, inside);
         let inner = part(
@@ -402,8 +405,8 @@ fn conditional(
     firsts: usize,
 ) -> Read
     requires { ⌜ Placed (now text) origin (now «token_starts») at ⌝ }
-    requires { ⌜ Room (tokensFrom (now text) origin (now «token_starts») at) nodes firsts ⌝ }
-    ensures { λ r. ⌜ Reading (λ d. conditionalBy (partTo (tokens (now (names .entry))) d)) (tokensFrom (now (text .entry)) origin (now («token_starts» .entry))) at (arrays (now (kinds .entry)) (now (values .entry)) (now (starts .entry))) (arrays (now (kinds .exit)) (now (values .exit)) (now (starts .exit))) nodes firsts r ⌝ }
+    requires { ⌜ LineFits (tokensFrom (now text) origin (now «token_starts») at) nodes firsts ⌝ }
+    ensures { λ r. ⌜ Reading (λ d. conditionalBy (partTo (tokens (now (names .entry))) d)) (tokensFrom (now (text .entry)) origin (now («token_starts» .entry))) at (stored (now (kinds .entry)) (now (values .entry)) (now (starts .entry))) (stored (now (kinds .exit)) (now (values .exit)) (now (starts .exit))) nodes firsts r ⌝ }
 {
     let condition = part(
         names,
@@ -487,8 +490,8 @@ fn expression(
     firsts: usize,
 ) -> Read
     requires { ⌜ Placed (now text) origin (now «token_starts») at ⌝ }
-    requires { ⌜ Room (tokensFrom (now text) origin (now «token_starts») at) nodes firsts ⌝ }
-    ensures { λ r. ⌜ Reading (λ d. expressionBy (partTo (tokens (now (names .entry))) d)) (tokensFrom (now (text .entry)) origin (now («token_starts» .entry))) at (arrays (now (kinds .entry)) (now (values .entry)) (now (starts .entry))) (arrays (now (kinds .exit)) (now (values .exit)) (now (starts .exit))) nodes firsts r ⌝ }
+    requires { ⌜ LineFits (tokensFrom (now text) origin (now «token_starts») at) nodes firsts ⌝ }
+    ensures { λ r. ⌜ Reading (λ d. expressionBy (partTo (tokens (now (names .entry))) d)) (tokensFrom (now (text .entry)) origin (now («token_starts» .entry))) at (stored (now (kinds .entry)) (now (values .entry)) (now (starts .entry))) (stored (now (kinds .exit)) (now (values .exit)) (now (starts .exit))) nodes firsts r ⌝ }
 {
     let token = token_at(text, origin, token_starts, at);
     let start = token.start;
@@ -526,7 +529,7 @@ fn expression(
     let sign_start = sign.start;
     let sign_end = sign.end;
     let kind = scan::operator_code(&text[sign_start..sign_end]);
-    if kind == 255 {
+    if kind == nodes::NO_CODE {
         return left;
     }
     let right = part(
@@ -570,7 +573,7 @@ fn sides(
 ) -> ConstraintRead
     requires { ⌜ Fits (now line) nodes firsts ⌝ }
     requires { ⌜ (nodes ≤ last) × (last ≤ length (now «all_starts»)) × (between (now «all_starts») nodes last ≡ tokenStarts (now line)) ⌝ }
-    ensures { λ r. ⌜ ConstraintOutcome (now (names .entry)) (now (line .entry)) nodes firsts (arrays (now (kinds .entry)) (now (values .entry)) (now (starts .entry))) (arrays (now (kinds .exit)) (now (values .exit)) (now (starts .exit))) r ⌝ }
+    ensures { λ r. ⌜ ConstraintOutcome (now (names .entry)) (now (line .entry)) nodes firsts (stored (now (kinds .entry)) (now (values .entry)) (now (starts .entry))) (stored (now (kinds .exit)) (now (values .exit)) (now (starts .exit))) r ⌝ }
 {
     let token_starts = &all_starts[nodes..last];
     let left = expression(
@@ -671,7 +674,7 @@ pub fn parse_constraint(
     firsts: usize,
 ) -> ConstraintRead
     ensures { λ r. ⌜ StartsOutcome (now (line .entry)) from firsts (now («token_starts» .entry)) (now («token_starts» .exit)) ⌝ }
-    ensures { λ r. ⌜ ConstraintOutcome (now (names .entry)) (now (line .entry)) from firsts (arrays (now (kinds .entry)) (now (values .entry)) (now (starts .entry))) (arrays (now (kinds .exit)) (now (values .exit)) (now (starts .exit))) r ⌝ }
+    ensures { λ r. ⌜ ConstraintOutcome (now (names .entry)) (now (line .entry)) from firsts (stored (now (kinds .entry)) (now (values .entry)) (now (starts .entry))) (stored (now (kinds .exit)) (now (values .exit)) (now (starts .exit))) r ⌝ }
 {
     if 1024 < from {
         return unread(false);

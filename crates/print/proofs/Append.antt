@@ -8,7 +8,7 @@ use lib.Dec.{leb}
 use lib.ListN.{length, length-append}
 use lib.Seq.{sets}
 use borrow.Author.Tests.{leb-true, leb-false}
-use Rattle.meaning.proofs.Lists.{sets-append}
+use Rattle.basics.proofs.Lists.{sets-append}
 use Rattle.print.specs.Append.{Appends}
 
 pub appends-nothing : {at : ℕ} {out : List ℕ} → at ≤ suc (length out) → Appends at [] out out at

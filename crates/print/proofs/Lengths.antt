@@ -14,7 +14,7 @@ use mir.Val.{SFits}
 use Rattle.meaning.specs.Letter.{Letter, IsLetter, none, more, letterCount, letterOf}
 use Rattle.meaning.proofs.Letter.{letterOf-letter}
 use Rattle.nodes.proofs.Record.{letter-length}
-use Rattle.automaton.specs.Table.{no-state}
+use Rattle.automaton.specs.Table.{noState}
 use Rattle.letters.specs.Described.{described}
 use Rattle.letters.proofs.Above.{between-fits}
 use Rattle.print.specs.Text.{digits, decimal, spaced, headingLine, entryLine, refusalLine}
@@ -109,7 +109,7 @@ letter-fits [] highs [] f g none = tt
 letter-fits (a ∷ lows) [] [] f g none = tt
 letter-fits (a ∷ lows) (b ∷ highs) (v ∷ l) f g (more w m) = (between-fits a v b (f .0) (g .0) (w .above) (w .below), letter-fits lows highs l (f .1) (g .1) m)
 
-pub place-length : (lows highs : List ℤ) (entries finals : List ℕ) (place : ℕ) → AllFit lows → AllFit highs → getD entries place no-state < 65536
+pub place-length : (lows highs : List ℤ) (entries finals : List ℕ) (place : ℕ) → AllFit lows → AllFit highs → getD entries place noState < 65536
     → ((state : ℕ) → getD finals state 0 < 256) → place < 18446744073709551616 → length (placeText lows highs entries finals place) ≤ 256
 place-length lows highs entries finals place f g e b p =
     let ss = described lows highs in
@@ -119,5 +119,5 @@ place-length lows highs entries finals place f g e b p =
     let m = letterOf-letter ss n (found ss n h .1 .0) in
     let k = letter-length m in
     let q = found ss n h .1 .1 in
-    entry-length (place / letterCount ss) (getD finals (place / letterCount ss) 0) (letterOf ss n) (getD entries place no-state) (omega arith) (b (place / letterCount ss))
+    entry-length (place / letterCount ss) (getD finals (place / letterCount ss) 0) (letterOf ss n) (getD entries place noState) (omega arith) (b (place / letterCount ss))
     (letter-fits lows highs (letterOf ss n) f g m) (omega arith) e

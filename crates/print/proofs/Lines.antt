@@ -15,7 +15,7 @@ use mir.Val.{SFits}
 use mir.ValLaws.{toZ-ofZ}
 use Rattle.text.specs.Bytes.{Token, bytesOf}
 use Rattle.arithmetic.proofs.Machine.{held, number-negative, number-natural}
-use Rattle.print.specs.Text.{digits, decimal, spaced, line, headingLine, entryLine, refusalLine}
+use Rattle.print.specs.Text.{digits, decimal, spaced, headingLine, entryLine, refusalLine}
 
 -- ---- one integer
 

@@ -15,7 +15,7 @@ use Rattle.meaning.specs.Letter.{letterCount, letterOf}
 use Rattle.meaning.proofs.Letter.{letterOf-letter}
 use Rattle.nodes.proofs.Record.{letter-length}
 use Rattle.sheet.specs.Refusal.{letterBound}
-use Rattle.automaton.specs.Table.{no-state}
+use Rattle.automaton.specs.Table.{noState}
 use Rattle.letters.specs.Described.{described, cutCount, hasLetter, withLetter}
 use Rattle.letters.proofs.Counts.{length-described}
 use Rattle.print.specs.Text.{entryLine}
@@ -52,38 +52,38 @@ module _ (lows highs : List ℤ) (entries finals : List ℕ) (place : ℕ) where
 
   -- The entry of the place's state and letter is the one at the place.
   abbrev lineAt : ℕ → List ℕ
-  lineAt next = cond (eqb next no-state) [] (entryLine (place / count) (getD finals (place / count) 0) (letterOf streams (place % count)) next)
+  lineAt next = cond (eqb next noState) [] (entryLine (place / count) (getD finals (place / count) 0) (letterOf streams (place % count)) next)
 
-  entry-at : entryText streams entries finals (place / count) (place % count) ≡ lineAt (getD entries place no-state)
-  entry-at = ap (λ p. lineAt (getD entries p no-state)) (div-add-mod' place count)
+  entry-at : entryText streams entries finals (place / count) (place % count) ≡ lineAt (getD entries place noState)
+  entry-at = ap (λ p. lineAt (getD entries p noState)) (div-add-mod' place count)
 
   -- The text is nothing, or the line of the entry.
   pub place-cases : (P : List ℕ → Type 0) → P []
-      → (hasLetter streams (place % count) 8 ≡ true → P (entryLine (place / count) (getD finals (place / count) 0) (letterOf streams (place % count)) (getD entries place no-state)))
+      → (hasLetter streams (place % count) 8 ≡ true → P (entryLine (place / count) (getD finals (place / count) 0) (letterOf streams (place % count)) (getD entries place noState)))
       → P (placeText lows highs entries finals place)
   unfolding placeText
   place-cases P nothing line = by (hasLetter streams (place % count) 8) refl
     where
-      at : hasLetter streams (place % count) 8 ≡ true → (u : Bool) → eqb (getD entries place no-state) no-state ≡ u → P (lineAt (getD entries place no-state))
+      at : hasLetter streams (place % count) 8 ≡ true → (u : Bool) → eqb (getD entries place noState) noState ≡ u → P (lineAt (getD entries place noState))
       at h true e = rw e nothing
       at h false e = rw e (line h)
 
       by : (t : Bool) → hasLetter streams (place % count) 8 ≡ t → P (cond (hasLetter streams (place % count) 8) (entryText streams entries finals (place / count) (place % count)) [])
       by true h =
-          subst P (sym (ap (λ t. cond t (entryText streams entries finals (place / count) (place % count)) []) h ∙ entry-at)) (at h (eqb (getD entries place no-state) no-state) refl)
+          subst P (sym (ap (λ t. cond t (entryText streams entries finals (place / count) (place % count)) []) h ∙ entry-at)) (at h (eqb (getD entries place noState) noState) refl)
       by false h = subst P (sym (ap (λ t. cond t (entryText streams entries finals (place / count) (place % count)) []) h)) nothing
 
-  no-entry : getD entries place no-state ≡ no-state → placeText lows highs entries finals place ≡ []
+  no-entry : getD entries place noState ≡ noState → placeText lows highs entries finals place ≡ []
   unfolding placeText
   no-entry e =
-      ap (λ l. cond (hasLetter streams (place % count) 8) l []) (entry-at ∙ ap (λ t. cond t [] (entryLine (place / count) (getD finals (place / count) 0) (letterOf streams (place % count)) (getD entries place no-state))) (eq-eqb (getD entries place no-state) no-state e))
+      ap (λ l. cond (hasLetter streams (place % count) 8) l []) (entry-at ∙ ap (λ t. cond t [] (entryLine (place / count) (getD finals (place / count) 0) (letterOf streams (place % count)) (getD entries place noState))) (eq-eqb (getD entries place noState) noState e))
       ∙ both-empty (hasLetter streams (place % count) 8)
 
   pub nothing-beyond : length entries ≤ place → placeText lows highs entries finals place ≡ []
-  nothing-beyond h = no-entry (List·getD-eq-default entries no-state h)
+  nothing-beyond h = no-entry (List·getD-eq-default entries noState h)
 
   pub nothing-there : place < length entries → getD entries place 0 ≡ 65535 → placeText lows highs entries finals place ≡ []
-  nothing-there h e = no-entry (getD-inside entries place no-state 0 h ∙ e)
+  nothing-there h e = no-entry (getD-inside entries place noState 0 h ∙ e)
 
   no-letter : hasLetter streams (place % count) 8 ≡ false → placeText lows highs entries finals place ≡ []
   unfolding placeText
@@ -121,8 +121,8 @@ module _ (lows highs : List ℤ) (entries finals : List ℕ) (place : ℕ) where
           let t : hasLetter streams (place % count) 8 ≡ true = ap (λ c. hasLetter streams (place % c) 8) (sym x) ∙ h in
           ap₂ (λ y z. entryLine (place / n) y z next) f v
           ∙ ap (λ c. entryLine (place / c) (getD finals (place / c) 0) (letterOf streams (place % c)) next) x
-          ∙ sym (ap (λ u. cond u [] (entryLine (place / count) (getD finals (place / count) 0) (letterOf streams (place % count)) next)) (ne-eqb next no-state b))
-          ∙ ap lineAt (getD-inside entries place 0 no-state a) ∙ sym entry-at
+          ∙ sym (ap (λ u. cond u [] (entryLine (place / count) (getD finals (place / count) 0) (letterOf streams (place % count)) next)) (ne-eqb next noState b))
+          ∙ ap lineAt (getD-inside entries place 0 noState a) ∙ sym entry-at
           ∙ sym (ap (λ u. cond u (entryText streams entries finals (place / count) (place % count)) []) t)
 
     pub no-values : hasLetter streams (place % n) 8 ≡ false → placeText lows highs entries finals place ≡ []

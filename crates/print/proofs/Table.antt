@@ -14,7 +14,7 @@ use Rattle.meaning.specs.Letter.{letterCount}
 use Rattle.meaning.specs.Window.{joinOver}
 use Rattle.sheet.specs.Refusal.{letterBound}
 use Rattle.nodes.specs.Bounds.{lowsOf, highsOf}
-use Rattle.automaton.specs.Table.{no-state}
+use Rattle.automaton.specs.Table.{noState}
 use Rattle.letters.specs.Described.{hasLetter}
 use Rattle.letters.proofs.Counts.{length-described}
 use Rattle.letters.proofs.Streams.{unnamed, letterCount-unnamed, letterOf-unnamed}
@@ -26,7 +26,7 @@ module _ (ss : List Stream) (entries finals : List ℕ) (few : length ss ≤ 8) 
   -- The streams' names have no part in an entry's text.
   entry-unnamed : (state letter : ℕ) → entryText (unnamed ss) entries finals state letter ≡ entryText ss entries finals state letter
   entry-unnamed state letter =
-      ap₂ (λ n l. cond (eqb (getD entries (state * n + letter) no-state) no-state) [] (entryLine state (getD finals state 0) l (getD entries (state * n + letter) no-state))) (letterCount-unnamed ss)
+      ap₂ (λ n l. cond (eqb (getD entries (state * n + letter) noState) noState) [] (entryLine state (getD finals state 0) l (getD entries (state * n + letter) noState))) (letterCount-unnamed ss)
       (letterOf-unnamed ss letter)
 
   has-letter : (letter : ℕ) → letter < letterCount ss → hasLetter (unnamed ss) letter 8 ≡ true

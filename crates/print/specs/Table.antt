@@ -10,15 +10,15 @@ use mir.Val.{SFits}
 use Rattle.text.specs.Bytes.{Token}
 use Rattle.meaning.specs.Expression.{Stream}
 use Rattle.meaning.specs.Letter.{letterCount, letterOf}
-use Rattle.automaton.specs.Table.{no-state}
+use Rattle.automaton.specs.Table.{noState}
 use Rattle.letters.specs.Described.{described, hasLetter}
 use Rattle.print.specs.Text.{headingLine, entryLine}
 
 -- "a line for each entry that is not 65,535": the line of a letter's entry, or nothing. No table has a row beyond its entries.
 abbrev pub entryText : List Stream → List ℕ → List ℕ → ℕ → ℕ → List ℕ
 entryText ss entries finals state letter =
-    let next = getD entries (state * letterCount ss + letter) no-state in
-    cond (eqb next no-state) [] (entryLine state (getD finals state 0) (letterOf ss letter) next)
+    let next = getD entries (state * letterCount ss + letter) noState in
+    cond (eqb next noState) [] (entryLine state (getD finals state 0) (letterOf ss letter) next)
 
 -- "by state and letter": the lines of a state's first letters, and of the first states.
 unfoldable pub rowText : List Stream → List ℕ → List ℕ → ℕ → ℕ → List ℕ

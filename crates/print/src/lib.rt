@@ -1,6 +1,6 @@
 // Writes the lines that `sluice` prints to lent bytes: the heading, the line of an entry, and the line of a refusal. An answer is how many
 // bytes the line takes, or one more than the lent bytes where it has no room there.
-use arithmetic::fewer;
+use basics::fewer;
 ghost use mathlib.Core.Path.{_≡_};
 ghost use mathlib.Core.List.{[], _∷_, _++_, map};
 ghost use Prim.Native.Nat.{suc, _+_, _<_, _≤_, min};

@@ -7,15 +7,15 @@ use mathlib.Core.Option.{Option, none}
 use native.Mathlib.Omega.{arith}
 use lib.IntN.{pos}
 use lib.ListN.{length, length-map}
+use Rattle.nodes.specs.Evaluate.{stored}
 use Rattle.text.specs.Bytes.{Token, lines, tokens}
-use Rattle.meaning.specs.Arithmetic.{cutTowardZero}
 use Rattle.meaning.specs.Expression.{Constraint, Sheet}
 use Rattle.meaning.specs.Window.{allFirsts, allUntils}
 use Rattle.nodes.specs.Postfix.{Node, StoredConstraint, allNodes, storedConstraints, kindsOf, valuesOf, startsOf}
 use Rattle.sheet.specs.Form.{namesOf}
 use Rattle.sheet.specs.Refusal.{Answer, refused, sheet}
 use Rattle.sheet.specs.Reading.{anyOf, isIntegerBeyond, allExpressions, sidesBelow, refuses4, refuses5, refuses6, refuses7, answerToSheet, answerToForm}
-use Rattle.parse.specs.Stored.{arrays, store}
+use Rattle.parse.specs.Stored.{store}
 use Rattle.parse.specs.Bounded.{boundedConstraint}
 use Rattle.reader.specs.Constraints.{State, state, counts, LinesFit, ConstraintsOutcome}
 use Rattle.refusals.specs.Names.{namesRefused, formRefusal}
@@ -32,17 +32,17 @@ use Rattle.reader.proofs.Form.{StreamsFound, streams-found, streams-nam
 
 -- ---- refusal 3
 
-formless : {o : Option Sheet} → o ≡ none → refusedReading 3 ≡ readingOf (answerToForm cutTowardZero o)
-formless e = sym (ap (λ o. readingOf (answerToForm cutTowardZero o)) e)
+formless : {o : Option Sheet} → o ≡ none → refusedReading 3 ≡ readingOf (answerToForm o)
+formless e = sym (ap (λ o. readingOf (answerToForm o)) e)
 
-pub no-streams-reading : {names lows highs : List Token} {r : StreamsRead} {tables : StreamTables} (ls : List (List ℕ)) → StreamsOutcome names lows highs r tables → r .ok ≡ false → refusedReading 3 ≡ readingOf (answerToForm cutTowardZero (formOfLines names lows highs ls))
+pub no-streams-reading : {names lows highs : List Token} {r : StreamsRead} {tables : StreamTables} (ls : List (List ℕ)) → StreamsOutcome names lows highs r tables → r .ok ≡ false → refusedReading 3 ≡ readingOf (answerToForm (formOfLines names lows highs ls))
 no-streams-reading ls o h = formless (form-no-streams ls o h)
 
 module _ {names lows highs : List Token} {r : StreamsRead} {tables : StreamTables} (o : StreamsOutcome names lows highs r tables) (h : r .ok ≡ true) where
-  pub no-stream-reading : (ls : List (List ℕ)) → r .count ≡ 0 → refusedReading 3 ≡ readingOf (answerToForm cutTowardZero (formOfLines names lows highs ls))
+  pub no-stream-reading : (ls : List (List ℕ)) → r .count ≡ 0 → refusedReading 3 ≡ readingOf (answerToForm (formOfLines names lows highs ls))
   no-stream-reading ls e = formless (form-empty (streams-found o h) ls e)
 
-  no-constraints-reading : {ls : List (List ℕ)} {new : State} → (r .count ≡ 0 → ⊥) → ConstraintsOutcome names ls noConstraints new → new .counts .ok ≡ false → refusedReading 3 ≡ readingOf (answerToForm cutTowardZero (formOfLines names lows highs ls))
+  no-constraints-reading : {ls : List (List ℕ)} {new : State} → (r .count ≡ 0 → ⊥) → ConstraintsOutcome names ls noConstraints new → new .counts .ok ≡ false → refusedReading 3 ≡ readingOf (answerToForm (formOfLines names lows highs ls))
   no-constraints-reading n q k = formless (form-no-constraints (streams-found o h) n q refl k)
 
 -- ---- lines of the form
@@ -58,13 +58,13 @@ module _ (cs : List Constraint) (few-nodes : length (allNodes 0 0 (map boundedCo
   rows-length : length rows ≡ length cs
   rows-length = stored-length 0 0 (map boundedConstraint cs) ∙ length-map cs boundedConstraint
 
-  stored-nodes : withAll noConstraints cs .nodes ≡ arrays (padded 1024 0 (kindsOf nodes)) (padded 1024 (pos 0) (valuesOf nodes)) (padded 1024 0 (startsOf nodes))
+  stored-nodes : withAll noConstraints cs .nodes ≡ stored (padded 1024 0 (kindsOf nodes)) (padded 1024 (pos 0) (valuesOf nodes)) (padded 1024 0 (startsOf nodes))
   unfolding store
   stored-nodes =
       let kinds = sets-padded 0 1024 (kindsOf nodes) (omega (arith, length-map nodes (λ x. x .kind))) in
       let values = sets-padded (pos 0) 1024 (valuesOf nodes) (omega (arith, length-map nodes (λ x. x .value))) in
       let starts = sets-padded 0 1024 (startsOf nodes) (omega (arith, length-map nodes (λ x. x .start))) in
-      withAll-nodes noConstraints cs ∙ (λ i. arrays (kinds i) (values i) (starts i))
+      withAll-nodes noConstraints cs ∙ (λ i. stored (kinds i) (values i) (starts i))
 
   stored-counts : withAll noConstraints cs .counts ≡ counts (length cs) (length nodes) (length (allFirsts (map boundedConstraint cs))) (length (allUntils (map boundedConstraint cs))) (anyOf isIntegerBeyond (allExpressions cs))
   stored-counts =
@@ -91,14 +91,14 @@ record FormFound (namesLine lowsLine highsLine text : List ℕ) (r : StreamsRead
   constraints : ConstraintsFound (tokens namesLine) (lines text) noConstraints new
 
 abbrev linesAnswer : List ℕ → List ℕ → List ℕ → List ℕ → Answer
-linesAnswer namesLine lowsLine highsLine text = answerToForm cutTowardZero (formOfLines (tokens namesLine) (tokens lowsLine) (tokens highsLine) (lines text))
+linesAnswer namesLine lowsLine highsLine text = answerToForm (formOfLines (tokens namesLine) (tokens lowsLine) (tokens highsLine) (lines text))
 
 module _ {namesLine lowsLine highsLine text : List ℕ} {r : StreamsRead} {tables : StreamTables} {new : State} (F : FormFound namesLine lowsLine highsLine text r tables new) where
   abbrev found : Sheet
   found = record { streams = F .streams .all; constraints = F .constraints .all }
 
-  answer-is : linesAnswer namesLine lowsLine highsLine text ≡ answerToSheet cutTowardZero found
-  answer-is = ap (answerToForm cutTowardZero) (form-sheet (F .streams) (F .someStream) (F .constraints))
+  answer-is : linesAnswer namesLine lowsLine highsLine text ≡ answerToSheet found
+  answer-is = ap (answerToForm) (form-sheet (F .streams) (F .someStream) (F .constraints))
 
   names-are : namesOf (found .streams) ≡ tokens namesLine
   names-are = streams-names (tokens namesLine) (tokens lowsLine) (tokens highsLine) (F .streams .form)
@@ -107,7 +107,7 @@ module _ {namesLine lowsLine highsLine text : List ℕ} {r : StreamsRead} {table
   unfolding namesRefused refuses4 answerToSheet
   names-reading h =
       let named : namesRefused (namesOf (found .streams)) ≡ true = ap namesRefused names-are ∙ h in
-      sym (ap readingOf (answer-is ∙ ap (λ b. cond b (refused 4) (cond (refuses5 found) (refused 5) (cond (refuses6 cutTowardZero found) (refused 6) (cond (refuses7 found) (refused 7) (sheet found))))) (ap (λ b. b || anyOf (λ c. not (sidesBelow (length (found .streams)) c)) (found .constraints)) named)))
+      sym (ap readingOf (answer-is ∙ ap (λ b. cond b (refused 4) (cond (refuses5 found) (refused 5) (cond (refuses6 found) (refused 6) (cond (refuses7 found) (refused 7) (sheet found))))) (ap (λ b. b || anyOf (λ c. not (sidesBelow (length (found .streams)) c)) (found .constraints)) named)))
 
   found-held : namesRefused (tokens namesLine) ≡ false → Held found r tables new
   found-held h =

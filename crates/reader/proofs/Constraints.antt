@@ -2,11 +2,12 @@
 use Prim.Native.Nat.{ℕ, _+_, _-_, _≤_, _<_}
 use mathlib.Core.Path.{_≡_, refl, sym, ap, ap₂, subst, _∙_}
 use mathlib.Core.Bool.{Bool, true, false, cond, _||_}
-use mathlib.Core.List.{List, [], _∷_, _++_}
-use mathlib.Core.Option.{Option, some, none}
+use mathlib.Core.List.{List, _++_}
+use mathlib.Core.Option.{some, none}
 use native.Mathlib.Omega.{arith}
 use lib.Dec.{T, eqb}
 use lib.ListN.{length, drop, set, length-append}
+use Rattle.nodes.specs.Evaluate.{Nodes}
 use Rattle.text.specs.Bytes.{lines, tokens}
 use Rattle.meaning.specs.Expression.{Constraint, leftSide, rightSide}
 use Rattle.meaning.specs.Window.{firsts, sideFirsts}
@@ -16,9 +17,9 @@ use Rattle.sheet.specs.Parser.{andThen, parseConstraint}
 use Rattle.scan.specs.Place.{between, LineAt}
 use Rattle.scan.specs.declared.LineSpan.{LineSpan}
 use Rattle.scan.proofs.Lines.{line-within}
-use Rattle.parse.specs.Stored.{Arrays, store}
-use Rattle.parse.specs.Bounded.{boundedConstraint, constraintBeyond}
-use Rattle.parse.specs.Reading.{unread, constraintRead, Fits, ConstraintOutcome, isTooLong, isNoConstraint, isRead}
+use Rattle.parse.specs.Stored.{store}
+use Rattle.parse.specs.Bounded.{boundedConstraint}
+use Rattle.parse.specs.Reading.{constraintRead, Fits, ConstraintOutcome, isTooLong, isNoConstraint, isRead}
 use Rattle.parse.specs.declared.ConstraintRead.{ConstraintRead}
 use Rattle.parse.proofs.Outcome.{Few, constraint-few}
 use Rattle.reader.specs.Constraints.{State, state, counts, withConstraint, readAll, LinesFit, ConstraintsOutcome, noForm, areRead}
@@ -26,18 +27,18 @@ use Rattle.refusals.proofs.Lines.{line-lines, lines-past}
 
 -- ---- one line
 
-pub record LineRead (names line : List ℕ) (n f : ℕ) (old new : Arrays) (r : ConstraintRead) : Type 0 where
+pub record LineRead (names line : List ℕ) (n f : ℕ) (old new : Nodes) (r : ConstraintRead) : Type 0 where
   pub tree : Constraint
   pub parsed : parseConstraint (tokens names) (tokens line) ≡ some tree
   pub gives : r ≡ constraintRead n f tree
   pub stored : new ≡ store old n (sideNodes n f (boundedConstraint tree))
 
-pub line-read : {names line : List ℕ} {n f : ℕ} {old new : Arrays} {r : ConstraintRead} → ConstraintOutcome names line n f old new r → r .ok ≡ true → LineRead names line n f old new r
+pub line-read : {names line : List ℕ} {n f : ℕ} {old new : Nodes} {r : ConstraintRead} → ConstraintOutcome names line n f old new r → r .ok ≡ true → LineRead names line n f old new r
 line-read (isTooLong x e y) h = absurd (subst T (sym h ∙ ap (λ z. z .ok) e) tt)
 line-read (isNoConstraint x p e y) h = absurd (subst T (sym h ∙ ap (λ z. z .ok) e) tt)
 line-read (isRead {c} x p e y) h = record { tree = c; parsed = p; gives = e; stored = y }
 
-pub line-missing : {names line : List ℕ} {n f : ℕ} {old new : Arrays} {r : ConstraintRead} → ConstraintOutcome names line n f old new r → Fits line n f → r .ok ≡ false → parseConstraint (tokens names) (tokens line) ≡ none
+pub line-missing : {names line : List ℕ} {n f : ℕ} {old new : Nodes} {r : ConstraintRead} → ConstraintOutcome names line n f old new r → Fits line n f → r .ok ≡ false → parseConstraint (tokens names) (tokens line) ≡ none
 line-missing (isTooLong x e y) k h = absurd (x k)
 line-missing (isNoConstraint x p e y) k h = p
 line-missing (isRead x p e y) k h = absurd (subst T (sym (ap (λ z. z .ok) e) ∙ h) tt)
@@ -52,7 +53,7 @@ pub record SoFar (names text : List ℕ) (old s : State) (at : ℕ) : Type 0 whe
   pub count : s .counts .count + length (lines (drop at text)) ≤ 32
   pub untils : s .counts .untils ≤ s .counts .count
 
-pub sofar-start : (names text : List ℕ) (a : Arrays) (p l r : List ℕ) → LinesFit (lines text) → SoFar names text (state a p l r (counts 0 0 0 0 false)) (state a p l r (counts 0 0 0 0 false)) 0
+pub sofar-start : (names text : List ℕ) (a : Nodes) (p l r : List ℕ) → LinesFit (lines text) → SoFar names text (state a p l r (counts 0 0 0 0 false)) (state a p l r (counts 0 0 0 0 false)) 0
 sofar-start names text a p l r h =
     let t = h .tokens in
     let c = h .count in
@@ -93,7 +94,7 @@ module _ {names text : List ℕ} {old s : State} {at : ℕ} {l : LineSpan} (k : 
   sofar-missing p e =
       noForm (k .same ∙ ap (readAll (tokens names) s) (line-lines found h) ∙ ap (λ o. andThen o (λ c. readAll (tokens names) (withConstraint s c) rest)) p) e
 
-  module _ {new : Arrays} {r : ConstraintRead} (d : LineRead names line n f (s .nodes) new r) where
+  module _ {new : Nodes} {r : ConstraintRead} (d : LineRead names line n f (s .nodes) new r) where
     abbrev c : Constraint
     c = d .tree
 

@@ -15,10 +15,11 @@ use lib.Signed.{ltZ, nonNeg}
 use mir.Syntax.{w64}
 use mir.Val.{SFits, Fits}
 use mir.ValLaws.{toZ-ofZ}
+use Rattle.basics.proofs.Lists.{All-append, All-getD, getD-map, sets-append}
+use Rattle.basics.specs.Lists.{All}
 use Rattle.meaning.specs.Expression.{Expression, integer, name, first, next, negation, binary, conditional, fby, Constraint, leftSide, rightSide}
 use Rattle.meaning.specs.Interval.{subexpressions}
 use Rattle.meaning.specs.Window.{firsts, sideFirsts, allFirsts}
-use Rattle.meaning.proofs.Lists.{All, All-append, All-getD, getD-map}
 use Rattle.nodes.specs.Code.{operatorCode}
 use Rattle.nodes.specs.Postfix.{Node, node, postfix, allNodes, kindsOf, valuesOf}
 use Rattle.nodes.specs.FirstPlaces.{firstPlaces, allFirstPlaces}
@@ -27,7 +28,6 @@ use Rattle.nodes.proofs.FirstPlaces.{places-long, allPlaces-long}
 use Rattle.arithmetic.proofs.Machine.{held, number-cast}
 use Rattle.reader.specs.FirstNodes.{withFirsts, FewFirsts}
 use Rattle.reader.specs.Stored.{padded}
-use Rattle.meaning.proofs.Lists.{sets-append}
 use Rattle.reader.proofs.Elements.{drop-next}
 use Rattle.reader.proofs.Room.{sets-padded}
 use Rattle.reader.proofs.Unknown.{operator-beyond}

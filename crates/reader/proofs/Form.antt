@@ -8,17 +8,17 @@ use native.Mathlib.Omega.{arith}
 use lib.Dec.{T}
 use lib.IntN.{pos}
 use lib.ListN.{length, replicate}
-use Rattle.text.specs.Bytes.{Token, lines}
+use Rattle.nodes.specs.Evaluate.{stored}
+use Rattle.text.specs.Bytes.{Token}
 use Rattle.text.specs.Token.{isName, isInteger}
 use Rattle.meaning.specs.Expression.{Constraint, Stream}
 use Rattle.sheet.specs.Form.{namesOf}
 use Rattle.sheet.specs.Parser.{andThen}
 use Rattle.sheet.specs.Reading.{streamFrom, streamsFrom, constraintsOf, sheetFrom}
 use Rattle.sheet.proofs.Parser.{andThen-some}
-use Rattle.parse.specs.Stored.{arrays}
 use Rattle.reader.specs.Constraints.{State, state, counts, readAll, ConstraintsOutcome}
 use Rattle.reader.specs.Constraints as constraints
-use Rattle.reader.specs.Streams.{StreamTables, tablesOf, streamsRead, StreamsOutcome}
+use Rattle.reader.specs.Streams.{StreamTables, streamTablesOf, streamsRead, StreamsOutcome}
 use Rattle.reader.specs.Streams as streams
 use Rattle.reader.specs.Form.{formOfLines}
 use Rattle.reader.specs.declared.StreamsRead.{StreamsRead}
@@ -31,7 +31,7 @@ pub record StreamsFound (names lows highs : List Token) (r : StreamsRead) (table
   pub all : List Stream
   pub form : streamsFrom names lows highs ≡ some all
   pub gives : r ≡ streamsRead all
-  pub stored : tables ≡ tablesOf all
+  pub stored : tables ≡ streamTablesOf all
 
 pub streams-found : {names lows highs : List Token} {r : StreamsRead} {tables : StreamTables} → StreamsOutcome names lows highs r tables → r .ok ≡ true → StreamsFound names lows highs r tables
 streams-found (streams.noForm p e) h = absurd (subst T (sym h ∙ e) tt)
@@ -60,7 +60,7 @@ streams-names (n ∷ ns) (l ∷ ls) (h ∷ hs) {ss} e = by (isName n && isIntege
 
 -- Empty tables.
 abbrev pub noConstraints : State
-noConstraints = state (arrays (replicate 1024 0) (replicate 1024 (pos 0)) (replicate 1024 0)) (replicate 32 0) (replicate 32 0) (replicate 32 0) (counts 0 0 0 0 false)
+noConstraints = state (stored (replicate 1024 0) (replicate 1024 (pos 0)) (replicate 1024 0)) (replicate 32 0) (replicate 32 0) (replicate 32 0) (counts 0 0 0 0 false)
 
 pub record ConstraintsFound (names : List Token) (ls : List (List ℕ)) (old new : State) : Type 0 where
   pub all : List Constraint

@@ -7,7 +7,6 @@ use native.Mathlib.Omega.{arith}
 use lib.IntN.{pos}
 use lib.ListN.{length, take, replicate, length-map, length-take}
 use lib.Seq.{length-take-le}
-use Rattle.meaning.specs.Arithmetic.{cutTowardZero}
 use Rattle.meaning.specs.Expression.{Constraint, Stream, Sheet}
 use Rattle.meaning.specs.Window.{allFirsts, allUntils}
 use Rattle.nodes.specs.Postfix.{Node, StoredConstraint, allNodes, storedConstraints, kindsOf, valuesOf, startsOf}
@@ -23,11 +22,11 @@ use Rattle.reader.specs.FirstNodes.{withFirsts, FewFirsts}
 use Rattle.reader.specs.Tested.{testedAs}
 use Rattle.reader.specs.Held.{constraintTables, Held}
 use Rattle.reader.specs.declared.StreamsRead.{StreamsRead}
-use Rattle.reader.specs.declared.Tested.{Tested}
+use Rattle.refusals.specs.declared.Tested.{Tested}
 use Rattle.reader.specs.declared.Reading.{Reading}
 use Rattle.reader.proofs.Room.{length-padded, take-padded}
 use Rattle.reader.proofs.Counts.{stored-length}
-use Rattle.reader.proofs.Tests.{storedLows, storedHighs, Accepted, acceptedAs, Told, isRefused, isSheet, tests-told}
+use Rattle.reader.proofs.Tests.{storedLows, storedHighs, NothingCut, acceptedAs, Told, isRefused, isSheet, tests-told}
 use Rattle.reader.proofs.FirstNodes.{first-places, few-firsts}
 
 module _ {s : Sheet} {r : StreamsRead} {tables : StreamTables} {new : State} (H : Held s r tables new) where
@@ -137,7 +136,7 @@ module _ {s : Sheet} {r : StreamsRead} {tables : StreamTables} {new : State} (H 
       tests-told s (H .fewNodes) (H .names)
       (e ∙ (λ i. testedAs (stored (kinds-front i) (values-front i) (starts-front i)) (lows-front i) (highs-front i) (lefts-front i) (rights-front i) (faulty i) (untils-are i) (firsts-are i)))
 
-  pub refused-reading : {t : Tested} → Told s t → (t .refusal ≡ 0 → ⊥) → refusedReading (t .refusal) ≡ readingOf (answerToSheet cutTowardZero s)
+  pub refused-reading : {t : Tested} → Told s t → (t .refusal ≡ 0 → ⊥) → refusedReading (t .refusal) ≡ readingOf (answerToSheet s)
   refused-reading (isRefused n e) h = sym (ap readingOf e)
   refused-reading (isSheet e a f) h = absurd (h (ap (λ x. x .refusal) f))
 
@@ -184,12 +183,12 @@ module _ {s : Sheet} {r : StreamsRead} {tables : StreamTables} {new : State} (H 
 
   -- ---- the sheet
 
-  pub told-sheet : {t : Tested} → Told s t → t .refusal ≡ 0 → (answerToSheet cutTowardZero s ≡ sheet s) × Accepted s × (t ≡ acceptedAs s)
+  pub told-sheet : {t : Tested} → Told s t → t .refusal ≡ 0 → (answerToSheet s ≡ sheet s) × NothingCut s × (t ≡ acceptedAs s)
   told-sheet (isRefused n e) h = absurd (n h)
   told-sheet (isSheet e a f) h = (e, a, f)
 
   module _ {t : Tested} (T : Told s t) (h : t .refusal ≡ 0) where
-    accepted : Accepted s
+    accepted : NothingCut s
     accepted = told-sheet T h .1
 
     firsts-few : FewFirsts (take (new .counts .nodes) (new .nodes .kinds)) (take (new .counts .nodes) (new .nodes .values))
@@ -234,7 +233,7 @@ module _ {s : Sheet} {r : StreamsRead} {tables : StreamTables} {new : State} (H 
             back = t .back;
           };
         })
-        (readingOf (answerToSheet cutTowardZero s))
+        (readingOf (answerToSheet s))
     unfolding storedSheet
     sheet-reading {places} e =
         let same = accepted .constraints in

@@ -8,7 +8,6 @@ pub mod FirstNodes
 pub mod SheetExtent
 pub mod Counts
 pub mod Form
-pub mod TestSteps
 pub mod Tests
 pub mod Answers
 pub mod Held

@@ -10,15 +10,15 @@ use lib.ListN.{length, drop, getD, drop-of-length-le, length-append}
 use lib.Dec.{T}
 use lib.Signed.{ltZ, ltZ-no, _≤ℤ_}
 use borrow.Author.Tests.{not-false}
-use Rattle.text.proofs.Reflects.{reflects-same, from-true, reflects}
-use Rattle.meaning.specs.Arithmetic.{Interval, Arithmetic, LawfulArithmetic, cutTowardZero}
+use Rattle.basics.proofs.Lists.{All-getD, All-map}
+use Rattle.basics.specs.Lists.{All}
+use Rattle.basics.proofs.Reflects.{reflects-same, from-true, reflects}
+use Rattle.meaning.specs.Arithmetic.{Interval}
 use Rattle.meaning.specs.Expression.{Expression, integer, Constraint, until, leftSide, rightSide, Stream, noStream, rangeOf, Sheet}
 use Rattle.meaning.specs.Interval.{interval, subexpressions, NamesBelow, SidesBelow}
 use Rattle.meaning.specs.Situation.{all}
 use Rattle.meaning.specs.Window.{reach, back, firsts, largestOver, sideFirsts, allFirsts, B, D}
-use Rattle.meaning.proofs.Arithmetic.{cutTowardZero-lawful}
 use Rattle.meaning.proofs.Interval.{subexpressions-below}
-use Rattle.meaning.proofs.Lists.{All, All-getD, All-map}
 use Rattle.text.specs.Token.{isReserved}
 use Rattle.sheet.specs.Form.{namesOf}
 use Rattle.sheet.specs.Reading.{anyOf, areDistinct, sidesBelow, isRangeFaulty, isBeyond, isIntegerBeyond, allExpressions, inBounds, refuses4, refuses5, refuses6}
@@ -28,23 +28,24 @@ use Rattle.nodes.specs.Evaluate.{Nodes, nodesOf}
 use Rattle.nodes.specs.Bounds.{nodeSummary, noRange, endsInBound, summaryOf, lowsOf, highsOf}
 use Rattle.nodes.specs.declared.Summary.{Summary}
 use Rattle.nodes.proofs.Postfix.{length-postfix, SidesAt, firstsBefore, allNodes-stored, sides-inside}
-use Rattle.nodes.proofs.Bounds.{largestOver-append, nodeSummary-summaryOf, inBounds-ends, ends-inBounds, interval-ordered}
+use Rattle.nodes.proofs.Bounds.{largestOver-append, nodeSummary-summaryOf, inBounds-ends, ends-inBounds}
+use Rattle.meaning.proofs.Interval.{interval-ordered}
 use Rattle.parse.proofs.Trees.{anyOf-append}
 use Rattle.reader.specs.declared.Extent.{Extent}
 use Rattle.reader.specs.Extent.{noExtent, withSummary, extentFrom}
 use Rattle.reader.specs.Stored.{leftsOf, rightsOf}
 use Rattle.reader.proofs.Elements.{drop-next}
 
-module _ (A : Arithmetic) (N : Nodes) (lows highs : List ℤ) (x : Extent) (lefts rights : List ℕ) (i : ℕ) where
+module _ (N : Nodes) (lows highs : List ℤ) (x : Extent) (lefts rights : List ℕ) (i : ℕ) where
   pub extent-step : length rights ≡ length lefts → i < length lefts → {l r : Summary} {y z : Extent}
-      → l ≡ nodeSummary A N lows highs (getD lefts i 0) → y ≡ withSummary x l → r ≡ nodeSummary A N lows highs (getD rights i 0) → z ≡ withSummary y r
-      → extentFrom A N lows highs x (drop i lefts) (drop i rights) ≡ extentFrom A N lows highs z (drop (i + 1) lefts) (drop (i + 1) rights)
+      → l ≡ nodeSummary N lows highs (getD lefts i 0) → y ≡ withSummary x l → r ≡ nodeSummary N lows highs (getD rights i 0) → z ≡ withSummary y r
+      → extentFrom N lows highs x (drop i lefts) (drop i rights) ≡ extentFrom N lows highs z (drop (i + 1) lefts) (drop (i + 1) rights)
   extent-step same h p q p′ q′ =
-      ap₂ (extentFrom A N lows highs x) (drop-next lefts i 0 h) (drop-next rights i 0 (omega arith))
-      ∙ ap (λ v. extentFrom A N lows highs v (drop (i + 1) lefts) (drop (i + 1) rights)) (sym (q′ ∙ ap₂ withSummary (q ∙ ap (withSummary x) p) p′))
+      ap₂ (extentFrom N lows highs x) (drop-next lefts i 0 h) (drop-next rights i 0 (omega arith))
+      ∙ ap (λ v. extentFrom N lows highs v (drop (i + 1) lefts) (drop (i + 1) rights)) (sym (q′ ∙ ap₂ withSummary (q ∙ ap (withSummary x) p) p′))
 
-  pub extent-end : length lefts ≤ i → extentFrom A N lows highs x (drop i lefts) (drop i rights) ≡ x
-  extent-end h = ap (λ ls. extentFrom A N lows highs x ls (drop i rights)) (drop-of-length-le lefts h)
+  pub extent-end : length lefts ≤ i → extentFrom N lows highs x (drop i lefts) (drop i rights) ≡ x
+  extent-end h = ap (λ ls. extentFrom N lows highs x ls (drop i rights)) (drop-of-length-le lefts h)
 
 -- ---- tests of lists
 
@@ -106,25 +107,25 @@ extent-path {x} {y} p q r =
 
 -- ---- the extent of constraints
 
-module _ {A : Arithmetic} (lawful : LawfulArithmetic A) (ss : List Stream) (ordered : (k : ℕ) → k < length ss → rangeOf ss k .low ≤ℤ rangeOf ss k .high) where
+module _ (ss : List Stream) (ordered : (k : ℕ) → k < length ss → rangeOf ss k .low ≤ℤ rangeOf ss k .high) where
   -- "an expression's interval leaves ±1,000,000,000"
   abbrev leaves : Expression → Bool
-  leaves e = not (inBounds (interval A ss e))
+  leaves e = not (inBounds (interval ss e))
 
-  all-inside : (es : List Expression) → All (NamesBelow (length ss)) es → all (λ f. endsInBound (interval A ss f)) es ≡ not (anyOf leaves es)
+  all-inside : (es : List Expression) → All (NamesBelow (length ss)) es → all (λ f. endsInBound (interval ss f)) es ≡ not (anyOf leaves es)
   all-inside [] h = refl
   all-inside (e ∷ es) h =
-      ap₂ _&&_ (ends-same (interval A ss e) (interval-ordered lawful ss ordered e (h .0))) (all-inside es (h .1)) ∙ both-not (inBounds (interval A ss e)) (anyOf leaves es)
+      ap₂ _&&_ (ends-same (interval ss e) (interval-ordered ss ordered e (h .0))) (all-inside es (h .1)) ∙ both-not (inBounds (interval ss e)) (anyOf leaves es)
 
-  side-ok : (e : Expression) → NamesBelow (length ss) e → summaryOf A ss e .range .ok ≡ not (anyOf leaves (subexpressions e))
-  side-ok e n = ok-is (all (λ f. endsInBound (interval A ss f)) (subexpressions e)) (interval A ss e) ∙ all-inside (subexpressions e) (subexpressions-below (length ss) e n)
+  side-ok : (e : Expression) → NamesBelow (length ss) e → summaryOf ss e .range .ok ≡ not (anyOf leaves (subexpressions e))
+  side-ok e n = ok-is (all (λ f. endsInBound (interval ss f)) (subexpressions e)) (interval ss e) ∙ all-inside (subexpressions e) (subexpressions-below (length ss) e n)
 
   -- The extent after these constraints.
   abbrev extentAfter : Extent → List Constraint → Extent
   extentAfter x cs = record { ok = x .ok && not (anyOf leaves (allExpressions cs)); ahead = max (D cs) (x .ahead); back = max (B cs) (x .back) }
 
   one-more : (x : Extent) (c : Constraint) (cs : List Constraint) → SidesBelow (length ss) c
-      → extentAfter (withSummary (withSummary x (summaryOf A ss (leftSide c))) (summaryOf A ss (rightSide c))) cs ≡ extentAfter x (c ∷ cs)
+      → extentAfter (withSummary (withSummary x (summaryOf ss (leftSide c))) (summaryOf ss (rightSide c))) cs ≡ extentAfter x (c ∷ cs)
   unfolding D B
   one-more x c cs n =
       let l = leftSide c in
@@ -153,16 +154,16 @@ module _ {A : Arithmetic} (lawful : LawfulArithmetic A) (ss : List Stream) (orde
   module _ (N : Nodes) (c₀ : Constraint) (t₀ : StoredConstraint) where
     -- The places of a stored constraint are those of a constraint's sides.
     abbrev Shows : Constraint → StoredConstraint → Type 0
-    Shows c t = (nodeSummary A N (lowsOf ss) (highsOf ss) (t .left) ≡ summaryOf A ss (leftSide c)) × (nodeSummary A N (lowsOf ss) (highsOf ss) (t .right) ≡ summaryOf A ss (rightSide c))
+    Shows c t = (nodeSummary N (lowsOf ss) (highsOf ss) (t .left) ≡ summaryOf ss (leftSide c)) × (nodeSummary N (lowsOf ss) (highsOf ss) (t .right) ≡ summaryOf ss (rightSide c))
 
     extent-after : (x : Extent) (n f : ℕ) (cs : List Constraint) → All (SidesBelow (length ss)) cs → ((j : ℕ) → j < length cs → Shows (getD cs j c₀) (getD (storedConstraints n f cs) j t₀))
-        → extentFrom A N (lowsOf ss) (highsOf ss) x (leftsOf (storedConstraints n f cs)) (rightsOf (storedConstraints n f cs)) ≡ extentAfter x cs
+        → extentFrom N (lowsOf ss) (highsOf ss) x (leftsOf (storedConstraints n f cs)) (rightsOf (storedConstraints n f cs)) ≡ extentAfter x cs
     unfolding storedConstraints D B
     extent-after x n f [] k h = extent-path (sym (and-true (x .ok))) (omega arith) (omega arith)
     extent-after x n f (c ∷ cs) k h =
         let here = h 0 (omega arith) in
         let t = storedConstraint n f c in
-        extent-after (withSummary (withSummary x (nodeSummary A N (lowsOf ss) (highsOf ss) (t .left))) (nodeSummary A N (lowsOf ss) (highsOf ss) (t .right))) (n + length (sideNodes n f c)) (f + length (sideFirsts c)) cs (k .1)
+        extent-after (withSummary (withSummary x (nodeSummary N (lowsOf ss) (highsOf ss) (t .left))) (nodeSummary N (lowsOf ss) (highsOf ss) (t .right))) (n + length (sideNodes n f c)) (f + length (sideFirsts c)) cs (k .1)
         (λ j b. h (suc j) (omega arith))
         ∙ ap₂ (λ l r. extentAfter (withSummary (withSummary x l) r) cs) (here .0) (here .1) ∙ one-more x c cs (k .0)
 
@@ -183,11 +184,11 @@ side-count c₀ n f (c ∷ cs) (suc j) h =
 
 -- "6: an expression's interval leaves ±1,000,000,000", D and B, of a sheet whose names are known and whose ranges and integers are within the bound.
 pub extent-sheet : (s : Sheet) → refuses4 s ≡ false → refuses5 s ≡ false → length (allNodes 0 0 (s .constraints)) ≤ 1024
-    → extentFrom cutTowardZero (nodesOf (allNodes 0 0 (s .constraints))) (lowsOf (s .streams)) (highsOf (s .streams)) noExtent (leftsOf (storedConstraints 0 0 (s .constraints))) (rightsOf (storedConstraints 0 0 (s .constraints)))
-    ≡ record { ok = not (refuses6 cutTowardZero s); ahead = D (s .constraints); back = B (s .constraints) }
+    → extentFrom (nodesOf (allNodes 0 0 (s .constraints))) (lowsOf (s .streams)) (highsOf (s .streams)) noExtent (leftsOf (storedConstraints 0 0 (s .constraints))) (rightsOf (storedConstraints 0 0 (s .constraints)))
+    ≡ record { ok = not (refuses6 s); ahead = D (s .constraints); back = B (s .constraints) }
 unfolding refuses6
 extent-sheet s e₄ e₅ few =
-    extent-after cutTowardZero-lawful ss (ranges-ordered s e₅) (nodesOf nodes) c₀ t₀ noExtent 0 0 cs known shows
+    extent-after ss (ranges-ordered s e₅) (nodesOf nodes) c₀ t₀ noExtent 0 0 cs known shows
     ∙ extent-path refl (omega arith) (omega arith)
   where
     ss : List Stream
@@ -208,10 +209,10 @@ extent-sheet s e₄ e₅ few =
     known : All (SidesBelow (length ss)) cs
     known = sides-known s e₄
 
-    shows : (j : ℕ) → j < length cs → Shows cutTowardZero-lawful ss (ranges-ordered s e₅) (nodesOf nodes) c₀ t₀ (getD cs j c₀) (getD (storedConstraints 0 0 cs) j t₀)
+    shows : (j : ℕ) → j < length cs → Shows ss (ranges-ordered s e₅) (nodesOf nodes) c₀ t₀ (getD cs j c₀) (getD (storedConstraints 0 0 cs) j t₀)
     shows j b =
         let st = subst (λ l. SidesAt (nodesOf l) (firstsBefore 0 cs j) (getD cs j c₀) (getD (storedConstraints 0 0 cs) j t₀)) (append-nil nodes) (allNodes-stored cs [] c₀ t₀ j b) in
         let inside = sides-inside c₀ t₀ cs j b in
         let names = All-getD (SidesBelow (length ss)) cs known j c₀ b in
         let count = side-count c₀ 0 0 cs j b in
-        (nodeSummary-summaryOf cutTowardZero ss nodes (st .left) (inside .0) (names .left) (omega arith), nodeSummary-summaryOf cutTowardZero ss nodes (st .right) (inside .1) (names .right) (omega arith))
+        (nodeSummary-summaryOf ss nodes (st .left) (inside .0) (names .left) (omega arith), nodeSummary-summaryOf ss nodes (st .right) (inside .1) (names .right) (omega arith))

@@ -6,18 +6,19 @@ use mathlib.Core.Bool.{Bool, true, false, cond, _&&_, _||_, true≢false, or-fal
 use mathlib.Core.List.{List, [], _∷_, _++_, map, append-nil, append-assoc, map-append}
 use mathlib.Core.Option.{Option, some, none}
 use native.Mathlib.Omega.{arith}
-use lib.Dec.{leb}
+use lib.Dec.{eqb, leb}
 use lib.IntN.{ℤ, pos}
 use lib.ListN.{length, drop, set, replicate, length-append, length-map, length-replicate, replicate-append-replicate}
 use lib.Seq.{sets, append-snoc, set-append-seam}
 use lib.Signed.{ltZ}
 use mir.Syntax.{w64}
 use mir.ValLaws.{toZ-ofZ}
-use borrow.Author.Tests.{leb-true}
+use borrow.Author.Tests.{eqb-true, eqb-false, leb-true}
+use Rattle.basics.proofs.Reflects.{to-true, T-reflects}
+use Rattle.basics.proofs.Tests.{and-right}
 use Rattle.arithmetic.proofs.Machine.{held}
 use Rattle.text.specs.Bytes.{Token, tokens}
 use Rattle.text.specs.Token.{allBytes, isLowercase, isName, isInteger, integerValue}
-use Rattle.text.proofs.Reflects.{and-right, to-true, T-reflects}
 use Rattle.meaning.specs.Expression.{Stream}
 use Rattle.meaning.specs.Window.{joinOver}
 use Rattle.sheet.specs.Parser.{andThen}
@@ -31,7 +32,7 @@ use Rattle.parse.specs.Bounded.{within}
 use Rattle.parse.proofs.Leaves.{IsInteger, an-integer, no-integer, integer-fits}
 use Rattle.parse.proofs.Trees.{anyOf-append}
 use Rattle.reader.specs.Stored.{padded, nameBytes, nameLengths}
-use Rattle.reader.specs.Streams.{StreamTables, streamTables, noStreamTables, tablesOf, StreamsOutcome, areRead}
+use Rattle.reader.specs.Streams.{StreamTables, streamTables, noStreamTables, streamTablesOf, StreamsOutcome, noForm, areRead}
 
 -- ---- stores in a padded list
 
@@ -115,12 +116,12 @@ module _ (before : List Stream) (x : Stream) (few : length before < 8) (room : l
       ∙ ap (padded 64 0) (sym (joinOver-more (λ y. padded 8 0 (y .name)) before x))
 
   -- Storing one stream more gives the tables of the streams with it.
-  pub tables-more : withStream (tablesOf before) (length before) x ≡ tablesOf more
+  pub tables-more : withStream (streamTablesOf before) (length before) x ≡ streamTablesOf more
   tables-more =
       let n = padded 64 0 (nameBytes more) in
       let k = padded 8 0 (nameLengths more) in
       let l = padded 8 (pos 0) (map (λ y. within (y .range .low)) more) in
-      let t = withStream (tablesOf before) (length before) x in
+      let t = withStream (streamTablesOf before) (length before) x in
       ap (λ m. streamTables m (t .lengths) (t .lows) (t .highs)) names-more
       ∙ ap (λ m. streamTables n m (t .lows) (t .highs)) (padded-map 8 0 (λ y. length (y .name)) before x few)
       ∙ ap (λ m. streamTables n k m (t .highs)) (padded-map 8 (pos 0) (λ y. within (y .range .low)) before x few)
@@ -190,7 +191,7 @@ pub record SoFar (names lows highs : List ℕ) (nameAt lowAt highAt count : ℕ)
       ≡ andThen (streamsFrom (tokens (drop nameAt names)) (tokens (drop lowAt lows)) (tokens (drop highAt highs))) (λ ss. some (before ++ ss))
   pub number : count ≡ length before
   pub fault : faulty ≡ anyOf isRangeFaulty before
-  pub stored : tables ≡ tablesOf before
+  pub stored : tables ≡ streamTablesOf before
   pub room : length (nameBytes before) ≡ length before * 8
   pub few : count + length (tokens (drop nameAt names)) ≤ 8
 
@@ -201,6 +202,12 @@ then-some (some x) = refl
 pub sofar-start : (names lows highs : List ℕ) {tables : StreamTables} → length (tokens names) ≤ 8 → tables ≡ noStreamTables → SoFar names lows highs 0 0 0 0 false tables
 sofar-start names lows highs h e =
     record { before = []; same = then-some (streamsFrom (tokens names) (tokens lows) (tokens highs)); number = refl; fault = refl; stored = e; room = refl; few = omega arith }
+
+pub all-true : (a b c : Bool) → (a && b) && c ≡ true → (a ≡ true) × (b ≡ true) × (c ≡ true)
+all-true true true true e = (refl, refl, refl)
+all-true true true false e = absurd (true≢false (sym e))
+all-true true false c e = absurd (true≢false (sym e))
+all-true false b c e = absurd (true≢false (sym e))
 
 module _ {names lows highs : List ℕ} {nameAt lowAt highAt count : ℕ} {faulty : Bool} {tables : StreamTables} (k : SoFar names lows highs nameAt lowAt highAt count faulty tables)
     {name low high : Span} (nameFound : TokenAt names nameAt name) (lowFound : TokenAt lows lowAt low) (highFound : TokenAt highs highAt high) where
@@ -248,6 +255,15 @@ module _ {names lows highs : List ℕ} {nameAt lowAt highAt count : ℕ} {faulty
           (from-tokens [] [] [] (token-empty nameFound noName) (token-empty lowFound noLow) (token-empty highFound n) refl ∙ ap some (append-nil (k .before)))
           (ap₂ (λ i b. record { ok = true; count = i; faulty = b }) (k .number) (k .fault))
           (k .stored)
+
+    -- All three lines end there, or they are not of the form.
+    pub lines-end : StreamsOutcome (tokens names) (tokens lows) (tokens highs) (record { ok = eqb (low .start) (low .end) && eqb (high .start) (high .end); count = count; faulty = faulty }) tables
+    lines-end = by (eqb (low .start) (low .end)) (eqb (high .start) (high .end)) refl refl
+      where
+        by : (a b : Bool) → eqb (low .start) (low .end) ≡ a → eqb (high .start) (high .end) ≡ b → StreamsOutcome (tokens names) (tokens lows) (tokens highs) (record { ok = a && b; count = count; faulty = faulty }) tables
+        by true true e f = all-read (eqb-true _ _ e) (eqb-true _ _ f)
+        by true false e f = noForm (highs-left (eqb-true _ _ e) (eqb-false _ _ f)) refl
+        by false b e f = noForm (lows-left (eqb-false _ _ e)) refl
 
   -- Line 1 has one token more.
   module _ (aName : name .start ≡ name .end → ⊥) where
@@ -324,3 +340,13 @@ module _ {names lows highs : List ℕ} {nameAt lowAt highAt count : ℕ} {faulty
                 room = room-more b stream below (k .room) short;
                 few = omega arith;
               }
+
+    -- One of the three tokens is not of the form.
+    pub no-stream : {n : Bool} {l h : IntegerRead} → n ≡ isName nameToken → l ≡ integerRead lowToken → h ≡ integerRead highToken → (n && l .ok) && h .ok ≡ false → streamsFrom (tokens names) (tokens lows) (tokens highs) ≡ none
+    no-stream {n} {l} {h} en el eh z = by n (l .ok) (h .ok) refl refl refl z
+      where
+        by : (a b c : Bool) → n ≡ a → l .ok ≡ b → h .ok ≡ c → (a && b) && c ≡ false → streamsFrom (tokens names) (tokens lows) (tokens highs) ≡ none
+        by false b c p q r e = no-name (sym en ∙ p)
+        by true false c p q r e = no-low (sym en ∙ p) el q
+        by true true false p q r e = no-high (sym en ∙ p) el q eh r
+        by true true true p q r e = absurd (true≢false e)

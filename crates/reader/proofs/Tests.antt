@@ -9,7 +9,6 @@ use lib.IntN.{ℤ, pos}
 use lib.ListN.{length, length-map}
 use lib.Signed.{ltZ}
 use borrow.Author.Tests.{ltb-false, ltb-true, lt-ltb, le-ltb}
-use Rattle.meaning.specs.Arithmetic.{cutTowardZero}
 use Rattle.meaning.specs.Expression.{Constraint, Stream, Sheet, leftSide, rightSide}
 use Rattle.meaning.specs.Interval.{subexpressions}
 use Rattle.meaning.specs.Letter.{size, letterCount}
@@ -28,9 +27,10 @@ use Rattle.refusals.specs.Names.{namesRefused}
 use Rattle.reader.specs.Stored.{leftsOf, rightsOf}
 use Rattle.reader.specs.Unknown.{someUnknown}
 use Rattle.reader.specs.Extent.{noExtent, extentFrom}
-use Rattle.reader.specs.Tested.{failedAs, testedBy, testedAs}
+use Rattle.refusals.specs.Tested.{failedAs}
+use Rattle.reader.specs.Tested.{testedBy, testedAs}
 use Rattle.reader.specs.declared.Extent.{Extent}
-use Rattle.reader.specs.declared.Tested.{Tested}
+use Rattle.refusals.specs.declared.Tested.{Tested}
 use Rattle.reader.proofs.Unknown.{unknown-names, bounded-names}
 use Rattle.reader.proofs.SheetExtent.{extent-sheet}
 
@@ -88,7 +88,7 @@ described-count (x ∷ ss) = ap (λ n. size (x .range) * n) (described-count ss)
 -- ---- the tests
 
 -- What holds of a sheet that is not refused.
-pub record Accepted (s : Sheet) : Type 0 where
+pub record NothingCut (s : Sheet) : Type 0 where
   pub constraints : map boundedConstraint (s .constraints) ≡ s .constraints
   pub lows : storedLows (s .streams) ≡ lowsOf (s .streams)
   pub highs : storedHighs (s .streams) ≡ highsOf (s .streams)
@@ -99,8 +99,8 @@ acceptedAs s = record { refusal = 0; letters = letterCount (s .streams); ahead =
 
 -- What the tests say of the sheet: the refusal, or what is stored besides.
 pub data Told (s : Sheet) (t : Tested) : Type 0 where
-  isRefused : (t .refusal ≡ 0 → ⊥) → answerToSheet cutTowardZero s ≡ refused (t .refusal) → Told s t
-  isSheet : answerToSheet cutTowardZero s ≡ sheet s → Accepted s → t ≡ acceptedAs s → Told s t
+  isRefused : (t .refusal ≡ 0 → ⊥) → answerToSheet s ≡ refused (t .refusal) → Told s t
+  isSheet : answerToSheet s ≡ sheet s → NothingCut s → t ≡ acceptedAs s → Told s t
 
 -- A count that is cut behind the bound passes it exactly where the count does.
 cut-above : (n : ℕ) → ltb 1024 (cutCount n) ≡ ltb 1024 n
@@ -117,14 +117,14 @@ module _ (s : Sheet) where
   abbrev cs : List Constraint
   cs = s .constraints
 
-  told-refused : {t : Tested} (n : ℕ) → (n ≡ 0 → ⊥) → t ≡ failedAs n → answerToSheet cutTowardZero s ≡ refused n → Told s t
+  told-refused : {t : Tested} (n : ℕ) → (n ≡ 0 → ⊥) → t ≡ failedAs n → answerToSheet s ≡ refused n → Told s t
   told-refused n h e a = isRefused (λ z. h (sym (ap (λ x. x .refusal) e) ∙ z)) (a ∙ ap refused (sym (ap (λ x. x .refusal) e)))
 
   abbrev bounded : List Constraint
   bounded = map boundedConstraint cs
 
   abbrev extentOf : List Constraint → List ℤ → List ℤ → Extent
-  extentOf ds lows highs = extentFrom cutTowardZero (nodesOf (allNodes 0 0 ds)) lows highs noExtent (leftsOf (storedConstraints 0 0 ds)) (rightsOf (storedConstraints 0 0 ds))
+  extentOf ds lows highs = extentFrom (nodesOf (allNodes 0 0 ds)) lows highs noExtent (leftsOf (storedConstraints 0 0 ds)) (rightsOf (storedConstraints 0 0 ds))
 
   -- What the tests for refusals 6 and 7 say of what is stored.
   abbrev testedNear : Tested
@@ -150,9 +150,9 @@ module _ (s : Sheet) where
     unfolding refuses5
     constraints-near = or-right (anyOf isRangeFaulty ss) (anyOf isIntegerBeyond (allExpressions cs)) h5
 
-    answer-near : answerToSheet cutTowardZero s ≡ cond (refuses6 cutTowardZero s) (refused 6) (cond (refuses7 s) (refused 7) (sheet s))
+    answer-near : answerToSheet s ≡ cond (refuses6 s) (refused 6) (cond (refuses7 s) (refused 7) (sheet s))
     unfolding answerToSheet
-    answer-near = ap₂ (λ a b. cond a (refused 4) (cond b (refused 5) (cond (refuses6 cutTowardZero s) (refused 6) (cond (refuses7 s) (refused 7) (sheet s))))) h4 h5
+    answer-near = ap₂ (λ a b. cond a (refused 4) (cond b (refused 5) (cond (refuses6 s) (refused 6) (cond (refuses7 s) (refused 7) (sheet s))))) h4 h5
 
     accepted-letters : refuses7 s ≡ false → letterCount ss ≤ 1024
     unfolding refuses7
@@ -161,7 +161,7 @@ module _ (s : Sheet) where
         let firsts = ltb 8 (length (allFirsts cs)) in
         ltb-false 1024 (letterCount ss) (or-left (ltb 1024 (letterCount ss)) untils (or-left (ltb 1024 (letterCount ss) || untils) firsts (or-left (ltb 1024 (letterCount ss) || untils || firsts) (ltb 6 (D cs + B cs)) h)))
 
-    accepted : refuses7 s ≡ false → Accepted s
+    accepted : refuses7 s ≡ false → NothingCut s
     unfolding refuses7
     accepted h =
         let untils = ltb 8 (length (allUntils cs)) in
@@ -173,7 +173,7 @@ module _ (s : Sheet) where
           firsts = ltb-false 8 (length (allFirsts cs)) (or-right (ltb 1024 (letterCount ss) || untils) firsts (or-left (ltb 1024 (letterCount ss) || untils || firsts) (ltb 6 (D cs + B cs)) h));
         }
 
-    told-7 : (b : Bool) → refuses6 cutTowardZero s ≡ false → refuses7 s ≡ b → {t : Tested} → t ≡ cond b (failedAs 7) (record { refusal = 0; letters = cutCount (letterCount ss); ahead = D cs; back = B cs }) → Told s t
+    told-7 : (b : Bool) → refuses6 s ≡ false → refuses7 s ≡ b → {t : Tested} → t ≡ cond b (failedAs 7) (record { refusal = 0; letters = cutCount (letterCount ss); ahead = D cs; back = B cs }) → Told s t
     told-7 true h6 h7 e = told-refused 7 (λ z. omega arith) e (answer-near ∙ ap₂ (λ a b. cond a (refused 6) (cond b (refused 7) (sheet s))) h6 h7)
     told-7 false h6 h7 e =
         let few = accepted-letters h7 in
@@ -183,12 +183,12 @@ module _ (s : Sheet) where
         (accepted h7)
         (e ∙ ap (λ n. record { refusal = 0; letters = n; ahead = D cs; back = B cs }) same)
 
-    told-6 : (b : Bool) → refuses6 cutTowardZero s ≡ b → {t : Tested} → t ≡ testedBy (extent (not b)) (cutCount (letterCount ss)) (length (allUntils cs)) (length (allFirsts cs)) → Told s t
+    told-6 : (b : Bool) → refuses6 s ≡ b → {t : Tested} → t ≡ testedBy (extent (not b)) (cutCount (letterCount ss)) (length (allUntils cs)) (length (allFirsts cs)) → Told s t
     told-6 true h6 e = told-refused 6 (λ z. omega arith) e (answer-near ∙ ap (λ a. cond a (refused 6) (cond (refuses7 s) (refused 7) (sheet s))) h6)
     told-6 false h6 e = told-7 (refuses7 s) h6 refl (e ∙ ap (λ b. cond b (failedAs 7) (record { refusal = 0; letters = cutCount (letterCount ss); ahead = D cs; back = B cs })) cut-counted)
 
     -- The extent and the counts of what is stored are those of the sheet.
-    stored-extent : length (allNodes 0 0 bounded) ≤ 1024 → extentOf bounded (storedLows ss) (storedHighs ss) ≡ extent (not (refuses6 cutTowardZero s))
+    stored-extent : length (allNodes 0 0 bounded) ≤ 1024 → extentOf bounded (storedLows ss) (storedHighs ss) ≡ extent (not (refuses6 s))
     stored-extent few =
         let same = constraints-same cs constraints-near in
         ap (λ ds. extentOf ds (storedLows ss) (storedHighs ss)) same
@@ -200,9 +200,9 @@ module _ (s : Sheet) where
 
     told-near : length (allNodes 0 0 bounded) ≤ 1024 → {t : Tested} → t ≡ testedNear → Told s t
     told-near few e =
-        told-6 (refuses6 cutTowardZero s) refl
+        told-6 (refuses6 s) refl
         (e ∙ ap₂ (λ x n. testedBy x n (length (allUntils bounded)) (length (allFirsts bounded))) (stored-extent few) stored-letters
-        ∙ ap (λ ds. testedBy (extent (not (refuses6 cutTowardZero s))) (cutCount (letterCount ss)) (length (allUntils ds)) (length (allFirsts ds))) (constraints-same cs constraints-near))
+        ∙ ap (λ ds. testedBy (extent (not (refuses6 s))) (cutCount (letterCount ss)) (length (allUntils ds)) (length (allFirsts ds))) (constraints-same cs constraints-near))
 
   -- Refusal 4, where the names of line 1 are not refused.
   unknown-refused : namesRefused (namesOf ss) ≡ false → someUnknown (kindsOf (allNodes 0 0 bounded)) (valuesOf (allNodes 0 0 bounded)) (length (storedLows ss)) ≡ refuses4 s
@@ -216,8 +216,8 @@ module _ (s : Sheet) where
   module _ (few : length (allNodes 0 0 bounded) ≤ 1024) where
     told-4 : (b4 b5 : Bool) → refuses4 s ≡ b4 → refuses5 s ≡ b5 → {t : Tested} → t ≡ cond b4 (failedAs 4) (cond b5 (failedAs 5) testedNear) → Told s t
     unfolding answerToSheet
-    told-4 true b5 h4 h5 e = told-refused 4 (λ z. omega arith) e (ap (λ a. cond a (refused 4) (cond (refuses5 s) (refused 5) (cond (refuses6 cutTowardZero s) (refused 6) (cond (refuses7 s) (refused 7) (sheet s))))) h4)
-    told-4 false true h4 h5 e = told-refused 5 (λ z. omega arith) e (ap₂ (λ a b. cond a (refused 4) (cond b (refused 5) (cond (refuses6 cutTowardZero s) (refused 6) (cond (refuses7 s) (refused 7) (sheet s))))) h4 h5)
+    told-4 true b5 h4 h5 e = told-refused 4 (λ z. omega arith) e (ap (λ a. cond a (refused 4) (cond (refuses5 s) (refused 5) (cond (refuses6 s) (refused 6) (cond (refuses7 s) (refused 7) (sheet s))))) h4)
+    told-4 false true h4 h5 e = told-refused 5 (λ z. omega arith) e (ap₂ (λ a b. cond a (refused 4) (cond b (refused 5) (cond (refuses6 s) (refused 6) (cond (refuses7 s) (refused 7) (sheet s))))) h4 h5)
     told-4 false false h4 h5 e = told-near h4 h5 few e
 
     pub tests-told : namesRefused (namesOf ss) ≡ false → {t : Tested}

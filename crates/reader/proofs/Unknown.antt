@@ -21,7 +21,7 @@ use Rattle.meaning.specs.Window.{firsts, sideFirsts}
 use Rattle.sheet.specs.Reading.{anyOf, namesBelow, sidesBelow}
 use Rattle.nodes.specs.Code.{operatorCode}
 use Rattle.nodes.specs.Postfix.{Node, node, postfix, sideNodes, allNodes, kindsOf, valuesOf}
-use Rattle.parse.specs.Bounded.{bounded, boundedConstraint}
+use Rattle.parse.specs.Bounded.{boundedExpression, boundedConstraint}
 use Rattle.arithmetic.proofs.Machine.{held, held-both}
 use Rattle.reader.specs.Unknown.{isUnknown, someUnknown}
 use Rattle.reader.proofs.Elements.{drop-next}
@@ -144,8 +144,8 @@ unknown-names n f k (c ∷ cs) =
 
 -- ---- names beside integers beyond the bound
 
-bounded-below : (k : ℕ) (e : Expression) → namesBelow k (bounded e) ≡ namesBelow k e
-unfolding bounded
+bounded-below : (k : ℕ) (e : Expression) → namesBelow k (boundedExpression e) ≡ namesBelow k e
+unfolding boundedExpression
 bounded-below k (integer z) = refl
 bounded-below k (name j) = refl
 bounded-below k (first e) = bounded-below k e

@@ -6,25 +6,26 @@ use mathlib.Core.List.{List, [], _∷_}
 use mathlib.Core.Option.{Option, some, none}
 use lib.Dec.{eqb}
 use lib.ListN.{length, set}
+use Rattle.nodes.specs.Evaluate.{Nodes}
 use Rattle.text.specs.Bytes.{Token, tokens}
 use Rattle.meaning.specs.Expression.{Constraint}
 use Rattle.meaning.specs.Window.{sideFirsts}
 use Rattle.nodes.specs.Postfix.{sideNodes, storedConstraint}
 use Rattle.sheet.specs.Refusal.{tokenCount}
 use Rattle.sheet.specs.Parser.{andThen, parseConstraint}
-use Rattle.parse.specs.Stored.{Arrays, store}
+use Rattle.parse.specs.Stored.{store}
 use Rattle.parse.specs.Bounded.{boundedConstraint, constraintBeyond}
 use Rattle.reader.specs.declared.ConstraintsRead.{ConstraintsRead}
 
 -- The tables and counts after some lines.
 pub record State : Type 0 where
-  pub nodes : Arrays
+  pub nodes : Nodes
   pub relations : List ℕ
   pub lefts : List ℕ
   pub rights : List ℕ
   pub counts : ConstraintsRead
 
-abbrev pub state : Arrays → List ℕ → List ℕ → List ℕ → ConstraintsRead → State
+abbrev pub state : Nodes → List ℕ → List ℕ → List ℕ → ConstraintsRead → State
 state a p l r k = record { nodes = a; relations = p; lefts = l; rights = r; counts = k }
 
 abbrev pub counts : ℕ → ℕ → ℕ → ℕ → Bool → ConstraintsRead

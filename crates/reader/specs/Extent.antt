@@ -3,7 +3,6 @@ use Prim.Native.Nat.{ℕ, max}
 use mathlib.Core.Bool.{true, _&&_}
 use mathlib.Core.List.{List, [], _∷_}
 use lib.IntN.{ℤ}
-use Rattle.meaning.specs.Arithmetic.{Arithmetic}
 use Rattle.nodes.specs.Evaluate.{Nodes}
 use Rattle.nodes.specs.Bounds.{nodeSummary}
 use Rattle.nodes.specs.declared.Summary.{Summary}
@@ -16,10 +15,10 @@ abbrev pub withSummary : Extent → Summary → Extent
 withSummary x s =
     record { ok = x .ok && s .range .ok; ahead = max (max (s .reach) (s .ahead)) (x .ahead); back = max (s .back) (x .back) }
 
-module _ (A : Arithmetic) (N : Nodes) (lows highs : List ℤ) where
+module _ (N : Nodes) (lows highs : List ℤ) where
   -- The extent of the sides whose last nodes have these places, after those before them.
   abbrev pub extentFrom : Extent → List ℕ → List ℕ → Extent
   extentFrom x [] rights = x
   extentFrom x (l ∷ lefts) [] = x
   extentFrom x (l ∷ lefts) (r ∷ rights) =
-      extentFrom (withSummary (withSummary x (nodeSummary A N lows highs l)) (nodeSummary A N lows highs r)) lefts rights
+      extentFrom (withSummary (withSummary x (nodeSummary N lows highs l)) (nodeSummary N lows highs r)) lefts rights

@@ -1,22 +1,21 @@
 -- What the tables and counts hold of a sheet of the form whose names of line 1 are not refused.
-use Prim.Native.Nat.{ℕ, _≤_}
+use Prim.Native.Nat.{_≤_}
 use mathlib.Core.Path.{_≡_}
 use mathlib.Core.Bool.{false}
 use mathlib.Core.List.{List, map}
 use lib.IntN.{pos}
 use lib.ListN.{length}
-use Rattle.meaning.specs.Arithmetic.{cutTowardZero}
+use Rattle.nodes.specs.Evaluate.{stored}
 use Rattle.meaning.specs.Expression.{Constraint, Sheet}
 use Rattle.meaning.specs.Window.{allFirsts, allUntils}
 use Rattle.nodes.specs.Postfix.{allNodes, storedConstraints, kindsOf, valuesOf, startsOf}
 use Rattle.sheet.specs.Form.{namesOf}
 use Rattle.sheet.specs.Reading.{anyOf, isIntegerBeyond, allExpressions, answerToSheet}
-use Rattle.parse.specs.Stored.{arrays}
 use Rattle.parse.specs.Bounded.{boundedConstraint}
 use Rattle.reader.specs.Constraints.{State, state, counts}
 use Rattle.refusals.specs.Names.{namesRefused}
 use Rattle.reader.specs.Stored.{padded, relationsOf, leftsOf, rightsOf, readingOf}
-use Rattle.reader.specs.Streams.{StreamTables, tablesOf, streamsRead}
+use Rattle.reader.specs.Streams.{StreamTables, streamTablesOf, streamsRead}
 use Rattle.reader.specs.declared.StreamsRead.{StreamsRead}
 use Rattle.reader.specs.declared.Reading.{Reading}
 
@@ -27,7 +26,7 @@ constraintTables cs =
     let nodes = allNodes 0 0 bounded in
     let rows = storedConstraints 0 0 bounded in
     state
-    (arrays (padded 1024 0 (kindsOf nodes)) (padded 1024 (pos 0) (valuesOf nodes)) (padded 1024 0 (startsOf nodes)))
+    (stored (padded 1024 0 (kindsOf nodes)) (padded 1024 (pos 0) (valuesOf nodes)) (padded 1024 0 (startsOf nodes)))
     (padded 32 0 (relationsOf rows))
     (padded 32 0 (leftsOf rows))
     (padded 32 0 (rightsOf rows))
@@ -35,7 +34,7 @@ constraintTables cs =
 
 pub record Held (s : Sheet) (r : StreamsRead) (tables : StreamTables) (new : State) : Type 0 where
   pub streams : r ≡ streamsRead (s .streams)
-  pub streamTables : tables ≡ tablesOf (s .streams)
+  pub streamTables : tables ≡ streamTablesOf (s .streams)
   pub constraints : new ≡ constraintTables (s .constraints)
   pub fewStreams : length (s .streams) ≤ 8
   pub fewConstraints : length (s .constraints) ≤ 32
@@ -49,4 +48,4 @@ pub record HeldSheet (r : StreamsRead) (tables : StreamTables) (new : State) : T
 
 -- The reading is the answer to the sheet that they hold.
 pub record HeldReading (r : StreamsRead) (tables : StreamTables) (new : State) (reading : Reading) : Type 0 where
-  pub gives : (s : Sheet) → Held s r tables new → reading ≡ readingOf (answerToSheet cutTowardZero s)
+  pub gives : (s : Sheet) → Held s r tables new → reading ≡ readingOf (answerToSheet s)

@@ -1,8 +1,8 @@
 -- The stored form of an answer: a refusal's number with a sheet of zeros, or 0 with the stored sheet (document 01, "Room beyond the used
 -- rows, and in a list beyond what is given, is zero").
 use Prim.Native.Nat.{ℕ, _-_}
-use mathlib.Core.List.{List, [], _++_, map}
-use lib.IntN.{ℤ, pos}
+use mathlib.Core.List.{List, _++_, map}
+use lib.IntN.{pos}
 use lib.ListN.{length, replicate}
 use Rattle.meaning.specs.Expression.{Stream, Sheet}
 use Rattle.meaning.specs.Letter.{letterCount}

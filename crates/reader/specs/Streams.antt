@@ -27,8 +27,8 @@ abbrev pub noStreamTables : StreamTables
 noStreamTables = streamTables (replicate 64 0) (replicate 8 0) (replicate 8 (pos 0)) (replicate 8 (pos 0))
 
 -- A value beyond the magnitude bound is stored as 0; such a sheet is refused.
-abbrev pub tablesOf : List Stream → StreamTables
-tablesOf ss =
+abbrev pub streamTablesOf : List Stream → StreamTables
+streamTablesOf ss =
     streamTables
     (padded 64 0 (nameBytes ss))
     (padded 8 0 (nameLengths ss))
@@ -41,4 +41,4 @@ streamsRead ss = record { ok = true; count = length ss; faulty = anyOf isRangeFa
 -- The lines give streams, and the tables hold them; or they do not, and what the tables hold is left open.
 pub data StreamsOutcome (names lows highs : List Token) (r : StreamsRead) (tables : StreamTables) : Type 0 where
   noForm : streamsFrom names lows highs ≡ none → r .ok ≡ false → StreamsOutcome names lows highs r tables
-  areRead : (ss : List Stream) → streamsFrom names lows highs ≡ some ss → r ≡ streamsRead ss → tables ≡ tablesOf ss → StreamsOutcome names lows highs r tables
+  areRead : (ss : List Stream) → streamsFrom names lows highs ≡ some ss → r ≡ streamsRead ss → tables ≡ streamTablesOf ss → StreamsOutcome names lows highs r tables

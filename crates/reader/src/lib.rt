@@ -1,11 +1,12 @@
 // Reads a sheet's bytes: gives the lowest refusal 1 to 7, or the stored sheet.
+use basics::either;
+use basics::larger;
 ghost use mathlib.Core.Path.{_≡_};
-ghost use mathlib.Core.Bool.{false, cond, _||_};
-ghost use Prim.Native.Nat.{_+_, _*_, _<_, _≤_, max};
+ghost use mathlib.Core.Bool.{false, cond};
+ghost use Prim.Native.Nat.{_+_, _*_, _<_, _≤_};
 ghost use lib.IntN.{pos, natAbs};
 ghost use lib.ListN.{length, set};
 ghost use lib.Seq.{sets};
-ghost use Rattle.parse.specs.Stored.{arrays};
 ghost use Rattle.reader.specs.Constraints.{state, counts, LinesFit, ConstraintsOutcome};
 ghost use Rattle.reader.specs.Stored.{refusedReading, readingOf};
 ghost use Rattle.reader.specs.Streams.{streamTables, noStreamTables, StreamsOutcome};
@@ -13,13 +14,11 @@ ghost use Rattle.reader.specs.Unknown.{isUnknown, someUnknown};
 ghost use Rattle.reader.specs.Extent.{noExtent, withSummary, extentFrom};
 ghost use Rattle.reader.specs.FirstNodes.{withFirsts, FewFirsts};
 ghost use Rattle.nodes.specs.Evaluate.{stored};
-ghost use Rattle.meaning.specs.Arithmetic.{cutTowardZero};
 ghost use Rattle.sheet.specs.Reading.{answerTo, answerToForm};
-ghost use Rattle.reader.specs.Tested.{failedAs, testedAs};
+ghost use Rattle.reader.specs.Tested.{testedAs};
 ghost use Rattle.reader.specs.Form.{formOfLines};
 ghost use Rattle.reader.specs.Held.{HeldSheet, HeldReading};
 ghost use lib.Dec.{eqb};
-ghost use Rattle.sheet.specs.Form.{threeHeaderLines};
 ghost use Rattle.text.specs.Bytes.{lines, tokens};
 
 // The stored sheet. Room beyond what is given is zero.
@@ -70,14 +69,6 @@ struct Extent {
     back: u32,
 }
 
-// A refusal 4 to 7 with zeros, or 0 with the number of letters, D and B.
-struct Tested {
-    refusal: u32,
-    letters: u32,
-    ahead: u32,
-    back: u32,
-}
-
 // Whether the constraint lines have the form, how many they are, what was stored of them, and whether an integer is beyond the bound.
 struct ConstraintsRead {
     ok: bool,
@@ -88,18 +79,15 @@ struct ConstraintsRead {
     beyond: bool,
 }
 
-// Whether one of both holds; both are known, so that no branch is needed.
-fn either(left: bool, right: bool) -> bool
-    ensures { λ r. ⌜ r ≡ left || right ⌝ }
-{
-    left | right
-}
-
 // 1 for the relation of an `until` line, else 0.
 fn until_count(relation: u8) -> usize
     ensures { λ r. ⌜ r ≡ cond (eqb relation 7) 1 0 ⌝ }
 {
-    if relation == 7 { 1 } else { 0 }
+    if relation == nodes::UNTIL_RELATION {
+        1
+    } else {
+        0
+    }
 }
 
 // A refusal, with a sheet of zeros.
@@ -131,26 +119,6 @@ fn refused(number: u32) -> Reading
         refusal: number,
         sheet: sheet,
     }
-}
-
-fn failed(number: u32) -> Tested
-    ensures { λ r. ⌜ r ≡ failedAs number ⌝ }
-{
-    Tested {
-        refusal: number,
-        letters: 0,
-        ahead: 0,
-        back: 0,
-    }
-}
-
-fn larger(a: u32, b: u32) -> u32
-    ensures { λ r. ⌜ r ≡ max a b ⌝ }
-{
-    if a <= b {
-        return b;
-    }
-    a
 }
 
 // Stores a constraint's relation and the places of the last nodes of its sides.
@@ -197,7 +165,7 @@ fn read_constraints(
     rights: &mut [u16; 32],
 ) -> ConstraintsRead
     requires { ⌜ LinesFit (lines (now text)) ⌝ }
-    ensures { λ r. ⌜ ConstraintsOutcome (tokens (now (names .entry))) (lines (now (text .entry))) (state (arrays (now (kinds .entry)) (now (values .entry)) (now (starts .entry))) (now (relations .entry)) (now (lefts .entry)) (now (rights .entry)) (counts 0 0 0 0 false)) (state (arrays (now (kinds .exit)) (now (values .exit)) (now (starts .exit))) (now (relations .exit)) (now (lefts .exit)) (now (rights .exit)) r) ⌝ }
+    ensures { λ r. ⌜ ConstraintsOutcome (tokens (now (names .entry))) (lines (now (text .entry))) (state (stored (now (kinds .entry)) (now (values .entry)) (now (starts .entry))) (now (relations .entry)) (now (lefts .entry)) (now (rights .entry)) (counts 0 0 0 0 false)) (state (stored (now (kinds .exit)) (now (values .exit)) (now (starts .exit))) (now (relations .exit)) (now (lefts .exit)) (now (rights .exit)) r) ⌝ }
 {
     let mut count: usize = 0;
     let mut nodes: usize = 0;
@@ -310,27 +278,16 @@ fn read_streams(
         let high_start = high.start;
         let high_end = high.end;
         if name_start == name_end {
-            if low_start != low_end {
-                return no_streams();
-            }
-            if high_start != high_end {
-                return no_streams();
-            }
             return StreamsRead {
-                ok: true,
+                ok: (low_start == low_end) & (high_start == high_end),
                 count: count,
                 faulty: faulty,
             };
         }
-        if !scan::is_name(&names_line[name_start..name_end]) {
-            return no_streams();
-        }
+        let named = scan::is_name(&names_line[name_start..name_end]);
         let lowest = scan::read_integer(&lows_line[low_start..low_end]);
-        if !lowest.ok {
-            return no_streams();
-        }
         let highest = scan::read_integer(&highs_line[high_start..high_end]);
-        if !highest.ok {
+        if !(named & lowest.ok & highest.ok) {
             return no_streams();
         }
         put_name(names, lengths, count, &names_line[name_start..name_end]);
@@ -351,7 +308,11 @@ fn is_unknown(kind: u8, value: i64, streams: i64) -> bool
     requires { ⌜ streams ≡ pos (natAbs streams) ⌝ }
     ensures { λ r. ⌜ r ≡ isUnknown kind value (natAbs streams) ⌝ }
 {
-    if kind == 1 { streams <= value } else { false }
+    if kind == nodes::NAME_NODE {
+        streams <= value
+    } else {
+        false
+    }
 }
 
 // "a name [..] unknown in a constraint": a node of a name whose number is not below the number of streams
@@ -394,7 +355,7 @@ fn extent_of(
     rights: &[u16],
 ) -> Extent
     requires { ⌜ length (now rights) ≡ length (now lefts) ⌝ }
-    ensures { λ r. ⌜ r ≡ extentFrom cutTowardZero (stored (now (kinds .entry)) (now (values .entry)) (now (starts .entry))) (now (lows .entry)) (now (highs .entry)) noExtent (now (lefts .entry)) (now (rights .entry)) ⌝ }
+    ensures { λ r. ⌜ r ≡ extentFrom (stored (now (kinds .entry)) (now (values .entry)) (now (starts .entry))) (now (lows .entry)) (now (highs .entry)) noExtent (now (lefts .entry)) (now (rights .entry)) ⌝ }
 {
     let mut extent = Extent {
         ok: true,
@@ -433,7 +394,7 @@ fn find_firsts(kinds: &[u8], values: &[i64], first_nodes: &mut [u16; 8])
 {
     let mut i = 0;
     while i < kinds.len() {
-        if kinds[i] == 2 {
+        if kinds[i] == nodes::FIRST_NODE {
             put_first(first_nodes, values[i], i);
         }
         i += 1;
@@ -452,32 +413,23 @@ fn test_stored(
     faulty: bool,
     untils: usize,
     firsts: usize,
-) -> Tested
+) -> refusals::Tested
     requires { ⌜ (length (now values) ≡ length (now kinds)) × (length (now lows) ≤ 8) × (length (now rights) ≡ length (now lefts)) ⌝ }
     ensures { λ r. ⌜ r ≡ testedAs (stored (now (kinds .entry)) (now (values .entry)) (now (starts .entry))) (now (lows .entry)) (now (highs .entry)) (now (lefts .entry)) (now (rights .entry)) faulty untils firsts ⌝ }
 {
-    if some_unknown(kinds, values, lows.len()) {
-        return failed(4);
-    }
-    if faulty {
-        return failed(5);
-    }
+    let unknown = some_unknown(kinds, values, lows.len());
     let extent = extent_of(kinds, values, starts, lows, highs, lefts, rights);
-    if !extent.ok {
-        return failed(6);
-    }
     let letters = letters::letter_count(lows, highs);
-    let ahead = extent.ahead;
-    let back = extent.back;
-    if refusals::counts_refused(letters, untils, firsts, ahead, back) {
-        return failed(7);
-    }
-    Tested {
-        refusal: 0,
-        letters: letters,
-        ahead: ahead,
-        back: back,
-    }
+    refusals::lowest_refusal(
+        unknown,
+        faulty,
+        extent.ok,
+        letters,
+        untils,
+        firsts,
+        extent.ahead,
+        extent.back,
+    )
 }
 
 // The answer to a sheet of the form whose names of line 1 are not refused, from what is stored of it.
@@ -495,8 +447,8 @@ fn store_sheet(
     rights: [u16; 32],
     constraints: ConstraintsRead,
 ) -> Reading
-    requires { ⌜ HeldSheet streams (streamTables names lengths lows highs) (state (arrays kinds values starts) relations lefts rights constraints) ⌝ }
-    ensures { λ r. ⌜ HeldReading streams (streamTables names lengths lows highs) (state (arrays kinds values starts) relations lefts rights constraints) r ⌝ }
+    requires { ⌜ HeldSheet streams (streamTables names lengths lows highs) (state (stored kinds values starts) relations lefts rights constraints) ⌝ }
+    ensures { λ r. ⌜ HeldReading streams (streamTables names lengths lows highs) (state (stored kinds values starts) relations lefts rights constraints) r ⌝ }
 {
     let stream_count = streams.count;
     let count = constraints.count;
@@ -550,7 +502,7 @@ fn store_sheet(
 // The answer to a sheet whose header lines and constraint lines are these, where refusals 1 and 2 do not apply.
 fn read_lines(names_line: &[u8], lows_line: &[u8], highs_line: &[u8], text: &[u8]) -> Reading
     requires { ⌜ (length (tokens (now «names_line»)) ≤ 8) × LinesFit (lines (now text)) ⌝ }
-    ensures { λ r. ⌜ r ≡ readingOf (answerToForm cutTowardZero (formOfLines (tokens (now («names_line» .entry))) (tokens (now («lows_line» .entry))) (tokens (now («highs_line» .entry))) (lines (now (text .entry))))) ⌝ }
+    ensures { λ r. ⌜ r ≡ readingOf (answerToForm (formOfLines (tokens (now («names_line» .entry))) (tokens (now («lows_line» .entry))) (tokens (now («highs_line» .entry))) (lines (now (text .entry))))) ⌝ }
 {
     let mut names: [u8; 64] = [0; 64];
     let mut lengths: [u8; 8] = [0; 8];
@@ -611,7 +563,7 @@ fn read_lines(names_line: &[u8], lows_line: &[u8], highs_line: &[u8], text: &[u8
 
 // The lowest refusal 1 to 7 that applies, or the stored sheet.
 pub fn read(text: &[u8]) -> Reading
-    ensures { λ r. ⌜ r ≡ readingOf (answerTo cutTowardZero threeHeaderLines (now (text .entry))) ⌝ }
+    ensures { λ r. ⌜ r ≡ readingOf (answerTo (now (text .entry))) ⌝ }
 {
     if refusals::bytes_refused(text) {
         return refused(1);

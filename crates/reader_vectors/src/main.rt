@@ -1,28 +1,11 @@
 // Reads sheets from standard input and prints a line for each: the refusal, how many streams, the letters, D, B, the untils and the firsts, and
 // then each stream's name, low and high. The enumerator wrote the input and what is expected: a number of four bytes, low first, and then as
 // many bytes of a sheet, sheet after sheet.
-ghost use Prim.Native.Nat.{_<_, _≤_};
-ghost use lib.ListN.{length};
 use libc::STDIN_FILENO;
 use libc::STDOUT_FILENO;
 
 // A node's kind for the operator -.
 const DIFFERENCE: u8 = 8;
-
-fn wide(byte: u8) -> u32
-    ensures { λ r. ⌜ r < 256 ⌝ }
-{
-    byte as u32
-}
-
-// The number that the first four bytes write.
-fn number(all: &[u8]) -> u32
-    requires { ⌜ 4 ≤ length (now all) ⌝ }
-{
-    let low = wide(all[0]) + wide(all[1]) * 256;
-    let high = wide(all[2]) + wide(all[3]) * 256;
-    low + high * 65536
-}
 
 fn print(n: u64) {
     io::write_all(STDOUT_FILENO, b" ");
@@ -109,7 +92,7 @@ fn one(space: &mut [u8]) -> bool {
     if n < 4 {
         return false;
     }
-    let size = number(space) as usize;
+    let size = cases::number(space, 0) as usize;
     if space.len() < size {
         return false;
     }

@@ -1,16 +1,16 @@
 -- Chains of rows: a chain leads through earlier rows, and a row that is put into one leaves the others as they are.
-use mathlib.Core.Path.{_≡_, refl, sym, ap, ap₂, subst, _∙_}
-use mathlib.Core.Logic.{_⊎_, inl, inr, _≢_}
+use mathlib.Core.Path.{_≡_, refl, sym, ap, ap₂, subst}
+use mathlib.Core.Logic.{_⊎_, inl, inr}
 use mathlib.Core.List.{List}
-use Prim.Native.Nat.{ℕ, zero, suc, _+_, _-_, _<_, _≤_}
+use Prim.Native.Nat.{ℕ, suc, _+_, _-_, _<_, _≤_}
 use native.Mathlib.Numerals.{add-one}
 use native.Mathlib.Omega.{arith}
 use native.Mathlib.Decide.{ℕ-discrete}
 use lib.ListN.{length, getD, set}
-use lib.Seq.{getD-set-same, getD-set-other}
-use Rattle.refine.specs.Signatures.{row-bucket}
-use Rattle.refine.specs.Splitting.{OnChain, here, further, Falling, Found, Joins, Begins}
-use Rattle.refine.proofs.Lists.{set-other}
+use lib.Seq.{getD-set-same}
+use Rattle.refine.specs.Signatures.{rowBucket}
+use Rattle.refine.specs.Splitting.{OnChain, here, further, Falling, RowFound, Joins, BeginsClass}
+use Rattle.marks.proofs.Lists.{set-other}
 
 -- a row of a chain comes before its beginning
 pub chain-below : (links : List ℕ) → Falling links → {j i : ℕ} → OnChain links j i → i < j
@@ -70,8 +70,8 @@ module _ {links : List ℕ} {P : ℕ → Type 0} where
   searching-end e I i d p = chain-empty links e (I .left i d p)
 
 -- what a search of the chain of bucket b finds for row s, where b is the row's bucket
-module _ (letters : ℕ) (entries class heads links : List ℕ) (s b : ℕ) (e : b ≡ row-bucket (length heads) letters entries class s) where
-  pub joins-found : (v : ℕ) → 0 < v → Found letters entries class links (getD heads b 0) s v → Joins letters entries class heads links heads links s v
+module _ (letters : ℕ) (entries class heads links : List ℕ) (s b : ℕ) (e : b ≡ rowBucket (length heads) letters entries class s) where
+  pub joins-found : (v : ℕ) → 0 < v → RowFound letters entries class links (getD heads b 0) s v → Joins letters entries class heads links heads links s v
   joins-found v h f = record {
     some = h;
     on-chain = subst (λ x. OnChain links (getD heads x 0) (v - 1)) e (f .hit h .0);
@@ -80,8 +80,8 @@ module _ (letters : ℕ) (entries class heads links : List ℕ) (s b : ℕ) (e :
     links-kept = refl;
   }
 
-  pub begins-missed : (v : ℕ) → v ≡ 0 → Found letters entries class links (getD heads b 0) s v
-      → Begins letters entries class heads links (set heads b (s + 1)) (set links s (getD heads b 0)) s (s + 1)
+  pub begins-missed : (v : ℕ) → v ≡ 0 → RowFound letters entries class links (getD heads b 0) s v
+      → BeginsClass letters entries class heads links (set heads b (s + 1)) (set links s (getD heads b 0)) s (s + 1)
   begins-missed v z f = record {
     own = add-one s;
     none = λ i d. f .miss z i (subst (λ x. OnChain links (getD heads x 0) i) (sym e) d);

@@ -2,16 +2,15 @@
 use mathlib.Core.Path.{_≡_, refl, sym, _∙_}
 use mathlib.Core.Logic.{_⊎_, inl, inr, _≢_}
 use mathlib.Core.List.{List}
-use Prim.Native.Nat.{ℕ, zero, suc, _+_, _-_, _<_, _≤_}
+use Prim.Native.Nat.{ℕ, suc, _+_, _-_, _<_, _≤_}
 use native.Mathlib.Omega.{arith}
 use native.Mathlib.Decide.{ℕ-discrete, decLt}
 use lib.ListN.{length, getD, set, length-set, List·getD-eq-default}
-use lib.Seq.{getD-set-same, getD-set-other}
+use lib.Seq.{getD-set-same}
 use Rattle.marks.specs.Marks.{Marked}
 use Rattle.marks.proofs.Laws.{marked-inside}
-use Rattle.refine.specs.Classes.{IsNamed}
 use Rattle.refine.specs.Steps.{ByFinals}
-use Rattle.refine.proofs.Lists.{below-set, set-other}
+use Rattle.marks.proofs.Lists.{below-set, set-other}
 
 -- the rows below n with P have the class v, named by the first of them; v is 0 as long as there is none
 pub record IsKind (P : ℕ → Type 0) (class : List ℕ) (n v : ℕ) : Type 0 where

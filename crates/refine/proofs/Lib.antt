@@ -1,4 +1,3 @@
-pub mod Lists
 pub mod FirstClasses
 pub mod Signatures
 pub mod Chains

@@ -1,38 +1,28 @@
 -- Rounds of splitting: each keeps the classes named and rows that no record tells apart together; each that changes something
 -- raises classes; and when none changes, rows of one class have one signature, so that no record tells them apart.
-use mathlib.Core.Path.{_≡_, refl, sym, ap, subst, _∙_}
-use mathlib.Core.Logic.{_⊎_, inl, inr, _≢_, ⊎-elim}
-use mathlib.Core.Bool.{Bool, true, false, not}
+use mathlib.Core.Path.{_≡_, sym, subst, _∙_}
+use mathlib.Core.Logic.{_⊎_, inl, inr, _≢_}
+use mathlib.Core.Bool.{Bool, true, false}
 use mathlib.Core.List.{List, [], _∷_}
 use Prim.Native.Nat.{ℕ, zero, suc, _+_, _*_, _-_, _<_, _≤_}
 use native.Mathlib.Nat.{not-suc-le-zero, le-of-suc-le-suc}
 use native.Mathlib.Omega.{arith}
 use native.Mathlib.Decide.{ℕ-discrete, decLt}
-use lib.Dec.{T, T-not, not-T, eqb, eqb→eq, eqb-refl}
 use lib.ListN.{length, getD, List·getD-eq-default}
 use lib.Seq.{ext-getD}
-use Rattle.automaton.specs.Stored.{entry-at}
+use Rattle.automaton.specs.Stored.{entryAt}
 use Rattle.automaton.specs.Graph.{Graph, Member}
-use Rattle.automaton.specs.Fixpoints.{Distinguished, swap, by-final, by-edge, by-letter, SameStep, IsPartition}
+use Rattle.automaton.specs.Fixpoints.{Distinguished, swap, by-final, by-edge, by-letter, SameStep}
 use Rattle.marks.specs.Marks.{Marked}
 use Rattle.marks.proofs.Laws.{marked-inside}
-use Rattle.refine.specs.Classes.{marked, edges, IsNamed, Refined, Sizes}
-use Rattle.refine.specs.Signatures.{class-after, SameSignature}
-use Rattle.refine.specs.Splitting.{IsFirst, IsSplit, Moved, Round, Falling}
+use Rattle.marks.proofs.Tests.{marked-test, test-marked, unmarked-test}
+use Rattle.marks.specs.Tests.{isMarked}
+use Rattle.refine.specs.Classes.{edges, IsNamed, Refined, Sizes}
+use Rattle.refine.specs.Signatures.{classAfter, SameSignature}
+use Rattle.refine.specs.Splitting.{IsFirst, ClassesMoved, Round, Falling}
 use Rattle.refine.specs.Steps.{ByFinals, Rounds}
 use Rattle.refine.proofs.Signatures.{signature-sym, signature-trans}
 use Rattle.refine.proofs.Splitting.{first-same}
-
--- marks as tests
-
-pub marked-test : (list : List ℕ) (s : ℕ) → Marked list s → T (marked list s)
-marked-test list s e = rw e tt
-
-pub test-marked : (list : List ℕ) (s : ℕ) → T (marked list s) → Marked list s
-test-marked list s h = eqb→eq (getD list s 0) 1 h
-
-pub unmarked-test : (list : List ℕ) (s : ℕ) → ¬ Marked list s → T (not (marked list s))
-unmarked-test list s n = not-T (marked list s) (λ h. n (test-marked list s h))
 
 -- how far the classes are from n, all together
 pub slack : ℕ → List ℕ → ℕ
@@ -70,13 +60,13 @@ pub record Classes (letters : ℕ) (entries live finals class : List ℕ) : Type
   pub named : IsNamed live class
   pub finals-alike : (s t : ℕ) → Marked live s → Marked live t → getD class s 0 ≡ getD class t 0 → Marked finals s → Marked finals t
   pub parted : (s t : ℕ) → Marked live s → Marked live t → getD class s 0 ≢ getD class t 0
-      → Distinguished (edges letters entries (length live)) (marked live) (marked finals) s t
+      → Distinguished (edges letters entries (length live)) (isMarked live) (isMarked finals) s t
 
 module _ {letters : ℕ} {entries live finals class : List ℕ} where
   pub classes-start : length class ≡ length live → ByFinals live finals class → Classes letters entries live finals class
   classes-start e b = record { same = e; named = b .named; finals-alike = b .finals-alike; parted = λ s t ms mt ne. go s t (b .parted s t ms mt ne) }
     where
-      go : (s t : ℕ) → (Marked finals s × (¬ Marked finals t)) ⊎ (Marked finals t × (¬ Marked finals s)) → Distinguished (edges letters entries (length live)) (marked live) (marked finals) s t
+      go : (s t : ℕ) → (Marked finals s × (¬ Marked finals t)) ⊎ (Marked finals t × (¬ Marked finals s)) → Distinguished (edges letters entries (length live)) (isMarked live) (isMarked finals) s t
       go s t (inl x) = by-final (marked-test finals s (x .0)) (unmarked-test finals t (x .1))
       go s t (inr x) = swap (by-final (marked-test finals t (x .0)) (unmarked-test finals s (x .1)))
 
@@ -85,32 +75,32 @@ module _ {letters : ℕ} {entries live finals class : List ℕ} where
     pub class-lives : (s : ℕ) → 0 < getD class s 0 → Marked live s
     class-lives s h = elim (ℕ-discrete (getD live s 0) 1) [ yes m ↦ m | no m ↦ absurd (omega (arith, C .named .none s m)) ]
 
-    member : (s : ℕ) → 0 < getD class s 0 → Member (edges letters entries (length live)) (marked live) s
+    member : (s : ℕ) → 0 < getD class s 0 → Member (edges letters entries (length live)) (isMarked live) s
     member s h = let m = class-lives s h in record { inside = marked-inside live s m; holds = marked-test live s m }
 
-    no-member : (s : ℕ) → getD class s 0 ≡ 0 → ¬ Member (edges letters entries (length live)) (marked live) s
+    no-member : (s : ℕ) → getD class s 0 ≡ 0 → ¬ Member (edges letters entries (length live)) (isMarked live) s
     no-member s e m = omega (arith, C .named .some s (test-marked live s (m .holds)))
 
     -- rows whose signatures differ are told apart
-    signature-parted : (s t : ℕ) → Marked live s → Marked live t → ¬ SameSignature letters entries class s t → Distinguished (edges letters entries (length live)) (marked live) (marked finals) s t
-    signature-parted s t ms mt ne = go (ℕ-discrete (getD class s 0) (getD class t 0)) (differing (class-after entries class (s * letters)) (class-after entries class (t * letters)) letters)
+    signature-parted : (s t : ℕ) → Marked live s → Marked live t → ¬ SameSignature letters entries class s t → Distinguished (edges letters entries (length live)) (isMarked live) (isMarked finals) s t
+    signature-parted s t ms mt ne = go (ℕ-discrete (getD class s 0) (getD class t 0)) (differing (classAfter entries class (s * letters)) (classAfter entries class (t * letters)) letters)
       where
         after : ℕ → ℕ → ℕ
-        after u a = entry-at letters entries u a
+        after u a = entryAt letters entries u a
 
-        at-letter : (a : ℕ) → a < letters → class-after entries class (s * letters) a ≢ class-after entries class (t * letters) a
-            → Dec (class-after entries class (s * letters) a ≡ 0) → Dec (class-after entries class (t * letters) a ≡ 0) → Distinguished (edges letters entries (length live)) (marked live) (marked finals) s t
+        at-letter : (a : ℕ) → a < letters → classAfter entries class (s * letters) a ≢ classAfter entries class (t * letters) a
+            → Dec (classAfter entries class (s * letters) a ≡ 0) → Dec (classAfter entries class (t * letters) a ≡ 0) → Distinguished (edges letters entries (length live)) (isMarked live) (isMarked finals) s t
         at-letter a h q (yes x) (yes y) = absurd (q (x ∙ sym y))
         at-letter a h q (yes x) (no y) = swap (by-edge a h (member (after t a) (omega arith)) (no-member (after s a) x))
         at-letter a h q (no x) (yes y) = by-edge a h (member (after s a) (omega arith)) (no-member (after t a) y)
         at-letter a h q (no x) (no y) = by-letter a h (member (after s a) (omega arith)) (member (after t a) (omega arith))
             (C .parted (after s a) (after t a) (class-lives (after s a) (omega arith)) (class-lives (after t a) (omega arith)) q)
 
-        go : Dec (getD class s 0 ≡ getD class t 0) → ((a : ℕ) → a < letters → class-after entries class (s * letters) a ≡ class-after entries class (t * letters) a) ⊎ ((a : ℕ) × (a < letters) × (class-after entries class (s * letters) a ≢ class-after entries class (t * letters) a))
-            → Distinguished (edges letters entries (length live)) (marked live) (marked finals) s t
+        go : Dec (getD class s 0 ≡ getD class t 0) → ((a : ℕ) → a < letters → classAfter entries class (s * letters) a ≡ classAfter entries class (t * letters) a) ⊎ ((a : ℕ) × (a < letters) × (classAfter entries class (s * letters) a ≢ classAfter entries class (t * letters) a))
+            → Distinguished (edges letters entries (length live)) (isMarked live) (isMarked finals) s t
         go (no q) d = C .parted s t ms mt q
         go (yes q) (inl x) = absurd (ne (record { here = q; after = x }))
-        go (yes q) (inr x) = at-letter (x .0) (x .1) (x .2) (ℕ-discrete (class-after entries class (s * letters) (x .0)) 0) (ℕ-discrete (class-after entries class (t * letters) (x .0)) 0)
+        go (yes q) (inr x) = at-letter (x .0) (x .1) (x .2) (ℕ-discrete (classAfter entries class (s * letters) (x .0)) 0) (ℕ-discrete (classAfter entries class (t * letters) (x .0)) 0)
 
 module _ {letters : ℕ} {entries live finals class next : List ℕ} {changed : Bool} (C : Classes letters entries live finals class) (e : length next ≡ length class)
     (R : Round letters entries class next changed) where
@@ -153,7 +143,7 @@ module _ {letters : ℕ} {entries live finals class next : List ℕ} {changed : 
 
   pub round-rises : changed ≡ true → slack (length live) next < slack (length live) class
   round-rises q =
-      let m : Moved true class next (length class) = rw q at (R .moved) in
+      let m : ClassesMoved true class next (length class) = rw q at (R .moved) in
       let s = m .0 in
       let ml : Marked live s = class-or-next s (m .2) in
       slack-lt (length live) class next e (λ s h. rises s) s (m .1) (omega (arith, rises s, m .2)) (omega (arith, first s ml .low, marked-inside live s ml))
@@ -176,28 +166,28 @@ module _ {letters : ℕ} {entries live finals class next : List ℕ} {changed : 
       G : Graph
       G = edges letters entries (length live)
 
-      lives : (s : ℕ) → Member G (marked live) s → Marked live s
+      lives : (s : ℕ) → Member G (isMarked live) s → Marked live s
       lives s m = test-marked live s (m .holds)
 
       unmoved : (s : ℕ) → getD next s 0 ≡ getD class s 0
       unmoved s =
-          let m : Moved false class next (length class) = rw q at (R .moved) in
+          let m : ClassesMoved false class next (length class) = rw q at (R .moved) in
           elim (decLt s (length class)) [ yes h ↦ m s h | no h ↦ List·getD-eq-default next 0 (omega arith) ∙ sym (List·getD-eq-default class 0 (omega arith)) ]
 
-      reason : (s t : ℕ) → Marked live s → Marked live t → Dec (getD next s 0 ≡ getD next t 0) → (getD next s 0 ≡ getD next t 0) ⊎ Distinguished G (marked live) (marked finals) s t
+      reason : (s t : ℕ) → Marked live s → Marked live t → Dec (getD next s 0 ≡ getD next t 0) → (getD next s 0 ≡ getD next t 0) ⊎ Distinguished G (isMarked live) (isMarked finals) s t
       reason s t ms mt (yes z) = inl z
       reason s t ms mt (no z) = inr (classes-round .parted s t ms mt z)
 
-      after : (s t a : ℕ) → Marked live s → Marked live t → getD next s 0 ≡ getD next t 0 → a < letters → getD next (entry-at letters entries s a) 0 ≡ getD next (entry-at letters entries t a) 0
-      after s t a ms mt z h = unmoved (entry-at letters entries s a) ∙ (same-signature s t ms mt z .after a h ∙ sym (unmoved (entry-at letters entries t a)))
+      after : (s t a : ℕ) → Marked live s → Marked live t → getD next s 0 ≡ getD next t 0 → a < letters → getD next (entryAt letters entries s a) 0 ≡ getD next (entryAt letters entries t a) 0
+      after s t a ms mt z h = unmoved (entryAt letters entries s a) ∙ (same-signature s t ms mt z .after a h ∙ sym (unmoved (entryAt letters entries t a)))
 
-      carried : (u v : ℕ) → getD next u 0 ≡ getD next v 0 → Member G (marked live) u → Member G (marked live) v
+      carried : (u v : ℕ) → getD next u 0 ≡ getD next v 0 → Member G (isMarked live) u → Member G (isMarked live) v
       carried u v z m = member classes-round v (omega (arith, classes-round .named .some u (lives u m)))
 
-      step : (s t a : ℕ) → Marked live s → Marked live t → getD next s 0 ≡ getD next t 0 → a < letters → SameStep G (marked live) (λ s t. getD next s 0 ≡ getD next t 0) s t a
+      step : (s t a : ℕ) → Marked live s → Marked live t → getD next s 0 ≡ getD next t 0 → a < letters → SameStep G (isMarked live) (λ s t. getD next s 0 ≡ getD next t 0) s t a
       step s t a ms mt z h = record {
-        to = carried (entry-at letters entries s a) (entry-at letters entries t a) (after s t a ms mt z h);
-        from = carried (entry-at letters entries t a) (entry-at letters entries s a) (sym (after s t a ms mt z h));
+        to = carried (entryAt letters entries s a) (entryAt letters entries t a) (after s t a ms mt z h);
+        from = carried (entryAt letters entries t a) (entryAt letters entries s a) (sym (after s t a ms mt z h));
         step = λ m. after s t a ms mt z h;
       }
 
@@ -207,7 +197,7 @@ module _ {letters : ℕ} {entries live finals class next : List ℕ} {changed : 
     where
       still : next ≡ class
       still =
-          let m : Moved false class next (length class) = rw q at (R .moved) in
+          let m : ClassesMoved false class next (length class) = rw q at (R .moved) in
           ext-getD 0 next class e λ s h. m s (omega (arith, e))
 
 -- the lists between two rounds

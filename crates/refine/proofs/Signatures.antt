@@ -1,10 +1,10 @@
 -- Rows of one signature: an equivalence, and rows of one signature have one hash.
 use mathlib.Core.Path.{_≡_, refl, sym, ap, ap₂, _∙_}
 use mathlib.Core.List.{List}
-use Prim.Native.Nat.{ℕ, zero, suc, _+_, _*_, _<_, _≤_}
+use Prim.Native.Nat.{ℕ, zero, suc, _*_, _<_}
 use native.Mathlib.Omega.{arith}
 use lib.ListN.{getD}
-use Rattle.refine.specs.Signatures.{class-after, SameSignature, mixed, hash, row-hash, bucket-of, row-bucket}
+use Rattle.refine.specs.Signatures.{classAfter, SameSignature, mixed, hash, bucketOf, rowBucket}
 
 module _ {letters : ℕ} {entries class : List ℕ} where
   pub signature-refl : {p : ℕ} → SameSignature letters entries class p p
@@ -30,7 +30,7 @@ hash-same f g first zero e = refl
 hash-same f g first (suc n) e = ap₂ mixed (hash-same f g first n (λ a h. e a (omega arith))) (e n (omega arith))
 
 pub bucket-same : (count letters : ℕ) (entries class : List ℕ) (p q : ℕ) → SameSignature letters entries class p q
-    → row-bucket count letters entries class p ≡ row-bucket count letters entries class q
-bucket-same count letters entries class p q s = ap (bucket-of count)
-    (hash-same (class-after entries class (p * letters)) (class-after entries class (q * letters)) (getD class p 0) letters (s .after)
-    ∙ ap (λ x. hash (class-after entries class (q * letters)) x letters) (s .here))
+    → rowBucket count letters entries class p ≡ rowBucket count letters entries class q
+bucket-same count letters entries class p q s = ap (bucketOf count)
+    (hash-same (classAfter entries class (p * letters)) (classAfter entries class (q * letters)) (getD class p 0) letters (s .after)
+    ∙ ap (λ x. hash (classAfter entries class (q * letters)) x letters) (s .here))

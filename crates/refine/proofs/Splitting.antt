@@ -4,18 +4,17 @@ use mathlib.Core.Path.{_≡_, refl, sym, ap, subst, _∙_}
 use mathlib.Core.Logic.{_⊎_, inl, inr, _≢_}
 use mathlib.Core.Bool.{Bool, true, false}
 use mathlib.Core.List.{List}
-use Prim.Native.Nat.{ℕ, zero, suc, _+_, _*_, _-_, _<_, _≤_}
-use native.Mathlib.Numerals.{add-one}
+use Prim.Native.Nat.{ℕ, suc, _+_, _-_, _<_, _≤_}
 use native.Mathlib.Nat.{mod-lt}
 use native.Mathlib.Omega.{arith}
 use native.Mathlib.Decide.{ℕ-discrete}
 use lib.ListN.{length, getD, set, length-set}
-use lib.Seq.{getD-set-same, getD-set-other}
+use lib.Seq.{getD-set-same}
 use Rattle.marks.specs.Marks.{Marked}
-use Rattle.refine.specs.Signatures.{SameSignature, row-hash, row-bucket}
-use Rattle.refine.specs.Splitting.{OnChain, here, further, Falling, Joins, Begins, Splits, Stays, Sharing, IsFirst, IsSplit, Moved, Round}
+use Rattle.refine.specs.Signatures.{SameSignature, rowBucket}
+use Rattle.refine.specs.Splitting.{OnChain, here, further, Falling, Joins, BeginsClass, Splits, Stays, IsFirst, IsSplit, ClassesMoved, Round}
 use Rattle.refine.specs.Steps.{Splittable, IsSized}
-use Rattle.refine.proofs.Lists.{below-set, set-other}
+use Rattle.marks.proofs.Lists.{below-set, set-other}
 use Rattle.refine.proofs.Signatures.{signature-refl, signature-sym, signature-trans, bucket-same}
 use Rattle.refine.proofs.Chains.{chain-below, chain-empty, chain-set, chain-unset, chain-rest, falling-set}
 
@@ -34,14 +33,14 @@ pub record Splitting (letters : ℕ) (entries class shared next heads links : Li
   pub heads-fit : length heads ≡ length class
   pub links-fit : length links ≡ length class
   pub split : IsSplit letters entries class next n
-  pub moved : Moved changed class next n
+  pub moved : ClassesMoved changed class next n
   pub heads-most : (k : ℕ) → getD heads k 0 ≤ n
   pub falling : Falling links
   -- a row in a chain begins a new class
   pub sound : (k i : ℕ) → OnChain links (getD heads k 0) i → getD next i 0 ≡ suc i
   -- every row that begins a new class, and is not alone in its old one, is in its bucket's chain
   pub complete : (i : ℕ) → i < n → 0 < getD class i 0 → Marked shared (getD class i 0 - 1) → getD next i 0 ≡ suc i
-      → OnChain links (getD heads (row-bucket (length class) letters entries class i) 0) i
+      → OnChain links (getD heads (rowBucket (length class) letters entries class i) 0) i
 
 pub splitting-start : {letters : ℕ} {entries class shared next heads links : List ℕ} → IsSized letters entries class shared next heads links
     → Splitting letters entries class shared next heads links false 0
@@ -82,18 +81,18 @@ module _ {letters : ℕ} {entries class shared next heads links : List ℕ} {cha
     first = below-set (λ s c. 0 < getD class s 0 → IsFirst letters entries class s c) next n v inside (I .split .first) b;
   }
 
-  pub moved-same : (v : ℕ) → v ≡ getD class n 0 → Moved changed class (set next n v) (n + 1)
+  pub moved-same : (v : ℕ) → v ≡ getD class n 0 → ClassesMoved changed class (set next n v) (n + 1)
   moved-same v e = go changed (I .moved)
     where
-      go : (b : Bool) → Moved b class next n → Moved b class (set next n v) (n + 1)
+      go : (b : Bool) → ClassesMoved b class next n → ClassesMoved b class (set next n v) (n + 1)
       go true m = (m .0, omega (arith, m .1), λ q. m .2 (sym (set-other next n v (m .0) (omega (arith, m .1))) ∙ q))
       go false m = below-set (λ s c. c ≡ getD class s 0) next n v inside m e
 
-  pub moved-new : (v : ℕ) → v ≢ getD class n 0 → Moved true class (set next n v) (n + 1)
+  pub moved-new : (v : ℕ) → v ≢ getD class n 0 → ClassesMoved true class (set next n v) (n + 1)
   moved-new v ne = (n, omega arith, λ q. ne (sym (getD-set-same next n v 0 inside) ∙ q))
 
   -- the chains stay as they are, where row n begins no class or is alone in its class
-  keep : (v : ℕ) (b : Bool) → (getD class n 0 ≡ 0 → v ≡ 0) → (0 < getD class n 0 → IsFirst letters entries class n v) → Moved b class (set next n v) (n + 1)
+  keep : (v : ℕ) (b : Bool) → (getD class n 0 ≡ 0 → v ≡ 0) → (0 < getD class n 0 → IsFirst letters entries class n v) → ClassesMoved b class (set next n v) (n + 1)
       → (0 < getD class n 0 → Marked shared (getD class n 0 - 1) → v ≢ suc n) → Splitting letters entries class shared (set next n v) heads links b (n + 1)
   keep v b a f m q = record {
     within = omega arith;
@@ -105,12 +104,12 @@ module _ {letters : ℕ} {entries class shared next heads links : List ℕ} {cha
     heads-most = λ k. omega (arith, I .heads-most k);
     falling = I .falling;
     sound = λ k i d. set-other next n v i (omega (arith, chain-below links (I .falling) d, I .heads-most k)) ∙ I .sound k i d;
-    complete = below-set (λ i c. 0 < getD class i 0 → Marked shared (getD class i 0 - 1) → c ≡ suc i → OnChain links (getD heads (row-bucket (length class) letters entries class i) 0) i)
+    complete = below-set (λ i c. 0 < getD class i 0 → Marked shared (getD class i 0 - 1) → c ≡ suc i → OnChain links (getD heads (rowBucket (length class) letters entries class i) 0) i)
         next n v inside (I .complete) (λ p s e. absurd (q p s e));
   }
 
   -- row n keeps its class
-  splitting-stays : {next₀ heads₀ links₀ : List ℕ} → IsSized letters entries class shared next₀ heads₀ links₀ → (v : ℕ) (heads′ links′ : List ℕ) (b : Bool) → Stays class shared heads links heads′ links′ n v → Moved b class (set next n v) (n + 1)
+  splitting-stays : {next₀ heads₀ links₀ : List ℕ} → IsSized letters entries class shared next₀ heads₀ links₀ → (v : ℕ) (heads′ links′ : List ℕ) (b : Bool) → Stays class shared heads links heads′ links′ n v → ClassesMoved b class (set next n v) (n + 1)
       → Splitting letters entries class shared (set next n v) heads′ links′ b (n + 1)
   splitting-stays z v heads′ links′ b s m = rw (s .heads-kept, s .links-kept)
       (keep v b (λ e. s .kept ∙ e) first m (λ p q. absurd (s .alone p q)))
@@ -127,12 +126,12 @@ module _ {letters : ℕ} {entries class shared next heads links : List ℕ} {cha
       }
 
   -- row n joins the class of an earlier row
-  splitting-joins : (v : ℕ) (heads′ links′ : List ℕ) (b : Bool) → 0 < getD class n 0 → Joins letters entries class heads links heads′ links′ n v → Moved b class (set next n v) (n + 1)
+  splitting-joins : (v : ℕ) (heads′ links′ : List ℕ) (b : Bool) → 0 < getD class n 0 → Joins letters entries class heads links heads′ links′ n v → ClassesMoved b class (set next n v) (n + 1)
       → Splitting letters entries class shared (set next n v) heads′ links′ b (n + 1)
   splitting-joins v heads′ links′ b p s m = rw (s .heads-kept, s .links-kept) (keep v b (λ e. absurd (omega arith)) (λ q. first) m (λ q r e. omega (arith, below)))
     where
       k : ℕ
-      k = row-bucket (length heads) letters entries class n
+      k = rowBucket (length heads) letters entries class n
 
       below : v - 1 < n
       below = omega (arith, chain-below links (I .falling) (s .on-chain), I .heads-most k)
@@ -149,7 +148,7 @@ module _ {letters : ℕ} {entries class shared next heads links : List ℕ} {cha
           }
 
   -- row n begins a class
-  splitting-begins : (v : ℕ) (heads′ links′ : List ℕ) (b : Bool) → 0 < getD class n 0 → Marked shared (getD class n 0 - 1) → Begins letters entries class heads links heads′ links′ n v → Moved b class (set next n v) (n + 1)
+  splitting-begins : (v : ℕ) (heads′ links′ : List ℕ) (b : Bool) → 0 < getD class n 0 → Marked shared (getD class n 0 - 1) → BeginsClass letters entries class heads links heads′ links′ n v → ClassesMoved b class (set next n v) (n + 1)
       → Splitting letters entries class shared (set next n v) heads′ links′ b (n + 1)
   splitting-begins v heads′ links′ b p sh s m = rw (s .heads-changed, s .links-changed) (record {
     within = omega arith;
@@ -161,12 +160,12 @@ module _ {letters : ℕ} {entries class shared next heads links : List ℕ} {cha
     heads-most = heads-most;
     falling = falling-set links (I .falling) n (getD heads k 0) (I .heads-most k) (omega (arith, I .links-fit));
     sound = sound;
-    complete = below-set (λ i c. 0 < getD class i 0 → Marked shared (getD class i 0 - 1) → c ≡ suc i → OnChain links″ (getD heads″ (row-bucket (length class) letters entries class i) 0) i)
+    complete = below-set (λ i c. 0 < getD class i 0 → Marked shared (getD class i 0 - 1) → c ≡ suc i → OnChain links″ (getD heads″ (rowBucket (length class) letters entries class i) 0) i)
         next n v inside (λ i hi q r e. old i hi (I .complete i hi q r e)) (λ q r e. new);
   })
     where
       k : ℕ
-      k = row-bucket (length heads) letters entries class n
+      k = rowBucket (length heads) letters entries class n
 
       heads″ : List ℕ
       heads″ = set heads k (suc n)
@@ -207,15 +206,15 @@ module _ {letters : ℕ} {entries class shared next heads links : List ℕ} {cha
           on-new-chain (inl q) = own-next i q
           on-new-chain (inr d) = old-next k i (chain-old k i (rw link-new at d))
 
-      old : (i : ℕ) → i < n → OnChain links (getD heads (row-bucket (length class) letters entries class i) 0) i → OnChain links″ (getD heads″ (row-bucket (length class) letters entries class i) 0) i
-      old i hi d = on-head (λ x. OnChain links″ x i) (row-bucket (length class) letters entries class i)
+      old : (i : ℕ) → i < n → OnChain links (getD heads (rowBucket (length class) letters entries class i) 0) i → OnChain links″ (getD heads″ (rowBucket (length class) letters entries class i) 0) i
+      old i hi d = on-head (λ x. OnChain links″ x i) (rowBucket (length class) letters entries class i)
           (λ q. further n refl (rw link-new (chain-set links (I .falling) n (getD heads k 0) (I .heads-most k) (rw q at d))))
-          (λ q. chain-set links (I .falling) n (getD heads k 0) (I .heads-most (row-bucket (length class) letters entries class i)) d)
+          (λ q. chain-set links (I .falling) n (getD heads k 0) (I .heads-most (rowBucket (length class) letters entries class i)) d)
 
-      class-bucket : row-bucket (length class) letters entries class n ≡ k
-      class-bucket = ap (λ x. row-bucket x letters entries class n) (sym (I .heads-fit))
+      class-bucket : rowBucket (length class) letters entries class n ≡ k
+      class-bucket = ap (λ x. rowBucket x letters entries class n) (sym (I .heads-fit))
 
-      new : OnChain links″ (getD heads″ (row-bucket (length class) letters entries class n) 0) n
+      new : OnChain links″ (getD heads″ (rowBucket (length class) letters entries class n) 0) n
       new = here (ap (λ x. getD heads″ x 0) class-bucket ∙ head-new)
 
       -- no earlier row has the signature of row n: the first row of its signature would stand in the chain
@@ -243,12 +242,12 @@ module _ {letters : ℕ} {entries class shared next heads links : List ℕ} {cha
     (I : Splitting letters entries class shared next heads links changed n) (h : n < length class) where
   -- the next row
   pub splitting-next : {next₀ heads₀ links₀ : List ℕ} → IsSized letters entries class shared next₀ heads₀ links₀ → (v : ℕ) (heads′ links′ : List ℕ) (b : Bool)
-      → Stays class shared heads links heads′ links′ n v ⊎ Splits letters entries class shared heads links heads′ links′ n v → Moved b class (set next n v) (n + 1)
+      → Stays class shared heads links heads′ links′ n v ⊎ Splits letters entries class shared heads links heads′ links′ n v → ClassesMoved b class (set next n v) (n + 1)
       → Splitting letters entries class shared (set next n v) heads′ links′ b (n + 1)
   splitting-next z v heads′ links′ b (inl s) m = splitting-stays I h z v heads′ links′ b s m
   splitting-next z v heads′ links′ b (inr s) m = go (s .way)
     where
-      go : Joins letters entries class heads links heads′ links′ n v ⊎ Begins letters entries class heads links heads′ links′ n v → Splitting letters entries class shared (set next n v) heads′ links′ b (n + 1)
+      go : Joins letters entries class heads links heads′ links′ n v ⊎ BeginsClass letters entries class heads links heads′ links′ n v → Splitting letters entries class shared (set next n v) heads′ links′ b (n + 1)
       go (inl j) = splitting-joins I h v heads′ links′ b (s .some) j m
       go (inr j) = splitting-begins I h v heads′ links′ b (s .some) (s .shares) j m
 

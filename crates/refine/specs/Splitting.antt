@@ -5,10 +5,10 @@ use mathlib.Core.Path.{_≡_}
 use mathlib.Core.Logic.{_⊎_, _≢_}
 use mathlib.Core.Bool.{Bool, true, false}
 use mathlib.Core.List.{List}
-use Prim.Native.Nat.{ℕ, suc, _+_, _*_, _-_, _<_, _≤_}
+use Prim.Native.Nat.{ℕ, suc, _-_, _<_, _≤_}
 use lib.ListN.{getD, length, set}
 use Rattle.marks.specs.Marks.{Marked}
-use Rattle.refine.specs.Signatures.{SameSignature, row-bucket}
+use Rattle.refine.specs.Signatures.{SameSignature, rowBucket}
 
 -- row i stands in the chain that begins with row j - 1, or in none if j is 0
 pub data OnChain (links : List ℕ) : ℕ → ℕ → Type 0 where
@@ -20,30 +20,30 @@ abbrev pub Falling : List ℕ → Type 0
 Falling links = (r : ℕ) → getD links r 0 ≤ r
 
 -- v is one more than a row of the chain from `head` with the signature of row s, or 0 if there is none
-pub record Found (letters : ℕ) (entries class links : List ℕ) (head s v : ℕ) : Type 0 where
+pub record RowFound (letters : ℕ) (entries class links : List ℕ) (head s v : ℕ) : Type 0 where
   pub hit : 0 < v → OnChain links head (v - 1) × SameSignature letters entries class (v - 1) s
   pub miss : v ≡ 0 → (i : ℕ) → OnChain links head i → ¬ SameSignature letters entries class i s
 
 -- row s joins the new class that row v - 1 began
 pub record Joins (letters : ℕ) (entries class heads links heads′ links′ : List ℕ) (s v : ℕ) : Type 0 where
   pub some : 0 < v
-  pub on-chain : OnChain links (getD heads (row-bucket (length heads) letters entries class s) 0) (v - 1)
+  pub on-chain : OnChain links (getD heads (rowBucket (length heads) letters entries class s) 0) (v - 1)
   pub same : SameSignature letters entries class (v - 1) s
   pub heads-kept : heads′ ≡ heads
   pub links-kept : links′ ≡ links
 
 -- row s begins a new class, and is put into its bucket's chain
-pub record Begins (letters : ℕ) (entries class heads links heads′ links′ : List ℕ) (s v : ℕ) : Type 0 where
+pub record BeginsClass (letters : ℕ) (entries class heads links heads′ links′ : List ℕ) (s v : ℕ) : Type 0 where
   pub own : v ≡ suc s
-  pub none : (i : ℕ) → OnChain links (getD heads (row-bucket (length heads) letters entries class s) 0) i → ¬ SameSignature letters entries class i s
-  pub heads-changed : heads′ ≡ set heads (row-bucket (length heads) letters entries class s) (suc s)
-  pub links-changed : links′ ≡ set links s (getD heads (row-bucket (length heads) letters entries class s) 0)
+  pub none : (i : ℕ) → OnChain links (getD heads (rowBucket (length heads) letters entries class s) 0) i → ¬ SameSignature letters entries class i s
+  pub heads-changed : heads′ ≡ set heads (rowBucket (length heads) letters entries class s) (suc s)
+  pub links-changed : links′ ≡ set links s (getD heads (rowBucket (length heads) letters entries class s) 0)
 
 -- row s has a class with another row, and joins or begins a new class
 pub record Splits (letters : ℕ) (entries class shared heads links heads′ links′ : List ℕ) (s v : ℕ) : Type 0 where
   pub some : 0 < getD class s 0
   pub shares : Marked shared (getD class s 0 - 1)
-  pub way : Joins letters entries class heads links heads′ links′ s v ⊎ Begins letters entries class heads links heads′ links′ s v
+  pub way : Joins letters entries class heads links heads′ links′ s v ⊎ BeginsClass letters entries class heads links heads′ links′ s v
 
 -- row s keeps its class: it has none, or its class has no other row
 pub record Stays (class shared heads links heads′ links′ : List ℕ) (s v : ℕ) : Type 0 where
@@ -69,10 +69,10 @@ pub record IsSplit (letters : ℕ) (entries class next : List ℕ) (n : ℕ) : T
   pub first : (s : ℕ) → s < n → 0 < getD class s 0 → IsFirst letters entries class s (getD next s 0)
 
 -- whether some of the first n rows has another class than before
-abbrev pub Moved : Bool → List ℕ → List ℕ → ℕ → Type 0
-Moved true class next n = (s : ℕ) × (s < n) × (getD next s 0 ≢ getD class s 0)
-Moved false class next n = (s : ℕ) → s < n → getD next s 0 ≡ getD class s 0
+abbrev pub ClassesMoved : Bool → List ℕ → List ℕ → ℕ → Type 0
+ClassesMoved true class next n = (s : ℕ) × (s < n) × (getD next s 0 ≢ getD class s 0)
+ClassesMoved false class next n = (s : ℕ) → s < n → getD next s 0 ≡ getD class s 0
 
 pub record Round (letters : ℕ) (entries class next : List ℕ) (changed : Bool) : Type 0 where
   pub split : IsSplit letters entries class next (length class)
-  pub moved : Moved changed class next (length class)
+  pub moved : ClassesMoved changed class next (length class)

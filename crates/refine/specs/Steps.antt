@@ -1,9 +1,11 @@
 -- What the steps of the refinement ask of their lists, and what they leave.
 use mathlib.Core.Path.{_≡_}
 use mathlib.Core.Logic.{_⊎_, _≢_}
+use mathlib.Core.Bool.{Bool}
 use mathlib.Core.List.{List}
 use Prim.Native.Nat.{ℕ, suc, _*_, _<_, _≤_}
 use lib.ListN.{getD, length, replicate}
+use Rattle.marks.specs.Answers.{Says}
 use Rattle.marks.specs.Marks.{Marked}
 use Rattle.refine.specs.Classes.{IsNamed, Refined, Sizes}
 use Rattle.refine.specs.Splitting.{Falling, Sharing}
@@ -67,8 +69,9 @@ pub record IsRefinement (letters : ℕ) (entries live finals class next heads li
   pub shared-zero : shared′ ≡ replicate (length shared) 0
 
 -- The classes are those of the rows that no record tells apart, and the work tables are zero, if the lists have the sizes; and
--- else nothing changes. So nothing is left open: `Refined` holds of one list only (`Rattle.refine.proofs.Unique`).
-pub record RefineOutcome (letters : ℕ) (entries live finals class next heads links shared class′ next′ heads′ links′ shared′ : List ℕ) : Type 0 where
+-- else nothing changes. The answer says which. So nothing is left open: `Refined` holds of one list only (`Rattle.refine.proofs.Unique`).
+pub record RefineOutcome (letters : ℕ) (entries live finals class next heads links shared : List ℕ) (answer : Bool) (class′ next′ heads′ links′ shared′ : List ℕ) : Type 0 where
+  pub says : Says answer (Sizes letters entries live finals class next heads links shared)
   pub fits : Sizes letters entries live finals class next heads links shared → IsRefinement letters entries live finals class next heads links shared class′ next′ heads′ links′ shared′
   pub unchanged : ¬ Sizes letters entries live finals class next heads links shared
       → (class′ ≡ class) × (next′ ≡ next) × (heads′ ≡ heads) × (links′ ≡ links) × (shared′ ≡ shared)

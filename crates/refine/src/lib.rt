@@ -5,18 +5,10 @@ ghost use mathlib.Core.Logic.{_⊎_};
 ghost use Prim.Native.Nat.{ℕ, _+_, _*_, _<_, _≤_};
 ghost use lib.ListN.{length, getD};
 ghost use Rattle.marks.specs.Answers.{Says};
-ghost use Rattle.refine.specs.Classes.{IsNamed, Refined, Sizes};
-ghost use Rattle.refine.specs.Signatures.{class-after, SameSignature, mixed, hash, bucket-of};
-ghost use Rattle.refine.specs.Splitting.{OnChain, Falling, Found, Joins, Begins, Splits, Stays, Sharing, Round};
+ghost use Rattle.refine.specs.Classes.{Refined, Sizes};
+ghost use Rattle.refine.specs.Signatures.{classAfter, mixed, hash, bucketOf};
+ghost use Rattle.refine.specs.Splitting.{Falling, RowFound, Joins, BeginsClass, Splits, Stays, Sharing, Round};
 ghost use Rattle.refine.specs.Steps.{ByFinals, Searchable, Splittable, IsSized, Rounds, RefineOutcome};
-
-// The class of the row that an entry names, 0 for none.
-pub fn class_at(class: &[u32], entry: u16) -> u32
-    ensures { λ r. ⌜ r ≡ getD (now (class .entry)) entry 0 ⌝ }
-{
-    let row = entry as usize;
-    if row < class.len() { class[row] } else { 0 }
-}
 
 // The name of a class: the name that it has, or `name` if it has none yet.
 fn first_of(old: u32, name: u32) -> u32
@@ -78,12 +70,12 @@ fn mix(h: u64, class: u32) -> u64
 // The hash of `first` and of the classes after the row that starts at `start`.
 fn hash_row(entries: &[u16], start: usize, letters: usize, class: &[u32], first: u32) -> u64
     requires { ⌜ start + letters ≤ length (now entries) ⌝ }
-    ensures { λ r. ⌜ (r < 4294967296) × (r ≡ hash (class-after (now (entries .entry)) (now (class .entry)) start) first letters) ⌝ }
+    ensures { λ r. ⌜ (r < 4294967296) × (r ≡ hash (classAfter (now (entries .entry)) (now (class .entry)) start) first letters) ⌝ }
 {
     let mut h = first as u64;
     let mut a = 0;
     while a < letters {
-        h = mix(h, class_at(class, entries[start + a]));
+        h = mix(h, marks::number_at(class, entries[start + a]));
         a += 1;
     }
     h
@@ -92,7 +84,7 @@ fn hash_row(entries: &[u16], start: usize, letters: usize, class: &[u32], first:
 // The bucket of a hash.
 fn bucket(h: u64, count: usize) -> usize
     requires { ⌜ (h < 4294967296) × (0 < count) ⌝ }
-    ensures { λ r. ⌜ (r < count) × (r ≡ bucket-of count h) ⌝ }
+    ensures { λ r. ⌜ (r < count) × (r ≡ bucketOf count h) ⌝ }
 {
     ((h / 32768 + h) % count as u64) as usize
 }
@@ -100,11 +92,11 @@ fn bucket(h: u64, count: usize) -> usize
 // Whether the rows that start at `p` and `q` lead to the same classes.
 fn same_row(entries: &[u16], letters: usize, class: &[u32], p: usize, q: usize) -> bool
     requires { ⌜ (p + letters ≤ length (now entries)) × (q + letters ≤ length (now entries)) ⌝ }
-    ensures { λ r. ⌜ Says r ((a : ℕ) → a < letters → class-after (now (entries .entry)) (now (class .entry)) p a ≡ class-after (now (entries .entry)) (now (class .entry)) q a) ⌝ }
+    ensures { λ r. ⌜ Says r ((a : ℕ) → a < letters → classAfter (now (entries .entry)) (now (class .entry)) p a ≡ classAfter (now (entries .entry)) (now (class .entry)) q a) ⌝ }
 {
     let mut a = 0;
     while a < letters {
-        if class_at(class, entries[p + a]) != class_at(class, entries[q + a]) {
+        if marks::number_at(class, entries[p + a]) != marks::number_at(class, entries[q + a]) {
             return false;
         }
         a += 1;
@@ -122,7 +114,7 @@ fn find(
     row: usize,
 ) -> usize
     requires { ⌜ Searchable letters (now entries) (now class) (now links) head row ⌝ }
-    ensures { λ r. ⌜ (r ≤ row) × Found letters (now (entries .entry)) (now (class .entry)) (now (links .entry)) head row r ⌝ }
+    ensures { λ r. ⌜ (r ≤ row) × RowFound letters (now (entries .entry)) (now (class .entry)) (now (links .entry)) head row r ⌝ }
 {
     let start = row * letters;
     let mut j = head;
@@ -148,7 +140,7 @@ fn split_row(
     links: &mut [u32],
 ) -> u32
     requires { ⌜ Splittable letters (now entries) (now class) (now heads) (now links) row ⌝ }
-    ensures { λ r. ⌜ Joins letters (now (entries .entry)) (now (class .entry)) (now (heads .entry)) (now (links .entry)) (now (heads .exit)) (now (links .exit)) row r ⊎ Begins letters (now (entries .entry)) (now (class .entry)) (now (heads .entry)) (now (links .entry)) (now (heads .exit)) (now (links .exit)) row r ⌝ }
+    ensures { λ r. ⌜ Joins letters (now (entries .entry)) (now (class .entry)) (now (heads .entry)) (now (links .entry)) (now (heads .exit)) (now (links .exit)) row r ⊎ BeginsClass letters (now (entries .entry)) (now (class .entry)) (now (heads .entry)) (now (links .entry)) (now (heads .exit)) (now (links .exit)) row r ⌝ }
 {
     let h = hash_row(entries, row * letters, letters, class, class[row]);
     let b = bucket(h, heads.len());
@@ -294,7 +286,8 @@ fn sizes_agree(
 }
 
 // Gives each live row its class, 0 to each other row, and clears the work tables `next`, `heads`, `links` and `shared`, if the lists
-// of rows hold as many, at most 65,535, and there is room for their entries and final bytes. Else nothing changes.
+// of rows hold as many, at most 65,535, and there is room for their entries and final bytes. Else nothing changes, and the answer is
+// false.
 pub fn refine(
     entries: &[u16],
     letters: usize,
@@ -305,16 +298,16 @@ pub fn refine(
     heads: &mut [u32],
     links: &mut [u32],
     shared: &mut [u32],
-)
-    ensures { λ r. ⌜ RefineOutcome letters (now (entries .entry)) (now (live .entry)) (now (finals .entry)) (now (class .entry)) (now (next .entry)) (now (heads .entry)) (now (links .entry)) (now (shared .entry)) (now (class .exit)) (now (next .exit)) (now (heads .exit)) (now (links .exit)) (now (shared .exit)) ⌝ }
+) -> bool
+    ensures { λ r. ⌜ RefineOutcome letters (now (entries .entry)) (now (live .entry)) (now (finals .entry)) (now (class .entry)) (now (next .entry)) (now (heads .entry)) (now (links .entry)) (now (shared .entry)) r (now (class .exit)) (now (next .exit)) (now (heads .exit)) (now (links .exit)) (now (shared .exit)) ⌝ }
 {
     if live.len() > 65535 {
-        return;
+        return false;
     }
     if !marks::rows_fit(live.len(), letters, entries.len()) {
-        return;
+        return false;
     }
-    if sizes_agree(
+    if !sizes_agree(
         live.len(),
         finals.len(),
         class.len(),
@@ -323,20 +316,22 @@ pub fn refine(
         links.len(),
         shared.len(),
     ) {
-        rounds(
-            entries,
-            letters,
-            live,
-            finals,
-            class,
-            next,
-            heads,
-            links,
-            shared,
-        );
-        marks::fill(next, 0);
-        marks::fill(heads, 0);
-        marks::fill(links, 0);
-        marks::fill(shared, 0);
+        return false;
     }
+    rounds(
+        entries,
+        letters,
+        live,
+        finals,
+        class,
+        next,
+        heads,
+        links,
+        shared,
+    );
+    marks::fill(next, 0);
+    marks::fill(heads, 0);
+    marks::fill(links, 0);
+    marks::fill(shared, 0);
+    true
 }

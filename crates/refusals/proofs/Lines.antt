@@ -10,7 +10,6 @@ use lib.ListN.{length, drop, getD, length-drop, drop-of-length-le}
 use lib.Seq.{drop-drop, getD-drop}
 use borrow.Author.Tests.{lt-ltb, le-ltb, le-leb, lt-leb}
 use Rattle.text.specs.Bytes.{Token, ByteClass, bracket, inside, between, classOf, startsInside, addToTokens, extendFirst, lines, tokens}
-use Rattle.sheet.specs.Form.{threeHeaderLines}
 use Rattle.sheet.specs.Refusal.{isAllowed, tokenCount}
 use Rattle.sheet.specs.Reading.{anyOf, tooDeepFrom, refuses1, refuses2}
 use Rattle.scan.specs.Place as place
@@ -212,7 +211,7 @@ counted-end {text} {count} {tokens₀} {at} k h =
     or-false false false = refl
 
 pub lines-refused : {text : List ℕ} {h : Header} {n : ℕ} → HeaderOf text h → n ≡ length (tokens (place.between text 0 (h .«names_end»))) → {t : Bool}
-    → t ≡ constraintLinesRefused (lines (drop (h .constraints) text)) → ltb 8 n || t ≡ refuses2 threeHeaderLines text
+    → t ≡ constraintLinesRefused (lines (drop (h .constraints) text)) → ltb 8 n || t ≡ refuses2 text
 unfolding refuses2 constraintLinesRefused
 lines-refused {text} {h} {n} p e {t} d =
     let first : n ≡ length (tokens (getD (lines text) 0 [])) = e ∙ ap (λ l. length (tokens l)) (p .names) in

@@ -7,7 +7,7 @@ use lib.Dec.{ltb, leb·suc-suc, leb·zero}
 use lib.ListN.{length}
 use Rattle.text.specs.Bytes.{Token}
 use Rattle.text.specs.Token.{sameBytes, isOneOf, isReserved}
-use Rattle.sheet.specs.Vocabulary.{placeOf}
+use Rattle.sheet.specs.Vocabulary.{namePlace}
 use Rattle.sheet.specs.Reading.{anyOf, areDistinct}
 use Rattle.refusals.specs.Names.{namesRefused}
 
@@ -18,14 +18,14 @@ ltb-zero : (n : ℕ) → ltb 0 (suc n) ≡ true
 ltb-zero n = leb·suc-suc 0 n ∙ leb·zero n
 
 -- A place below the number of tokens is a token's.
-pub placeOf-below : (ts : List Token) (t : Token) → ltb (placeOf ts t) (length ts) ≡ isOneOf ts t
-unfolding placeOf
+pub placeOf-below : (ts : List Token) (t : Token) → ltb (namePlace ts t) (length ts) ≡ isOneOf ts t
+unfolding namePlace
 placeOf-below [] t = refl
 placeOf-below (n ∷ ts) t = by (placeOf-below ts t) (sameBytes n t) refl
   where
-    by : ltb (placeOf ts t) (length ts) ≡ isOneOf ts t → (b : Bool) → sameBytes n t ≡ b → ltb (cond (sameBytes n t) 0 (suc (placeOf ts t))) (suc (length ts)) ≡ sameBytes n t || isOneOf ts t
-    by h true e = ap (λ b. ltb (cond b 0 (suc (placeOf ts t))) (suc (length ts))) e ∙ ltb-zero (length ts) ∙ sym (ap (λ b. b || isOneOf ts t) e)
-    by h false e = ap (λ b. ltb (cond b 0 (suc (placeOf ts t))) (suc (length ts))) e ∙ ltb-suc (placeOf ts t) (length ts) ∙ h ∙ sym (ap (λ b. b || isOneOf ts t) e)
+    by : ltb (namePlace ts t) (length ts) ≡ isOneOf ts t → (b : Bool) → sameBytes n t ≡ b → ltb (cond (sameBytes n t) 0 (suc (namePlace ts t))) (suc (length ts)) ≡ sameBytes n t || isOneOf ts t
+    by h true e = ap (λ b. ltb (cond b 0 (suc (namePlace ts t))) (suc (length ts))) e ∙ ltb-zero (length ts) ∙ sym (ap (λ b. b || isOneOf ts t) e)
+    by h false e = ap (λ b. ltb (cond b 0 (suc (namePlace ts t))) (suc (length ts))) e ∙ ltb-suc (namePlace ts t) (length ts) ∙ h ∙ sym (ap (λ b. b || isOneOf ts t) e)
 
 or-true : (a : Bool) → a || true ≡ true
 or-true true = refl

@@ -6,10 +6,10 @@ ghost use lib.Dec.{ltb};
 ghost use lib.Signed.{ltZ};
 ghost use Rattle.text.specs.Bytes.{lines, tokens};
 ghost use Rattle.text.specs.Token.{isOneOf};
-ghost use Rattle.sheet.specs.Form.{threeHeaderLines};
 ghost use Rattle.sheet.specs.Refusal.{isAllowed};
 ghost use Rattle.sheet.specs.Reading.{refuses1, refuses2};
 ghost use Rattle.refusals.specs.Names.{namesRefused, formRefusal};
+ghost use Rattle.refusals.specs.Tested.{failedAs, testedWith};
 ghost use Rattle.refusals.specs.Places.{HeaderOf, constraintLinesRefused};
 
 // Where the three header lines stand and the constraint lines begin, and whether there are three header lines.
@@ -21,6 +21,14 @@ pub struct Header {
     pub highs_end: usize,
     pub constraints: usize,
     pub whole: bool,
+}
+
+// A refusal 4 to 7 with zeros, or 0 with the number of letters, D and B.
+pub struct Tested {
+    pub refusal: u32,
+    pub letters: u32,
+    pub ahead: u32,
+    pub back: u32,
 }
 
 // "10 and 32 to 126"
@@ -98,7 +106,7 @@ fn constraint_lines_refused(text: &[u8]) -> bool
 
 // "2: over 8 tokens in line 1, 32 lines after line 3, 1,024 tokens in them, or, up to some place in one of them, more than 32 more `(` than `)`."
 pub fn lines_refused(text: &[u8]) -> bool
-    ensures { λ r. ⌜ r ≡ refuses2 threeHeaderLines (now (text .entry)) ⌝ }
+    ensures { λ r. ⌜ r ≡ refuses2 (now (text .entry)) ⌝ }
 {
     let header = header_of(text);
     let names_end = header.names_end;
@@ -167,7 +175,7 @@ pub fn form_refusal(formless: bool, named: bool) -> u32
 }
 
 // "7: letters, untils, firsts or D+B over the bound."
-pub fn counts_refused(letters: u32, untils: usize, firsts: usize, ahead: u32, back: u32) -> bool
+fn counts_refused(letters: u32, untils: usize, firsts: usize, ahead: u32, back: u32) -> bool
     ensures { λ r. ⌜ r ≡ ltb 1024 letters || ltb 8 untils || ltb 8 firsts || ltb 6 (ahead + back) ⌝ }
 {
     if 1024 < letters {
@@ -186,4 +194,49 @@ pub fn counts_refused(letters: u32, untils: usize, firsts: usize, ahead: u32, ba
         return true;
     }
     6 < ahead + back
+}
+
+fn failed(number: u32) -> Tested
+    ensures { λ r. ⌜ r ≡ failedAs number ⌝ }
+{
+    Tested {
+        refusal: number,
+        letters: 0,
+        ahead: 0,
+        back: 0,
+    }
+}
+
+// The lowest of refusals 4 to 7, but for what the names of line 1 say alone: whether a constraint has an unknown name, whether a range or an integer
+// is faulty, and whether every interval is within the bound.
+pub fn lowest_refusal(
+    unknown: bool,
+    faulty: bool,
+    bounded: bool,
+    letters: u32,
+    untils: usize,
+    firsts: usize,
+    ahead: u32,
+    back: u32,
+) -> Tested
+    ensures { λ r. ⌜ r ≡ testedWith unknown faulty bounded letters untils firsts ahead back ⌝ }
+{
+    if unknown {
+        return failed(4);
+    }
+    if faulty {
+        return failed(5);
+    }
+    if !bounded {
+        return failed(6);
+    }
+    if counts_refused(letters, untils, firsts, ahead, back) {
+        return failed(7);
+    }
+    Tested {
+        refusal: 0,
+        letters: letters,
+        ahead: ahead,
+        back: back,
+    }
 }

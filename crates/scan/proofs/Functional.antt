@@ -7,9 +7,10 @@ use mathlib.Core.List.{List, [], _∷_, _++_, List·Memᴰ, List·Memᴰ·head, 
 use native.Mathlib.Omega.{arith}
 use lib.Dec.{T}
 use lib.ListN.{length, drop, getD}
+use Rattle.basics.proofs.Reflects.{T-reflects, to-true}
+use Rattle.basics.proofs.Tests.{and-left, and-right, and-both}
 use Rattle.text.specs.Bytes.{Token, isBracket, isInside, startsInside, extendFirst, addToTokens, ByteClass, lines, tokens}
 use Rattle.text.specs.Token.{allBytes}
-use Rattle.text.proofs.Reflects.{and-left, and-right, and-both, T-reflects, to-true}
 use Rattle.text.proofs.Bytes.{HasClass, aBracket, anInside, aBetween, classOf-has, IsToken, bracketToken, run, tokens-member}
 use Rattle.sheet.specs.Brackets.{BytePartner}
 use Rattle.scan.specs.declared.Span.{Span}

@@ -11,9 +11,10 @@ use lib.Seq.{take-all}
 use mir.Syntax.{w64}
 use mir.Val.{SFits}
 use borrow.Author.Tests.{ne-eqb, le-leb, lt-leb, lt-ltb}
+use Rattle.basics.proofs.Tests.{and-left, and-right}
+use Rattle.basics.proofs.Reflects.{Reflects, holds, fails, ltb-reflects, to-true, to-false}
 use Rattle.text.specs.Bytes.{Token, bytesOf}
 use Rattle.text.specs.Token.{allBytes, sameBytes, isDigit, isEmpty, isNatural, isInteger, integerValue, naturalFrom}
-use Rattle.text.proofs.Reflects.{Reflects, holds, fails, ltb-reflects, to-true, to-false, and-left, and-right}
 use Rattle.text.proofs.Token.{sameBytes-reflects, naturalFrom-rises}
 use Rattle.sheet.specs.Refusal.{magnitudeBound}
 use Rattle.sheet.specs.Reading.{isBeyond}

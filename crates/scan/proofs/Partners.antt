@@ -9,7 +9,7 @@ use lib.Dec.{eqb}
 use lib.ListN.{length, take, drop, getD, length-drop}
 use lib.Seq.{take-suc, getD-drop}
 use borrow.Author.Tests.{lt-ltb, le-ltb}
-use Rattle.text.proofs.Reflects.{Reflects, holds, fails, eqb-reflects}
+use Rattle.basics.proofs.Reflects.{Reflects, holds, fails, eqb-reflects}
 use Rattle.sheet.specs.Refusal.{occurrences}
 use Rattle.sheet.specs.Reading.{tooDeepFrom}
 use Rattle.sheet.specs.Brackets.{BytePartner}

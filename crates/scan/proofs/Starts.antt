@@ -10,8 +10,8 @@ use native.Mathlib.Numerals.{add-one}
 use lib.Dec.{T}
 use lib.ListN.{length, drop, getD, length-append, List·getD-append}
 use lib.Seq.{drop-cons, drop-drop, drop-length, getD-at}
+use Rattle.basics.proofs.Reflects.{to-true, T-reflects}
 use Rattle.text.specs.Bytes.{Token, ByteClass, inside, isBracket, isInside, startsInside, extendFirst, addToTokens, tokens}
-use Rattle.text.proofs.Reflects.{to-true, T-reflects}
 use Rattle.text.proofs.Bytes.{HasClass, aBracket, anInside, aBetween, classOf-has, inside-not-bracket, bracket-not-inside}
 use Rattle.scan.specs.Start.{isVisible, beginsToken, insideBefore, tokenStartsAt, tokenStartsBelow, tokenStarts}
 
@@ -82,12 +82,12 @@ record BeginsAt (text : List ℕ) (k s : ℕ) : Type 0 where
   pub stands : T (isVisible (getD text s 0))
 
 -- The starts of the first tokens, and the tokens after those.
-record Found (text starts : List ℕ) (later : List Token) : Type 0 where
+record StartsFound (text starts : List ℕ) (later : List Token) : Type 0 where
   pub count : length starts + length later ≡ length (tokens text)
   pub rest : later ≡ drop (length starts) (tokens text)
   pub each : (k : ℕ) → k < length starts → BeginsAt text k (getD starts k 0)
 
-found-next : (text : List ℕ) (i : ℕ) {starts : List ℕ} {us vs : List Token} (m : Bool) → Step (getD text i 0) (tokens (drop i text)) us vs m → Found text starts us → Found text (cond m (starts ++ (i ∷ [])) starts) vs
+found-next : (text : List ℕ) (i : ℕ) {starts : List ℕ} {us vs : List Token} (m : Bool) → Step (getD text i 0) (tokens (drop i text)) us vs m → StartsFound text starts us → StartsFound text (cond m (starts ++ (i ∷ [])) starts) vs
 found-next text i {starts} true (begins e v p q) h =
     let more : length (starts ++ (i ∷ [])) ≡ length starts + 1 = length-append starts (i ∷ []) in
     record {
@@ -103,14 +103,14 @@ found-next text i {starts} true (begins e v p q) h =
         subst (BeginsAt text k) (sym (getD-at starts i [] 0 k last)) (record { same = sym p ∙ h .rest ∙ ap (λ n. drop n (tokens text)) last; stands = v })
 found-next text i true (goes-on e p) h = absurd (true≢false e)
 found-next text i false (begins e v p q) h = absurd (true≢false (sym e))
-found-next text i false (goes-on e p) h = subst (Found text _) p h
+found-next text i false (goes-on e p) h = subst (StartsFound text _) p h
 
 module _ (text : List ℕ) where
   -- The tokens that begin from the place i on.
   abbrev begunFrom : ℕ → List Token
   begunFrom i = begun (insideBefore text i) (drop i text)
 
-  found : (i : ℕ) → i ≤ length text → Found text (tokenStartsBelow text i) (begunFrom i)
+  found : (i : ℕ) → i ≤ length text → StartsFound text (tokenStartsBelow text i) (begunFrom i)
   unfolding tokenStartsBelow
   found zero h = record { count = omega arith; rest = refl; each = λ k l. absurd (omega arith) }
   found (suc i) h =
@@ -120,7 +120,7 @@ module _ (text : List ℕ) where
       (subst (λ l. Step b (tokens l) (begun (insideBefore text i) l) (begunFrom (suc i)) (tokenStartsAt text i)) (sym here) (step (insideBefore text i) b (drop (suc i) text)))
       (found i (omega arith))
 
-  all-found : Found text (tokenStarts text) (begunFrom (length text))
+  all-found : StartsFound text (tokenStarts text) (begunFrom (length text))
   all-found = found (length text) (omega arith)
 
   pub token-starts-length : length (tokenStarts text) ≡ length (tokens text)

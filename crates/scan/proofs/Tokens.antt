@@ -9,9 +9,9 @@ use native.Mathlib.Numerals.{add-one}
 use lib.Dec.{T}
 use lib.ListN.{length, take, drop, getD, length-take, length-drop, take-append-drop, drop-of-length-le}
 use lib.Seq.{drop-cons, take-suc, drop-drop, getD-drop}
+use Rattle.basics.proofs.Tests.{and-left, and-right, and-both}
 use Rattle.text.specs.Bytes.{isBracket, isInside, tokens}
 use Rattle.text.specs.Token.{allBytes}
-use Rattle.text.proofs.Reflects.{and-left, and-right, and-both}
 use Rattle.text.proofs.Bytes.{aBracket, aBetween, tokens-between, tokens-bracket, tokens-run}
 use Rattle.scan.specs.declared.Span.{Span}
 use Rattle.scan.specs.Place.{between, TokenAt, noToken, aToken, Skipped, RunEnd}

@@ -2,20 +2,21 @@
 use Prim.Native.Nat.{ℕ, zero, suc, _+_, _^_, _≤_, _<_}
 use mathlib.Core.Path.{_≡_, refl, sym, ap, ap₂, _∙_}
 use mathlib.Core.Bool.{Bool, true, false, cond, _&&_, _||_}
-use mathlib.Core.List.{List, [], _∷_}
+use mathlib.Core.List.{List, [], _∷_, _++_, map}
 use mathlib.Core.Option.{Option, some, none}
 use native.Mathlib.Omega.{arith}
 use lib.Dec.{T, ltb, leb, eqb, ltb→lt, leb→le}
 use lib.ListN.{length, drop, getD}
 use borrow.Author.Tests.{eq-eqb, ne-eqb, lt-leb}
+use Rattle.basics.proofs.Tests.{and-left, and-right}
+use Rattle.basics.proofs.Reflects.{reflects-same, to-true, to-false, eqb-reflects, ltb-reflects}
 use Rattle.text.specs.Bytes.{Token}
 use Rattle.text.specs.Token.{allBytes, sameBytes, isLowercase, isName, isOneOf}
-use Rattle.text.proofs.Reflects.{reflects-same, to-false, eqb-reflects, and-left, and-right}
 use Rattle.text.proofs.Token.{sameBytes-reflects}
-use Rattle.sheet.specs.Vocabulary.{lookUp, placeOf}
+use Rattle.sheet.specs.Vocabulary.{lookUp, namePlace}
 use Rattle.sheet.proofs.Vocabulary.{allKeys}
-use Rattle.scan.proofs.Tokens.{drop-at}
-use Rattle.scan.specs.Word.{wordNumber, isShort, TellsWord, codeOr255}
+use Rattle.scan.proofs.Tokens.{drop-at, drop-end, drop-past}
+use Rattle.scan.specs.Word.{wordNumber, isShort, TellsWord, codeOr255, wordPlace}
 
 abbrev pub AreBytes : List ℕ → Type 0
 AreBytes l = (i : ℕ) → getD l i 0 < 256
@@ -89,50 +90,88 @@ tells-long t l =
           to-false (sameBytes-reflects w t) (λ e. let same : length w ≡ length t = ap length e in omega arith) ∙ sym (to-false (eqb-reflects 0 (wordNumber w)) (λ e. omega arith));
     }
 
--- A table and a list of words searched by numbers.
-abbrev pub lookUpNumber : {X : Type 0} → List (Token × X) → ℕ → Option X
-lookUpNumber [] m = none
-lookUpNumber (e ∷ es) m = cond (eqb m (wordNumber (e .0))) (some (e .1)) (lookUpNumber es m)
+-- ---- a table of words, searched by their numbers
+
+pub place-within : (ms : List ℕ) (n : ℕ) → wordPlace ms n ≤ length ms
+unfolding wordPlace
+place-within [] n = omega arith
+place-within (m ∷ ms) n = by (eqb n m) (place-within ms n)
+  where
+    by : (b : Bool) → wordPlace ms n ≤ length ms → cond b 0 (suc (wordPlace ms n)) ≤ suc (length ms)
+    by true h = omega arith
+    by false h = omega arith
+
+-- From a place on: the number stands there, or is searched behind it.
+module _ (ms : List ℕ) (n i : ℕ) (h : i < length ms) where
+  pub number-here : getD ms i 0 ≡ n → wordPlace (drop i ms) n ≡ 0
+  unfolding wordPlace
+  number-here e = ap (λ l. wordPlace l n) (drop-at ms i h) ∙ ap (λ b. cond b 0 (suc (wordPlace (drop (i + 1) ms) n))) (eq-eqb n (getD ms i 0) (sym e))
+
+  pub number-later : (getD ms i 0 ≡ n → ⊥) → wordPlace (drop i ms) n ≡ suc (wordPlace (drop (i + 1) ms) n)
+  unfolding wordPlace
+  number-later e = ap (λ l. wordPlace l n) (drop-at ms i h) ∙ ap (λ b. cond b 0 (suc (wordPlace (drop (i + 1) ms) n))) (ne-eqb n (getD ms i 0) (λ q. e (sym q)))
+
+ltb-suc : (m n : ℕ) → ltb (suc m) (suc n) ≡ ltb m n
+ltb-suc m n = reflects-same (ltb-reflects (suc m) (suc n)) (ltb-reflects m n) (λ h. omega arith) (λ h. omega arith)
+
+pub number-end : (ms : List ℕ) (n i : ℕ) → length ms ≤ i → wordPlace (drop i ms) n ≡ 0
+unfolding wordPlace
+number-end ms n i h = ap (λ l. wordPlace l n) (drop-past ms i h ∙ drop-end ms)
+
+-- The numbers of a table's words, and the codes of what stands beside them, with 255 behind them.
+abbrev pub numbersIn : {X : Type 0} → List (Token × X) → List ℕ
+numbersIn es = map (λ e. wordNumber (e .0)) es
+
+abbrev pub codesIn : {X : Type 0} → (X → ℕ) → List (Token × X) → List ℕ
+codesIn f es = map (λ e. f (e .1)) es ++ (255 ∷ [])
 
 abbrev pub allShort : List Token → Bool
 allShort [] = true
 allShort (w ∷ ws) = isShort w && allShort ws
 
-abbrev pub isOneOfNumbers : List Token → ℕ → Bool
-isOneOfNumbers [] m = false
-isOneOfNumbers (w ∷ ws) m = eqb m (wordNumber w) || isOneOfNumbers ws m
-
 module _ {t : Token} {n : ℕ} (k : TellsWord t n) where
-  lookUp-number : {X : Type 0} (es : List (Token × X)) → T (allKeys isShort es) → lookUp es t ≡ lookUpNumber es n
-  lookUp-number [] h = refl
-  lookUp-number (e ∷ es) h =
-      ap₂ (λ m o. cond m (some (e .1)) o) (k .same (e .0) (and-left (isShort (e .0)) (allKeys isShort es) h)) (lookUp-number es (and-right (isShort (e .0)) (allKeys isShort es) h))
+  code-place : {X : Type 0} (f : X → ℕ) (es : List (Token × X)) → T (allKeys isShort es) → getD (codesIn f es) (wordPlace (numbersIn es) n) 0 ≡ codeOr255 f (lookUp es t)
+  unfolding wordPlace
+  code-place f [] h = refl
+  code-place {X} f (e ∷ es) h =
+      by (eqb n (wordNumber (e .0))) (code-place f es (and-right (isShort (e .0)) (allKeys isShort es) h))
+      ∙ ap (λ b. codeOr255 f (cond b (some (e .1)) (lookUp es t))) (sym (k .same (e .0) (and-left (isShort (e .0)) (allKeys isShort es) h)))
+    where
+      by : (b : Bool) → getD (codesIn f es) (wordPlace (numbersIn es) n) 0 ≡ codeOr255 f (lookUp es t)
+          → getD (f (e .1) ∷ codesIn f es) (cond b 0 (suc (wordPlace (numbersIn es) n))) 0 ≡ codeOr255 f (cond b (some (e .1)) (lookUp es t))
+      by true q = refl
+      by false q = q
 
-  isOneOf-number : (ws : List Token) → T (allShort ws) → isOneOf ws t ≡ isOneOfNumbers ws n
-  isOneOf-number [] h = refl
-  isOneOf-number (w ∷ ws) h =
-      ap₂ _||_ (k .same w (and-left (isShort w) (allShort ws) h)) (isOneOf-number ws (and-right (isShort w) (allShort ws) h))
+  -- What stands in a stored table of codes at the place of a token's number in the stored table of numbers is the token's code.
+  pub code-found : {X : Type 0} (f : X → ℕ) (es : List (Token × X)) → T (allKeys isShort es) → {numbers codes : List ℕ} → numbers ≡ numbersIn es → codes ≡ codesIn f es
+      → {p : ℕ} → p ≡ wordPlace numbers n → getD codes p 0 ≡ codeOr255 f (lookUp es t)
+  code-found f es h {numbers} {codes} a b {p} e =
+      ap (λ i. getD codes i 0) (e ∙ ap (λ l. wordPlace l n) a) ∙ ap (λ l. getD l (wordPlace (numbersIn es) n) 0) b ∙ code-place f es h
 
-  -- The code of a token by its number, and whether it is one of the words.
-  pub code-number : {X : Type 0} (f : X → ℕ) (es : List (Token × X)) → T (allKeys isShort es) → (m : ℕ) → n ≡ m → codeOr255 f (lookUpNumber es m) ≡ codeOr255 f (lookUp es t)
-  code-number f es h m e = ap (λ a. codeOr255 f (lookUpNumber es a)) (sym e) ∙ ap (codeOr255 f) (sym (lookUp-number es h))
-
-  pub member-number : (ws : List Token) → T (allShort ws) → (m : ℕ) → n ≡ m → isOneOfNumbers ws m ≡ isOneOf ws t
-  member-number ws h m e = ap (isOneOfNumbers ws) (sym e) ∙ sym (isOneOf-number ws h)
+  -- A token is one of the words exactly if its number has a place in the table.
+  pub member-place : (ws : List Token) → T (allShort ws) → ltb (wordPlace (map wordNumber ws) n) (length ws) ≡ isOneOf ws t
+  unfolding wordPlace
+  member-place [] h = refl
+  member-place (w ∷ ws) h =
+      by (eqb n (wordNumber w)) (member-place ws (and-right (isShort w) (allShort ws) h)) ∙ ap (λ b. b || isOneOf ws t) (sym (k .same w (and-left (isShort w) (allShort ws) h)))
+    where
+      by : (b : Bool) → ltb (wordPlace (map wordNumber ws) n) (length ws) ≡ isOneOf ws t → ltb (cond b 0 (suc (wordPlace (map wordNumber ws) n))) (suc (length ws)) ≡ (b || isOneOf ws t)
+      by true q = to-true (ltb-reflects 0 (suc (length ws))) (omega arith)
+      by false q = ltb-suc (wordPlace (map wordNumber ws) n) (length ws) ∙ q
 
 -- The place of a token among others, from the first on.
-pub place-none : {ts : List Token} (t : Token) → ts ≡ [] → placeOf ts t ≡ 0
-unfolding placeOf
-place-none t e = ap (λ l. placeOf l t) e
+pub place-none : {ts : List Token} (t : Token) → ts ≡ [] → namePlace ts t ≡ 0
+unfolding namePlace
+place-none t e = ap (λ l. namePlace l t) e
 
 module _ {ts us : List Token} {w : Token} (t : Token) where
-  pub place-here : ts ≡ w ∷ us → sameBytes w t ≡ true → placeOf ts t ≡ 0
-  unfolding placeOf
-  place-here e h = ap (λ l. placeOf l t) e ∙ ap (λ m. cond m 0 (suc (placeOf us t))) h
+  pub place-here : ts ≡ w ∷ us → sameBytes w t ≡ true → namePlace ts t ≡ 0
+  unfolding namePlace
+  place-here e h = ap (λ l. namePlace l t) e ∙ ap (λ m. cond m 0 (suc (namePlace us t))) h
 
-  pub place-later : ts ≡ w ∷ us → sameBytes w t ≡ false → placeOf ts t ≡ suc (placeOf us t)
-  unfolding placeOf
-  place-later e h = ap (λ l. placeOf l t) e ∙ ap (λ m. cond m 0 (suc (placeOf us t))) h
+  pub place-later : ts ≡ w ∷ us → sameBytes w t ≡ false → namePlace ts t ≡ suc (namePlace us t)
+  unfolding namePlace
+  place-later e h = ap (λ l. namePlace l t) e ∙ ap (λ m. cond m 0 (suc (namePlace us t))) h
 
 -- What a table's number says: 255 where the table has nothing, as no number in it is as large.
 module _ {X : Type 0} (f : X → ℕ) where

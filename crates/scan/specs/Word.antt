@@ -1,8 +1,8 @@
 -- The numbers of the words that have a meaning of their own, and a number that tells short words apart.
-use Prim.Native.Nat.{ℕ, _+_, _*_}
+use Prim.Native.Nat.{ℕ, suc, _+_, _*_}
 use mathlib.Core.Path.{_≡_}
-use mathlib.Core.Bool.{Bool, _&&_}
-use mathlib.Core.List.{[], _∷_}
+use mathlib.Core.Bool.{Bool, cond, _&&_}
+use mathlib.Core.List.{List, [], _∷_}
 use mathlib.Core.Option.{Option, some, none}
 use lib.Dec.{T, leb, ltb, eqb}
 use lib.ListN.{length}
@@ -44,3 +44,8 @@ isShort w = allBytes (λ b. ltb b 256) w && leb (length w) 7
 -- The number is that of no short word but the token itself.
 pub record TellsWord (token : Token) (number : ℕ) : Type 0 where
   pub same : (w : Token) → T (isShort w) → sameBytes w token ≡ eqb number (wordNumber w)
+
+-- The first place of a number in a list; the list's length where it is not in it.
+unfoldable pub wordPlace : List ℕ → ℕ → ℕ
+wordPlace [] n = 0
+wordPlace (m ∷ ms) n = cond (eqb n m) 0 (suc (wordPlace ms n))

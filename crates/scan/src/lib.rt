@@ -8,11 +8,11 @@ ghost use lib.Dec.{eqb};
 ghost use lib.ListN.{length};
 ghost use Rattle.text.specs.Bytes.{bytesOf, isInside, tokens};
 ghost use Rattle.text.specs.Token.{sameBytes, isName, isReserved};
-ghost use Rattle.sheet.specs.Vocabulary.{operatorOf, relationOf, prefixOf, placeOf};
+ghost use Rattle.sheet.specs.Vocabulary.{operatorOf, relationOf, prefixOf, namePlace};
 ghost use Rattle.sheet.specs.Reading.{tooDeepFrom};
 ghost use Rattle.scan.specs.Place.{TokenAt, LineAt, Skipped, RunEnd, PartnerAt};
 ghost use Rattle.scan.specs.Start.{beginsToken};
-ghost use Rattle.scan.specs.Word.{codeOr255, infixCode, prefixCode, relationNumber, TellsWord};
+ghost use Rattle.scan.specs.Word.{codeOr255, wordPlace, infixCode, prefixCode, relationNumber, TellsWord};
 ghost use Rattle.scan.specs.Integer.{integerRead, naturalRead, signedRead, withSign, cut};
 
 // The bytes from `start` to before `end`.
@@ -183,7 +183,7 @@ pub fn same_bytes(left: &[u8], right: &[u8]) -> bool
 
 // The place of a token among those of line 1, counted from 0; as many as there are tokens where it is none of them.
 pub fn place_of(names: &[u8], name: &[u8]) -> usize
-    ensures { λ r. ⌜ r ≡ placeOf (tokens (now (names .entry))) (now (name .entry)) ⌝ }
+    ensures { λ r. ⌜ r ≡ namePlace (tokens (now (names .entry))) (now (name .entry)) ⌝ }
 {
     let mut count = 0;
     let mut at = 0;
@@ -248,28 +248,88 @@ fn word_number(token: &[u8]) -> u64
     number
 }
 
-// The number of an operator's node, or 255. The number of a word, here and below, has the word's bytes, the last as the highest.
+// The tables of words: the numbers of the words, and beside them what a word means. The number of a word, as `word_number` gives it, has the
+// word's bytes, the last as the highest, behind a 1. The codes have one place more, for a token that is none of the words.
+const OPERATOR_WORDS: [u64; 14] = [
+    0x1_2b, // +
+    0x1_2d, // -
+    0x1_2a, // *
+    0x1_2f, // /
+    0x1_25, // %
+    0x1_74_6c, // lt
+    0x1_65_6c, // le
+    0x1_71_65, // eq
+    0x1_65_67, // ge
+    0x1_74_67, // gt
+    0x1_65_6e, // ne
+    0x1_64_6e_61, // and
+    0x1_72_6f, // or
+    0x1_79_62_66, // fby
+];
+
+const OPERATOR_CODES: [u8; 15] = [7, 8, 9, 10, 11, 12, 13, 14, 15, 16, 17, 18, 19, 6, 255];
+
+const RELATION_WORDS: [u64; 8] = [
+    0x1_3c, // <
+    0x1_3d_3c, // <=
+    0x1_3d_3d, // ==
+    0x1_3d_3e, // >=
+    0x1_3e, // >
+    0x1_3d_21, // !=
+    0x1_3e_2d, // ->
+    0x1_6c_69_74_6e_75, // until
+];
+
+const RELATION_CODES: [u8; 9] = [0, 1, 2, 3, 4, 5, 6, 7, 255];
+
+const PREFIX_WORDS: [u64; 3] = [
+    0x1_74_73_72_69_66, // first
+    0x1_74_78_65_6e, // next
+    0x1_74_6f_6e, // not
+];
+
+const PREFIX_CODES: [u8; 4] = [2, 3, 4, 255];
+
+const RESERVED_WORDS: [u64; 16] = [
+    0x1_74_6c, // lt
+    0x1_65_6c, // le
+    0x1_71_65, // eq
+    0x1_65_67, // ge
+    0x1_74_67, // gt
+    0x1_65_6e, // ne
+    0x1_64_6e_61, // and
+    0x1_72_6f, // or
+    0x1_79_62_66, // fby
+    0x1_66_69, // if
+    0x1_6e_65_68_74, // then
+    0x1_65_73_6c_65, // else
+    0x1_74_73_72_69_66, // first
+    0x1_74_78_65_6e, // next
+    0x1_74_6f_6e, // not
+    0x1_6c_69_74_6e_75, // until
+];
+
+// The first place of a number in a table of words; as many as the table has where it is none of them.
+fn word_place(words: &[u64], number: u64) -> usize
+    ensures { λ r. ⌜ r ≡ wordPlace (now (words .entry)) number ⌝ }
+{
+    let mut i = 0;
+    while i < words.len() {
+        if words[i] == number {
+            return i;
+        }
+        i += 1;
+    }
+    words.len()
+}
+
+// The number of an operator's node, or 255.
 pub fn operator_code(token: &[u8]) -> u8
     ensures { λ r. ⌜ r ≡ codeOr255 infixCode (operatorOf (now (token .entry))) ⌝ }
 {
     let number = word_number(token);
-    match number {
-        0x1_2b => 7, // +
-        0x1_2d => 8, // -
-        0x1_2a => 9, // *
-        0x1_2f => 10, // /
-        0x1_25 => 11, // %
-        0x1_74_6c => 12, // lt
-        0x1_65_6c => 13, // le
-        0x1_71_65 => 14, // eq
-        0x1_65_67 => 15, // ge
-        0x1_74_67 => 16, // gt
-        0x1_65_6e => 17, // ne
-        0x1_64_6e_61 => 18, // and
-        0x1_72_6f => 19, // or
-        0x1_79_62_66 => 6, // fby
-        _ => 255,
-    }
+    let place = word_place(&OPERATOR_WORDS, number);
+    OPERATOR_CODES[place]
 }
 
 // The number of a relation, or 255.
@@ -277,17 +337,8 @@ pub fn relation_code(token: &[u8]) -> u8
     ensures { λ r. ⌜ r ≡ codeOr255 relationNumber (relationOf (now (token .entry))) ⌝ }
 {
     let number = word_number(token);
-    match number {
-        0x1_3c => 0, // <
-        0x1_3d_3c => 1, // <=
-        0x1_3d_3d => 2, // ==
-        0x1_3d_3e => 3, // >=
-        0x1_3e => 4, // >
-        0x1_3d_21 => 5, // !=
-        0x1_3e_2d => 6, // ->
-        0x1_6c_69_74_6e_75 => 7, // until
-        _ => 255,
-    }
+    let place = word_place(&RELATION_WORDS, number);
+    RELATION_CODES[place]
 }
 
 // The number of the node of `first`, `next` or `not`, or 255.
@@ -295,12 +346,8 @@ pub fn prefix_code(token: &[u8]) -> u8
     ensures { λ r. ⌜ r ≡ codeOr255 prefixCode (prefixOf (now (token .entry))) ⌝ }
 {
     let number = word_number(token);
-    match number {
-        0x1_74_73_72_69_66 => 2, // first
-        0x1_74_78_65_6e => 3, // next
-        0x1_74_6f_6e => 4, // not
-        _ => 255,
-    }
+    let place = word_place(&PREFIX_WORDS, number);
+    PREFIX_CODES[place]
 }
 
 // "Reserved words: all operator words, `if then else first next not until`".
@@ -308,25 +355,8 @@ pub fn is_reserved(token: &[u8]) -> bool
     ensures { λ r. ⌜ r ≡ isReserved (now (token .entry)) ⌝ }
 {
     let number = word_number(token);
-    match number {
-        0x1_74_6c => true, // lt
-        0x1_65_6c => true, // le
-        0x1_71_65 => true, // eq
-        0x1_65_67 => true, // ge
-        0x1_74_67 => true, // gt
-        0x1_65_6e => true, // ne
-        0x1_64_6e_61 => true, // and
-        0x1_72_6f => true, // or
-        0x1_79_62_66 => true, // fby
-        0x1_66_69 => true, // if
-        0x1_6e_65_68_74 => true, // then
-        0x1_65_73_6c_65 => true, // else
-        0x1_74_73_72_69_66 => true, // first
-        0x1_74_78_65_6e => true, // next
-        0x1_74_6f_6e => true, // not
-        0x1_6c_69_74_6e_75 => true, // until
-        _ => false,
-    }
+    let place = word_place(&RESERVED_WORDS, number);
+    place < 16
 }
 
 pub fn is_if(token: &[u8]) -> bool

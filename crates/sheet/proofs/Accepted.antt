@@ -8,16 +8,16 @@ use lib.Dec.{le→leb, not-T}
 use lib.IntN.{ℤ, pos, negsuc, negℤ, natAbs}
 use lib.ListN.{length, length-map, length-append}
 use lib.Signed.{leZ, ltZ, _≤ℤ_, ltZ-no}
+use Rattle.basics.proofs.Reflects.{T-reflects, to-true, to-false, not-fails}
 use Rattle.text.specs.Bytes.{Token}
 use Rattle.text.specs.Token.{isReserved}
-use Rattle.text.proofs.Reflects.{T-reflects, to-true, to-false, not-fails}
-use Rattle.meaning.specs.Arithmetic.{Arithmetic, Interval}
+use Rattle.meaning.specs.Arithmetic.{Interval}
 use Rattle.meaning.specs.Expression.{Expression, Constraint, leftSide, rightSide, Stream, Sheet}
 use Rattle.meaning.specs.Interval.{interval, subexpressions}
 use Rattle.meaning.specs.Letter.{size, letterCount}
 use Rattle.sheet.specs.Vocabulary.{Relation, sign, untilSign, related}
 use Rattle.sheet.specs.Grammar.{ReadsConstraint, isConstraint}
-use Rattle.sheet.specs.Form.{Layout, lineTokens, constraintLines, Constraints, namesOf, HasForm}
+use Rattle.sheet.specs.Form.{lineTokens, constraintLines, Constraints, namesOf, HasForm, layoutIn}
 use Rattle.sheet.specs.Refusal.{streamBound, constraintBound, tokenBound, magnitudeBound, tokenCount, tooManyStreams, tooManyConstraints, tooManyTokens, givenTwice, reservedName, unknownName, Refusal5, lowBeyond, highBeyond, lowAboveHigh, leavesBounds, tooManyLetters, tooManyUntils, tooManyFirsts, tooWide, sheet, AnswerTo, accepted}
 use Rattle.sheet.specs.Reading.{allExpressions}
 use Rattle.sheet.specs.Accepted.{Accepted}
@@ -74,14 +74,14 @@ not-over : {m n : ℕ} → (m < n → ⊥) → n ≤ m
 not-over {m} {n} h = let k : ¬ (m < n) = h in omega arith
 
 -- What none of the refusals leaves out.
-pub accepted-facts : {A : Arithmetic} {L : Layout} {text : List ℕ} {s : Sheet} → AnswerTo A L text (sheet s) → Accepted A s
-accepted-facts {A} {L} {text} (accepted {s} n₁ n₂ n₃ n₄ n₅ n₆ n₇ f) =
-    let streams : length (lineTokens text (L .namesLine)) ≡ length (s .streams) = ap length (f .names) ∙ length-map (s .streams) (λ x. x .name) in
+pub accepted-facts : {text : List ℕ} {s : Sheet} → AnswerTo text (sheet s) → Accepted s
+accepted-facts {text} (accepted {s} n₁ n₂ n₃ n₄ n₅ n₆ n₇ f) =
+    let streams : length (lineTokens text (layoutIn text .namesLine)) ≡ length (s .streams) = ap length (f .names) ∙ length-map (s .streams) (λ x. x .name) in
     let lines = constraints-length (f .constraints) in
     let nodes = constraints-count (f .constraints) in
-    let few : length (lineTokens text (L .namesLine)) ≤ streamBound = not-over (λ l. n₂ (tooManyStreams l)) in
-    let short : length (constraintLines L text) ≤ constraintBound = not-over (λ l. n₂ (tooManyConstraints l)) in
-    let sparse : tokenCount (constraintLines L text) ≤ tokenBound = not-over (λ l. n₂ (tooManyTokens l)) in
+    let few : length (lineTokens text (layoutIn text .namesLine)) ≤ streamBound = not-over (λ l. n₂ (tooManyStreams l)) in
+    let short : length (constraintLines text) ≤ constraintBound = not-over (λ l. n₂ (tooManyConstraints l)) in
+    let sparse : tokenCount (constraintLines text) ≤ tokenBound = not-over (λ l. n₂ (tooManyTokens l)) in
     record {
       someStream = f .someStream;
       streamCount = omega arith;
@@ -93,7 +93,7 @@ accepted-facts {A} {L} {text} (accepted {s} n₁ n₂ n₃ n₄ n₅ n₆ n₇ f
       constraintCount = omega arith;
       expressionCount = omega arith;
       namesKnown = λ c m. not-fails (sidesBelow-reflects (length (s .streams)) c) (λ n. n₄ (unknownName f m n));
-      intervalsInBounds = λ e m. not-fails (inBounds-reflects (interval A (s .streams) e)) (λ n. n₆ (leavesBounds f m n));
+      intervalsInBounds = λ e m. not-fails (inBounds-reflects (interval (s .streams) e)) (λ n. n₆ (leavesBounds f m n));
       someLetter = letterCount-positive (s .streams) (ordered n₅ f);
       letters = not-over (λ l. n₇ (tooManyLetters f l));
       untils = not-over (λ l. n₇ (tooManyUntils f l));
@@ -101,5 +101,5 @@ accepted-facts {A} {L} {text} (accepted {s} n₁ n₂ n₃ n₄ n₅ n₆ n₇ f
       window = not-over (λ l. n₇ (tooWide f l));
     }
   where
-    ordered : {L : Layout} {text : List ℕ} {s : Sheet} → (Refusal5 L text → ⊥) → HasForm L text s → (x : Stream) → List·Memᴰ x (s .streams) → x .range .low ≤ℤ x .range .high
+    ordered : {text : List ℕ} {s : Sheet} → (Refusal5 text → ⊥) → HasForm text s → (x : Stream) → List·Memᴰ x (s .streams) → x .range .low ≤ℤ x .range .high
     ordered n f x m = ltZ-no (not-T (ltZ (x .range .high) (x .range .low)) (λ t. n (lowAboveHigh f m (record { lt = t }))))

@@ -10,12 +10,13 @@ use native.Mathlib.Omega.{arith}
 use lib.Dec.{T}
 use lib.ListN.{length, take, drop, getD, length-append, length-take}
 use lib.Seq.{take-suc, split-at, take-append-seam, take-append-le, getD-append-seam}
+use Rattle.basics.proofs.Tests.{not-passed}
+use Rattle.basics.proofs.Reflects.{or-reflects, to-false}
 use Rattle.text.specs.Bytes.{Token, bytesOf}
 use Rattle.text.specs.Token.{sameBytes, isName, isInteger, isNatural}
-use Rattle.text.proofs.Reflects.{or-reflects, to-false, not-passed}
 use Rattle.text.proofs.Token.{sameBytes-reflects}
 use Rattle.meaning.specs.Expression.{Expression}
-use Rattle.sheet.specs.Vocabulary.{lookUp, operators, operatorOf, prefixes, prefixOf}
+use Rattle.sheet.specs.Vocabulary.{lookUp, operatorTokens, operatorOf, prefixTokens, prefixOf}
 use Rattle.sheet.specs.Grammar.{Phrase, part, expression, Reads, isIntegerToken, isStream, isBracketed, isPrefixed, isPart, isOperation, isConditional}
 use Rattle.sheet.specs.Parser.{Parsed, parsed, expressionBy, partTo}
 use Rattle.sheet.proofs.Vocabulary.{allKeys, lookUp-key}
@@ -50,13 +51,13 @@ leads-append (passes e g) h = passes e (leads-append g h)
 
 -- What is read leads back to as many open brackets as there were.
 pub reads-leads : {names : List Token} {k : Phrase} {ts : List Token} {e : Expression} → Reads names k ts e → (d : ℕ) → Leads d ts d
-unfolding isInteger isNatural isName prefixOf prefixes operatorOf operators
+unfolding isInteger isNatural isName prefixOf prefixTokens operatorOf operatorTokens
 reads-leads (isIntegerToken {t} h) d = passes (not-bracket isInteger t (λ i. i) (λ i. i) h) ends
 reads-leads (isStream {t} h k) d = passes (not-bracket isName t (λ i. i) (λ i. i) h) ends
 reads-leads (isBracketed r) d = opens (leads-append (reads-leads r (suc d)) (closes ends))
-reads-leads (isPrefixed {t} e r) d = passes (table-no-bracket prefixes t tt e) (reads-leads r d)
+reads-leads (isPrefixed {t} e r) d = passes (table-no-bracket prefixTokens t tt e) (reads-leads r d)
 reads-leads (isPart r) d = reads-leads r d
-reads-leads (isOperation t r e s) d = leads-append (reads-leads r d) (passes (table-no-bracket operators t tt e) (reads-leads s d))
+reads-leads (isOperation t r e s) d = leads-append (reads-leads r d) (passes (table-no-bracket operatorTokens t tt e) (reads-leads s d))
 reads-leads (isConditional r s t) d = passes refl (leads-append (reads-leads r d) (passes refl (leads-append (reads-leads s d) (passes refl (reads-leads t d)))))
 
 -- How often the token stands among the tokens.
@@ -163,7 +164,7 @@ record Bracketed (names ts rest : List Token) (e : Expression) : Type 0 where
   whole : ts ≡ inner ++ (bytesOf ")" ∷ rest)
 
 part-bracketed : {names : List Token} {ts us : List Token} (rest : List Token) {e : Expression} → Reads names part us e → us ++ rest ≡ bytesOf "(" ∷ ts → Bracketed names ts rest e
-unfolding isInteger isNatural isName prefixOf prefixes
+unfolding isInteger isNatural isName prefixOf prefixTokens
 part-bracketed rest (isIntegerToken h) q = absurd (subst (λ t. T (isInteger t)) (head-eq-of-cons-eq q) h)
 part-bracketed rest (isStream h k) q = absurd (subst (λ t. T (isName t)) (head-eq-of-cons-eq q) h)
 part-bracketed rest (isBracketed {ts} r) q = record { inner = ts; reads = r; whole = sym (tail-eq-of-cons-eq q) ∙ append-assoc ts (bytesOf ")" ∷ []) rest }

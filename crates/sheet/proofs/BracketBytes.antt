@@ -10,9 +10,10 @@ use native.Mathlib.Omega.{arith}
 use lib.Dec.{T, eqb}
 use lib.ListN.{length, take, drop, getD, length-take}
 use lib.Seq.{take-nil, take-take, split-at}
+use Rattle.basics.proofs.Tests.{and-both}
+use Rattle.basics.proofs.Reflects.{Reflects, holds, fails, reflects-same, eqb-reflects}
 use Rattle.text.specs.Bytes.{Token, bytesOf, ByteClass, inside, isBracket, isInside, startsInside, extendFirst, addToTokens, tokens}
 use Rattle.text.specs.Token.{sameBytes, allBytes}
-use Rattle.text.proofs.Reflects.{Reflects, holds, fails, reflects-same, eqb-reflects, and-both}
 use Rattle.text.proofs.Token.{sameBytes-reflects}
 use Rattle.text.proofs.Bytes.{HasClass, aBracket, anInside, aBetween, classOf-has, inside-not-bracket, BeginsWithRun, begins, tokens-begin, tokens-bracket}
 use Rattle.sheet.specs.Refusal.{occurrences}

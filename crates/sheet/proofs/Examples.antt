@@ -7,20 +7,19 @@ use lib.IntN.{pos, negsuc}
 use Rattle.text.specs.Bytes.{bytesOf, lines, tokens}
 use Rattle.text.specs.Token.{isName, isNatural, isInteger, naturalFrom, integerValue, reservedWords, isReserved}
 use Rattle.meaning.specs.Value.{less, atMost, equal, atLeast, greater, different}
-use Rattle.meaning.specs.Arithmetic.{add, subtract, multiply, divide, remainder, compare, and, or, cutTowardZero}
+use Rattle.meaning.specs.Arithmetic.{add, subtract, multiply, divide, remainder, compare, and, or}
 use Rattle.meaning.specs.Expression.{integer, name, first, next, negation, binary, conditional, fby, comparison, implies, always, until}
 use Rattle.meaning.specs.Interval.{interval, subexpressions}
 use Rattle.meaning.specs.Letter.{letterCount}
 use Rattle.meaning.specs.Window.{reach, back, firsts, B, D}
-use Rattle.sheet.specs.Vocabulary.{pointwise, followedBy, operators, operatorOf, sign, untilSign, relations, relationOf, prefixes, prefixOf, placeOf}
-use Rattle.sheet.specs.Form.{threeHeaderLines}
+use Rattle.sheet.specs.Vocabulary.{pointwise, followedBy, operatorTokens, operatorOf, sign, untilSign, relationTokens, relationOf, prefixTokens, prefixOf, namePlace}
 use Rattle.sheet.specs.Refusal.{Answer, refused, sheet}
 use Rattle.sheet.specs.Parser.{expressionBy, openingOf, partTo, parseConstraint}
 use Rattle.sheet.specs.Reading.{refuses1, tooDeepFrom, refuses2, streamsFrom, constraintsOf, formOf, refuses4, refuses5, refuses6, refuses7, answerToSheet, answerTo}
 
 answer : List ℕ → Answer
-unfolding lines tokens isName isNatural isInteger naturalFrom integerValue reservedWords isReserved interval subexpressions letterCount reach back firsts B D operators operatorOf relations relationOf prefixes prefixOf placeOf expressionBy openingOf partTo parseConstraint refuses1 tooDeepFrom refuses2 streamsFrom constraintsOf formOf refuses4 refuses5 refuses6 refuses7 answerToSheet answerTo
-answer text = answerTo cutTowardZero threeHeaderLines text
+unfolding lines tokens isName isNatural isInteger naturalFrom integerValue reservedWords isReserved interval subexpressions letterCount reach back firsts B D operatorTokens operatorOf relationTokens relationOf prefixTokens prefixOf namePlace expressionBy openingOf partTo parseConstraint refuses1 tooDeepFrom refuses2 streamsFrom constraintsOf formOf refuses4 refuses5 refuses6 refuses7 answerToSheet answerTo
+answer text = answerTo text
 
 -- P1, and that `ge` is read as `atLeast`.
 p1 : answer (bytesOf "level gate\n0 0\n2 1\n( level ge 2 ) -> gate") ≡ sheet (record {
@@ -50,14 +49,14 @@ operator-words : map operatorOf (tokens (bytesOf "+ - * / % lt le eq ge gt ne an
     ≡ some (pointwise add) ∷ some (pointwise subtract) ∷ some (pointwise multiply) ∷ some (pointwise divide) ∷ some (pointwise remainder)
     ∷ some (pointwise (compare less)) ∷ some (pointwise (compare atMost)) ∷ some (pointwise (compare equal)) ∷ some (pointwise (compare atLeast)) ∷ some (pointwise (compare greater)) ∷ some (pointwise (compare different))
     ∷ some (pointwise and) ∷ some (pointwise or) ∷ some followedBy ∷ []
-unfolding tokens operatorOf operators
+unfolding tokens operatorOf operatorTokens
 operator-words = refl
 
 -- "one of `< <= == >= > != -> until`"
 relation-words : map relationOf (tokens (bytesOf "< <= == >= > != -> until"))
     ≡ some (sign (comparison less)) ∷ some (sign (comparison atMost)) ∷ some (sign (comparison equal)) ∷ some (sign (comparison atLeast)) ∷ some (sign (comparison greater)) ∷ some (sign (comparison different))
     ∷ some (sign implies) ∷ some untilSign ∷ []
-unfolding tokens relationOf relations
+unfolding tokens relationOf relationTokens
 relation-words = refl
 
 -- The number of a refusal; 0 for a sheet that none of the refusals 1 to 7 applies to.

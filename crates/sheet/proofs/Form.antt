@@ -10,11 +10,12 @@ use lib.Dec.{T, leb}
 use lib.IntN.{ℤ}
 use lib.ListN.{length}
 use borrow.Author.Tests.{leb-true, le-leb}
+use Rattle.basics.proofs.Tests.{and-left, and-right, and-both}
+use Rattle.basics.proofs.Reflects.{Reflects, holds, T-reflects, to-true}
 use Rattle.text.specs.Bytes.{Token, lines, tokens}
 use Rattle.text.specs.Token.{isName, isInteger, integerValue}
-use Rattle.text.proofs.Reflects.{Reflects, holds, T-reflects, to-true, and-left, and-right, and-both}
 use Rattle.meaning.specs.Expression.{Constraint, Stream, Sheet}
-use Rattle.sheet.specs.Form.{Layout, lineTokens, constraintLines, Integers, Constraints, namesOf, HasForm}
+use Rattle.sheet.specs.Form.{lineTokens, constraintLines, Integers, Constraints, namesOf, HasForm, layoutIn}
 use Rattle.sheet.specs.Parser.{andThen, parseConstraint}
 use Rattle.sheet.specs.Reading.{streamFrom, streamsFrom, constraintsOf, sheetFrom, formOf}
 use Rattle.sheet.proofs.Parser.{andThen-some, parseConstraint-sound, parseConstraint-complete}
@@ -100,12 +101,12 @@ module _ (names : List Token) where
       ap (λ o. andThen o (λ c′. andThen (constraintsOf names ls) (λ cs′. some (c′ ∷ cs′)))) (parseConstraint-complete names r)
       ∙ ap (λ o. andThen o (λ cs′. some (c ∷ cs′))) (constraintsOf-complete rs)
 
-sheetFrom-sound : (L : Layout) (text : List ℕ) (ss : List Stream) (s : Sheet) → L .constraintsFrom ≤ length (lines text)
-    → StreamsRead (lineTokens text (L .namesLine)) (lineTokens text (L .lowsLine)) (lineTokens text (L .highsLine)) ss → sheetFrom (constraintLines L text) ss ≡ some s → HasForm L text s
-sheetFrom-sound L text [] s l r q = absurd (Option·none-ne-some s q)
-sheetFrom-sound L text (x ∷ ss) s l r q =
-    let (cs, read, done) = andThen-some (constraintsOf (namesOf (x ∷ ss)) (constraintLines L text)) _ q in
-    subst (HasForm L text) (Option·some-injective (record { streams = x ∷ ss; constraints = cs }) s done)
+sheetFrom-sound : (text : List ℕ) (ss : List Stream) (s : Sheet) → layoutIn text .constraintsFrom ≤ length (lines text)
+    → StreamsRead (lineTokens text (layoutIn text .namesLine)) (lineTokens text (layoutIn text .lowsLine)) (lineTokens text (layoutIn text .highsLine)) ss → sheetFrom (constraintLines text) ss ≡ some s → HasForm text s
+sheetFrom-sound text [] s l r q = absurd (Option·none-ne-some s q)
+sheetFrom-sound text (x ∷ ss) s l r q =
+    let (cs, read, done) = andThen-some (constraintsOf (namesOf (x ∷ ss)) (constraintLines text)) _ q in
+    subst (HasForm text) (Option·some-injective (record { streams = x ∷ ss; constraints = cs }) s done)
     (record {
       headerLines = l;
       someStream = omega arith;
@@ -113,7 +114,7 @@ sheetFrom-sound L text (x ∷ ss) s l r q =
       areNames = r .areNames;
       lows = r .lows;
       highs = r .highs;
-      constraints = constraintsOf-sound (namesOf (x ∷ ss)) (constraintLines L text) cs read;
+      constraints = constraintsOf-sound (namesOf (x ∷ ss)) (constraintLines text) cs read;
     })
 
 sheetFrom-complete : (ls : List (List ℕ)) (ss : List Stream) (cs : List Constraint) → 0 < length ss → Constraints (namesOf ss) ls cs → sheetFrom ls ss ≡ some (record { streams = ss; constraints = cs })
@@ -121,37 +122,37 @@ sheetFrom-complete ls [] cs l r = absurd (omega arith)
 sheetFrom-complete ls (x ∷ ss) cs l r = ap (λ o. andThen o (λ cs′. some (record { streams = x ∷ ss; constraints = cs′ }))) (constraintsOf-complete (namesOf (x ∷ ss)) r)
 
 -- `formOf` gives exactly the sheets that the text has the form of.
-pub formOf-sound : (L : Layout) (text : List ℕ) (s : Sheet) → formOf L text ≡ some s → HasForm L text s
+pub formOf-sound : (text : List ℕ) (s : Sheet) → formOf text ≡ some s → HasForm text s
 unfolding formOf
-formOf-sound L text s q = by (leb (L .constraintsFrom) (length (lines text))) refl q
+formOf-sound text s q = by (leb (layoutIn text .constraintsFrom) (length (lines text))) refl q
   where
     header : Option (List Stream)
-    header = streamsFrom (lineTokens text (L .namesLine)) (lineTokens text (L .lowsLine)) (lineTokens text (L .highsLine))
+    header = streamsFrom (lineTokens text (layoutIn text .namesLine)) (lineTokens text (layoutIn text .lowsLine)) (lineTokens text (layoutIn text .highsLine))
 
-    by : (m : Bool) → leb (L .constraintsFrom) (length (lines text)) ≡ m → cond m (andThen header (sheetFrom (constraintLines L text))) none ≡ some s → HasForm L text s
+    by : (m : Bool) → leb (layoutIn text .constraintsFrom) (length (lines text)) ≡ m → cond m (andThen header (sheetFrom (constraintLines text))) none ≡ some s → HasForm text s
     by true e h =
-        let (ss, read, done) = andThen-some header (sheetFrom (constraintLines L text)) h in
-        let streams = streamsFrom-sound (lineTokens text (L .namesLine)) (lineTokens text (L .lowsLine)) (lineTokens text (L .highsLine)) ss read in
-        sheetFrom-sound L text ss s (leb-true (L .constraintsFrom) (length (lines text)) e) streams done
+        let (ss, read, done) = andThen-some header (sheetFrom (constraintLines text)) h in
+        let streams = streamsFrom-sound (lineTokens text (layoutIn text .namesLine)) (lineTokens text (layoutIn text .lowsLine)) (lineTokens text (layoutIn text .highsLine)) ss read in
+        sheetFrom-sound text ss s (leb-true (layoutIn text .constraintsFrom) (length (lines text)) e) streams done
     by false e h = absurd (Option·none-ne-some s h)
 
-pub formOf-complete : {L : Layout} {text : List ℕ} {s : Sheet} → HasForm L text s → formOf L text ≡ some s
+pub formOf-complete : {text : List ℕ} {s : Sheet} → HasForm text s → formOf text ≡ some s
 unfolding formOf
-formOf-complete {L} {text} {s} f =
-    let ls : List Token = lineTokens text (L .lowsLine) in
-    let hs : List Token = lineTokens text (L .highsLine) in
-    ap (λ m. cond m (andThen (streamsFrom (lineTokens text (L .namesLine)) ls hs) (sheetFrom (constraintLines L text))) none) (le-leb (L .constraintsFrom) (length (lines text)) (f .headerLines))
-    ∙ ap (λ ns. andThen (streamsFrom ns ls hs) (sheetFrom (constraintLines L text))) (f .names)
-    ∙ ap (λ o. andThen o (sheetFrom (constraintLines L text))) (streamsFrom-complete (s .streams) (f .lows) (f .highs) refl refl (f .areNames))
-    ∙ sheetFrom-complete (constraintLines L text) (s .streams) (s .constraints) (f .someStream) (f .constraints)
+formOf-complete {text} {s} f =
+    let ls : List Token = lineTokens text (layoutIn text .lowsLine) in
+    let hs : List Token = lineTokens text (layoutIn text .highsLine) in
+    ap (λ m. cond m (andThen (streamsFrom (lineTokens text (layoutIn text .namesLine)) ls hs) (sheetFrom (constraintLines text))) none) (le-leb (layoutIn text .constraintsFrom) (length (lines text)) (f .headerLines))
+    ∙ ap (λ ns. andThen (streamsFrom ns ls hs) (sheetFrom (constraintLines text))) (f .names)
+    ∙ ap (λ o. andThen o (sheetFrom (constraintLines text))) (streamsFrom-complete (s .streams) (f .lows) (f .highs) refl refl (f .areNames))
+    ∙ sheetFrom-complete (constraintLines text) (s .streams) (s .constraints) (f .someStream) (f .constraints)
 
 -- A text has the form of at most one sheet.
-pub form-unique : {L : Layout} {text : List ℕ} {s s′ : Sheet} → HasForm L text s → HasForm L text s′ → s ≡ s′
+pub form-unique : {text : List ℕ} {s s′ : Sheet} → HasForm text s → HasForm text s′ → s ≡ s′
 form-unique {s = s} {s′ = s′} f g = Option·some-injective s s′ (sym (formOf-complete f) ∙ formOf-complete g)
 
-pub form-decided : (L : Layout) (text : List ℕ) → Dec ((s : Sheet) × HasForm L text s)
-form-decided L text = by (formOf L text) refl
+pub form-decided : (text : List ℕ) → Dec ((s : Sheet) × HasForm text s)
+form-decided text = by (formOf text) refl
   where
-    by : (o : Option Sheet) → formOf L text ≡ o → Dec ((s : Sheet) × HasForm L text s)
+    by : (o : Option Sheet) → formOf text ≡ o → Dec ((s : Sheet) × HasForm text s)
     by none e = no (λ h. Option·none-ne-some (h .0) (sym e ∙ formOf-complete (h .1)))
-    by (some s) e = yes (s, formOf-sound L text s e)
+    by (some s) e = yes (s, formOf-sound text s e)

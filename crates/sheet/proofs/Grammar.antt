@@ -7,7 +7,7 @@ use lib.ListN.{length, length-append}
 use Rattle.text.specs.Bytes.{Token, bytesOf}
 use Rattle.meaning.specs.Expression.{Expression}
 use Rattle.meaning.specs.Interval.{subexpressions}
-use Rattle.sheet.specs.Vocabulary.{Infix, pointwise, followedBy, joined, Prefix, firstPrefix, nextPrefix, notPrefix, prefixed}
+use Rattle.sheet.specs.Vocabulary.{Infix, pointwise, followedBy, infixed, Prefix, firstPrefix, nextPrefix, notPrefix, prefixed}
 use Rattle.sheet.specs.Grammar.{Phrase, Reads, isIntegerToken, isStream, isBracketed, isPrefixed, isPart, isOperation, isConditional}
 
 abbrev expressionCount : Expression → ℕ
@@ -19,7 +19,7 @@ prefixed-count firstPrefix e = refl
 prefixed-count nextPrefix e = refl
 prefixed-count notPrefix e = refl
 
-joined-count : (o : Infix) (a b : Expression) → expressionCount (joined o a b) ≡ suc (expressionCount a + expressionCount b)
+joined-count : (o : Infix) (a b : Expression) → expressionCount (infixed o a b) ≡ suc (expressionCount a + expressionCount b)
 unfolding subexpressions
 joined-count (pointwise o) a b = ap suc (length-append (subexpressions a) (subexpressions b))
 joined-count followedBy a b = ap suc (length-append (subexpressions a) (subexpressions b))

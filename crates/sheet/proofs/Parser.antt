@@ -7,12 +7,12 @@ use mathlib.Core.List.{List, [], _∷_, _++_, append-assoc, append-nil, append-c
 use mathlib.Core.Option.{Option, some, none, Option·none-ne-some, Option·some-injective}
 use native.Mathlib.Omega.{arith}
 use lib.ListN.{length, length-append}
+use Rattle.basics.proofs.Reflects.{from-true}
 use Rattle.text.specs.Bytes.{Token, bytesOf}
 use Rattle.text.specs.Token.{sameBytes}
-use Rattle.text.proofs.Reflects.{from-true}
 use Rattle.text.proofs.Token.{sameBytes-reflects}
 use Rattle.meaning.specs.Expression.{Expression, conditional, Constraint}
-use Rattle.sheet.specs.Vocabulary.{Infix, joined, operatorOf, Relation, related, relationOf, Prefix, prefixed, prefixOf}
+use Rattle.sheet.specs.Vocabulary.{Infix, infixed, operatorOf, Relation, related, relationOf, Prefix, prefixed, prefixOf}
 use Rattle.sheet.specs.Grammar.{Phrase, part, expression, Reads, isIntegerToken, isStream, isBracketed, isPrefixed, isPart, isOperation, isConditional, ReadsConstraint, isConstraint}
 use Rattle.sheet.specs.Parser.{Parsed, parsed, andThen, expect, Reader, operationFrom, afterPart, conditionalBy, expressionBy, Opening, openingOf, wholeLine, constraintFrom, secondSide, partFrom, partTo, parseConstraint}
 use Rattle.sheet.proofs.Vocabulary.{relation-no-operator, bracket-no-operator, Opens, byInteger, byName, byBracket, byPrefix, byNothing, openingOf-opens, opening-integer, opening-name, opening-prefix, opening-bracket, opening-if}
@@ -59,7 +59,7 @@ module _ (names : List Token) where
   split-parsed {k} {ts} {e} {rest} {x} s q = subst (Split names k ts) (Option·some-injective (record { tree = e; rest = rest }) x q) s
 
   operation-split : {front ts : List Token} (t : Token) {o : Infix} {a : Expression} {y : Parsed} → Reads names part front a → operatorOf t ≡ some o → Split names part ts y
-      → Split names expression (front ++ (t ∷ ts)) (record { tree = joined o a (y .tree); rest = y .rest })
+      → Split names expression (front ++ (t ∷ ts)) (record { tree = infixed o a (y .tree); rest = y .rest })
   operation-split {front} t {y = y} r e s =
       record {
         front = front ++ (t ∷ s .front);
@@ -206,7 +206,7 @@ module _ (names : List Token) where
     prefix-complete : (t : Token) (ts rest : List Token) {f : Prefix} {e : Expression} → prefixOf t ≡ some f → p (ts ++ rest) ≡ parsed e rest → partFrom names p (openingOf t) t (ts ++ rest) ≡ parsed (prefixed f e) rest
     prefix-complete t ts rest h q = rw (opening-prefix t h, q)
 
-    operation-complete : (t : Token) (us rest : List Token) (a : Expression) {o : Infix} {b : Expression} → operatorOf t ≡ some o → p (us ++ rest) ≡ parsed b rest → afterPart p a (t ∷ (us ++ rest)) ≡ parsed (joined o a b) rest
+    operation-complete : (t : Token) (us rest : List Token) (a : Expression) {o : Infix} {b : Expression} → operatorOf t ≡ some o → p (us ++ rest) ≡ parsed b rest → afterPart p a (t ∷ (us ++ rest)) ≡ parsed (infixed o a b) rest
     operation-complete t us rest a h q = rw (h, q)
 
     conditional-complete : (ts us vs rest : List Token) {c a b : Expression} → p (ts ++ (bytesOf "then" ∷ (us ++ (bytesOf "else" ∷ (vs ++ rest))))) ≡ parsed c (bytesOf "then" ∷ (us ++ (bytesOf "else" ∷ (vs ++ rest))))

@@ -1,9 +1,9 @@
 -- Each of the refusals 1 to 7 is decided, by the test that Reading names for it. From the laws of Form, and because the tests of numbers,
 -- bytes and tokens decide what they test.
 use Prim.Native.Nat.{ℕ, zero, suc, _+_, _<_}
-use mathlib.Core.Path.{_≡_, refl, sym, subst, _∙_}
+use mathlib.Core.Path.{_≡_, sym, subst, _∙_}
 use mathlib.Core.Bool.{Bool, false, not, cond}
-use mathlib.Core.List.{List, [], _∷_, _++_, List·Memᴰ, List·Memᴰ·head, List·Memᴰ·tail, List·Memᴰ·not-nil, List·Memᴰ·cases-cons, Memᴰ·append-left, Memᴰ·append-right, List·Memᴰ·append-cases}
+use mathlib.Core.List.{List, [], _∷_, _++_, List·Memᴰ, Memᴰ·append-left, Memᴰ·append-right, List·Memᴰ·append-cases}
 use mathlib.Core.Logic.{_⊎_, inl, inr}
 use mathlib.Core.Option.{none, Option·none-ne-some}
 use native.Mathlib.Omega.{arith}
@@ -12,43 +12,29 @@ use lib.IntN.{ℤ, pos, negℤ, natAbs}
 use lib.ListN.{length, take}
 use lib.Seq.{take-nil}
 use lib.Signed.{leZ, ltZ, _≤ℤ_, _<ℤ_}
+use Rattle.basics.specs.Count.{NoRepeats}
+use Rattle.basics.proofs.Reflects.{Reflects, holds, fails, decide, reflects-iff, or-reflects, and-reflects, not-reflects, ltb-reflects, T-reflects, false-reflects}
 use Rattle.text.specs.Bytes.{Token}
 use Rattle.text.specs.Token.{isReserved}
-use Rattle.text.proofs.Reflects.{Reflects, holds, fails, decide, reflects-iff, or-reflects, and-reflects, not-reflects, ltb-reflects, T-reflects, false-reflects}
 use Rattle.text.proofs.Token.{isOneOf-reflects}
-use Rattle.meaning.specs.Arithmetic.{Arithmetic, Interval}
+use Rattle.basics.specs.Lists.{Some}
+use Rattle.basics.proofs.Lists.{Some-member, member-Some}
+use Rattle.meaning.proofs.Facts.{joinOver-member, joinOver-origin}
+use Rattle.meaning.specs.Arithmetic.{Interval}
 use Rattle.meaning.specs.Expression.{Expression, integer, name, first, next, negation, binary, conditional, fby, Constraint, leftSide, rightSide, Stream, Sheet}
 use Rattle.meaning.specs.Interval.{interval, subexpressions, NamesBelow, SidesBelow}
 use Rattle.meaning.specs.Letter.{letterCount}
-use Rattle.meaning.specs.Window.{joinOver, allFirsts, allUntils, B, D}
-use Rattle.meaning.specs.Situation.{NoRepeats}
-use Rattle.sheet.specs.Form.{Layout, lineTokens, constraintLines, namesOf, HasForm}
+use Rattle.meaning.specs.Window.{allFirsts, allUntils, B, D}
+use Rattle.sheet.specs.Form.{lineTokens, constraintLines, namesOf, HasForm, layoutIn}
 use Rattle.sheet.specs.Refusal.{byteBound, streamBound, constraintBound, tokenBound, bracketBound, magnitudeBound, letterBound, untilBound, firstBound, windowBound, isAllowed, Refusal1, tooManyBytes, barredByte, tokenCount, occurrences, Refusal2, tooManyStreams, tooManyConstraints, tooManyTokens, tooDeep, Refusal3, StandsIn, onLeft, onRight, Refusal4, givenTwice, reservedName, unknownName, Refusal5, lowBeyond, highBeyond, integerBeyond, lowAboveHigh, InBounds, Refusal6, leavesBounds, Refusal7, tooManyLetters, tooManyUntils, tooManyFirsts, tooWide}
 use Rattle.sheet.specs.Reading.{anyOf, refuses1, tooDeepFrom, refuses2, formOf, areDistinct, namesBelow, sidesBelow, refuses4, allExpressions, isIntegerBeyond, isRangeFaulty, refuses5, inBounds, refuses6, refuses7}
 use Rattle.sheet.proofs.Form.{formOf-complete, form-unique, form-decided}
 
 -- ---- Tests of lists
 
--- Some element of the list has the property.
-pub record Some {X : Type 0} (P : X → Type 0) (xs : List X) : Type 0 where
-  pub element : X
-  pub member : List·Memᴰ element xs
-  pub has : P element
-
 pub anyOf-reflects : {X : Type 0} {P : X → Type 0} (f : X → Bool) (xs : List X) → ((x : X) → Reflects (P x) (f x)) → Reflects (Some P xs) (anyOf f xs)
-anyOf-reflects f [] r = fails (λ h. List·Memᴰ·not-nil (h .member))
-anyOf-reflects {X} {P} f (x ∷ xs) r = reflects-iff put get (or-reflects (r x) (anyOf-reflects f xs r))
-  where
-    put : P x ⊎ Some P xs → Some P (x ∷ xs)
-    put (inl p) = record { element = x; member = List·Memᴰ·head refl; has = p }
-    put (inr h) = record { element = h .element; member = List·Memᴰ·tail (h .member); has = h .has }
-
-    at : (y : X) → P y → (y ≡ x) ⊎ List·Memᴰ y xs → P x ⊎ Some P xs
-    at y p (inl e) = inl (subst P e p)
-    at y p (inr m) = inr (record { element = y; member = m; has = p })
-
-    get : Some P (x ∷ xs) → P x ⊎ Some P xs
-    get h = at (h .element) (h .has) (List·Memᴰ·cases-cons (h .member))
+anyOf-reflects f [] r = fails (λ h. h)
+anyOf-reflects f (x ∷ xs) r = or-reflects (r x) (anyOf-reflects f xs r)
 
 -- ---- Refusals 1 and 2
 
@@ -58,11 +44,11 @@ refusal1-reflects text = reflects-iff to from (or-reflects (ltb-reflects byteBou
   where
     to : (byteBound < length text) ⊎ Some (λ b. isAllowed b ≡ false) text → Refusal1 text
     to (inl l) = tooManyBytes l
-    to (inr h) = barredByte (h .member) (h .has)
+    to (inr h) = let o = member-Some (λ b. isAllowed b ≡ false) text h in barredByte (o .1) (o .2)
 
     from : Refusal1 text → (byteBound < length text) ⊎ Some (λ b. isAllowed b ≡ false) text
     from (tooManyBytes l) = inl l
-    from (barredByte {b} m e) = inr (record { element = b; member = m; has = e })
+    from (barredByte m e) = inr (Some-member (λ b. isAllowed b ≡ false) m e)
 
 -- Up to the place, and with o and c before it, there are more than 32 more `(` than `)`.
 record DeepAt (o c : ℕ) (l : List ℕ) : Type 0 where
@@ -94,34 +80,34 @@ tooDeepFrom-reflects o c (b ∷ bs) = reflects-iff to from (or-reflects (ltb-ref
     from : DeepAt o c (b ∷ bs) → (bracketBound + c < o) ⊎ DeepAfter o c b bs
     from h = at (h .place) (h .deep)
 
-abbrev Fault2 : Layout → List ℕ → Type 0
-Fault2 L text =
-    (((streamBound < length (lineTokens text (L .namesLine))) ⊎ (constraintBound < length (constraintLines L text))) ⊎ (tokenBound < tokenCount (constraintLines L text))) ⊎ Some (DeepAt 0 0) (constraintLines L text)
+abbrev Fault2 : List ℕ → Type 0
+Fault2 text =
+    (((streamBound < length (lineTokens text (layoutIn text .namesLine))) ⊎ (constraintBound < length (constraintLines text))) ⊎ (tokenBound < tokenCount (constraintLines text))) ⊎ Some (DeepAt 0 0) (constraintLines text)
 
-pub refusal2-reflects : (L : Layout) (text : List ℕ) → Reflects (Refusal2 L text) (refuses2 L text)
+pub refusal2-reflects : (text : List ℕ) → Reflects (Refusal2 text) (refuses2 text)
 unfolding refuses2
-refusal2-reflects L text =
+refusal2-reflects text =
     reflects-iff to from
     (or-reflects
-    (or-reflects (or-reflects (ltb-reflects streamBound (length (lineTokens text (L .namesLine)))) (ltb-reflects constraintBound (length (constraintLines L text)))) (ltb-reflects tokenBound (tokenCount (constraintLines L text))))
-    (anyOf-reflects (tooDeepFrom 0 0) (constraintLines L text) (tooDeepFrom-reflects 0 0)))
+    (or-reflects (or-reflects (ltb-reflects streamBound (length (lineTokens text (layoutIn text .namesLine)))) (ltb-reflects constraintBound (length (constraintLines text)))) (ltb-reflects tokenBound (tokenCount (constraintLines text))))
+    (anyOf-reflects (tooDeepFrom 0 0) (constraintLines text) (tooDeepFrom-reflects 0 0)))
   where
-    to : Fault2 L text → Refusal2 L text
+    to : Fault2 text → Refusal2 text
     to (inl (inl (inl l))) = tooManyStreams l
     to (inl (inl (inr l))) = tooManyConstraints l
     to (inl (inr l)) = tooManyTokens l
-    to (inr h) = tooDeep (h .member) (h .has .place) (omega (arith, h .has .deep))
+    to (inr h) = let o = member-Some (DeepAt 0 0) (constraintLines text) h in tooDeep (o .1) (o .2 .place) (omega (arith, o .2 .deep))
 
-    from : Refusal2 L text → Fault2 L text
+    from : Refusal2 text → Fault2 text
     from (tooManyStreams l) = inl (inl (inl l))
     from (tooManyConstraints l) = inl (inl (inr l))
     from (tooManyTokens l) = inl (inr l)
-    from (tooDeep m p l) = inr (record { element = _; member = m; has = record { place = p; deep = omega arith } })
+    from (tooDeep m p l) = inr (Some-member (DeepAt 0 0) m (record { place = p; deep = omega arith }))
 
 -- ---- Refusal 3
 
-pub refusal3-none : (L : Layout) (text : List ℕ) → formOf L text ≡ none → Refusal3 L text
-refusal3-none L text e = record { formless = λ s f. Option·none-ne-some s (sym e ∙ formOf-complete f) }
+pub refusal3-none : (text : List ℕ) → formOf text ≡ none → Refusal3 text
+refusal3-none text e = record { formless = λ s f. Option·none-ne-some s (sym e ∙ formOf-complete f) }
 
 -- ---- The faults of a sheet behind refusals 4 to 7
 
@@ -153,36 +139,22 @@ fault4-reflects s =
     (or-reflects (not-reflects (areDistinct-reflects (namesOf (s .streams)))) (anyOf-reflects isReserved (namesOf (s .streams)) (λ t. T-reflects (isReserved t))))
     (anyOf-reflects (λ c. not (sidesBelow (length (s .streams)) c)) (s .constraints) (λ c. not-reflects (sidesBelow-reflects (length (s .streams)) c)))
 
--- What stands in a joined list stands in one of the lists joined.
-joinOver-member : {X Y : Type 0} (f : X → List Y) (xs : List X) {x : X} {y : Y} → List·Memᴰ x xs → List·Memᴰ y (f x) → List·Memᴰ y (joinOver f xs)
-joinOver-member f (x ∷ xs) {y = y} (List·Memᴰ·head e) m = Memᴰ·append-left (joinOver f xs) (subst (λ z. List·Memᴰ y (f z)) e m)
-joinOver-member f (x ∷ xs) (List·Memᴰ·tail k) m = Memᴰ·append-right (f x) (joinOver-member f xs k m)
-
-member-joinOver : {X Y : Type 0} (f : X → List Y) (xs : List X) {y : Y} → List·Memᴰ y (joinOver f xs) → Some (λ x. List·Memᴰ y (f x)) xs
-member-joinOver f [] m = absurd (List·Memᴰ·not-nil m)
-member-joinOver {X} f (x ∷ xs) {y} m = by (member-joinOver f xs) (List·Memᴰ·append-cases (f x) m)
-  where
-    by : (List·Memᴰ y (joinOver f xs) → Some (λ z. List·Memᴰ y (f z)) xs) → List·Memᴰ y (f x) ⊎ List·Memᴰ y (joinOver f xs) → Some (λ z. List·Memᴰ y (f z)) (x ∷ xs)
-    by below (inl k) = record { element = x; member = List·Memᴰ·head refl; has = k }
-    by below (inr k) = let h = below k in record { element = h .element; member = List·Memᴰ·tail (h .member); has = h .has }
-
 -- `allExpressions` lists what stands in the constraints.
 abbrev sideExpressions : Constraint → List Expression
 sideExpressions c = subexpressions (leftSide c) ++ subexpressions (rightSide c)
 
 pub stands-member : (cs : List Constraint) {e : Expression} → StandsIn cs e → List·Memᴰ e (allExpressions cs)
-stands-member cs (onLeft {c} m k) = joinOver-member sideExpressions cs m (Memᴰ·append-left (subexpressions (rightSide c)) k)
-stands-member cs (onRight {c} m k) = joinOver-member sideExpressions cs m (Memᴰ·append-right (subexpressions (leftSide c)) k)
+stands-member cs (onLeft {c} m k) = joinOver-member sideExpressions cs _ _ m (Memᴰ·append-left (subexpressions (rightSide c)) k)
+stands-member cs (onRight {c} m k) = joinOver-member sideExpressions cs _ _ m (Memᴰ·append-right (subexpressions (leftSide c)) k)
 
 pub member-stands : (cs : List Constraint) {e : Expression} → List·Memᴰ e (allExpressions cs) → StandsIn cs e
-member-stands cs {e} m = at (member-joinOver sideExpressions cs m)
+member-stands cs {e} m =
+    let o = joinOver-origin sideExpressions cs e m in
+    by (o .0) (o .1) (List·Memᴰ·append-cases (subexpressions (leftSide (o .0))) (o .2))
   where
     by : (c : Constraint) → List·Memᴰ c cs → List·Memᴰ e (subexpressions (leftSide c)) ⊎ List·Memᴰ e (subexpressions (rightSide c)) → StandsIn cs e
     by c k (inl h) = onLeft k h
     by c k (inr h) = onRight k h
-
-    at : Some (λ c. List·Memᴰ e (sideExpressions c)) cs → StandsIn cs e
-    at h = by (h .element) (h .member) (List·Memᴰ·append-cases (subexpressions (leftSide (h .element))) (h .has))
 
 <ℤ-reflects : (a b : ℤ) → Reflects (a <ℤ b) (ltZ a b)
 <ℤ-reflects a b = reflects-iff (λ t. record { lt = t }) (λ h. h .lt) (T-reflects (ltZ a b))
@@ -226,12 +198,12 @@ fault5-reflects s =
 pub inBounds-reflects : (I : Interval) → Reflects (InBounds I) (inBounds I)
 inBounds-reflects I = reflects-iff (λ h. record { above = h .0; below = h .1 }) (λ h. (h .above, h .below)) (and-reflects (≤ℤ-reflects (negℤ (pos magnitudeBound)) (I .low)) (≤ℤ-reflects (I .high) (pos magnitudeBound)))
 
-abbrev Fault6 : Arithmetic → Sheet → Type 0
-Fault6 A s = Some (λ e. InBounds (interval A (s .streams) e) → ⊥) (allExpressions (s .constraints))
+abbrev Fault6 : Sheet → Type 0
+Fault6 s = Some (λ e. InBounds (interval (s .streams) e) → ⊥) (allExpressions (s .constraints))
 
-fault6-reflects : (A : Arithmetic) (s : Sheet) → Reflects (Fault6 A s) (refuses6 A s)
+fault6-reflects : (s : Sheet) → Reflects (Fault6 s) (refuses6 s)
 unfolding refuses6
-fault6-reflects A s = anyOf-reflects (λ e. not (inBounds (interval A (s .streams) e))) (allExpressions (s .constraints)) (λ e. not-reflects (inBounds-reflects (interval A (s .streams) e)))
+fault6-reflects s = anyOf-reflects (λ e. not (inBounds (interval (s .streams) e))) (allExpressions (s .constraints)) (λ e. not-reflects (inBounds-reflects (interval (s .streams) e)))
 
 abbrev Fault7 : Sheet → Type 0
 Fault7 s =
@@ -246,33 +218,33 @@ fault7-reflects s =
 
 -- ---- Refusals 4 to 7, of a text that has a sheet's form
 
-module _ {L : Layout} {text : List ℕ} {s : Sheet} (f : HasForm L text s) where
+module _ {text : List ℕ} {s : Sheet} (f : HasForm text s) where
   -- What is a fault of any sheet that the text has the form of is a fault of s.
-  same-sheet : (P : Sheet → Type 0) {s′ : Sheet} → HasForm L text s′ → P s′ → P s
+  same-sheet : (P : Sheet → Type 0) {s′ : Sheet} → HasForm text s′ → P s′ → P s
   same-sheet P g p = subst P (form-unique g f) p
 
-  pub refusal4-reflects : Reflects (Refusal4 L text) (refuses4 s)
+  pub refusal4-reflects : Reflects (Refusal4 text) (refuses4 s)
   refusal4-reflects = reflects-iff to from (fault4-reflects s)
     where
-      to : Fault4 s → Refusal4 L text
+      to : Fault4 s → Refusal4 text
       to (inl (inl n)) = givenTwice f n
-      to (inl (inr h)) = reservedName f (h .member) (h .has)
-      to (inr h) = unknownName f (h .member) (h .has)
+      to (inl (inr h)) = let o = member-Some (λ t. T (isReserved t)) (namesOf (s .streams)) h in reservedName f (o .1) (o .2)
+      to (inr h) = let o = member-Some (λ c. SidesBelow (length (s .streams)) c → ⊥) (s .constraints) h in unknownName f (o .1) (o .2)
 
-      from : Refusal4 L text → Fault4 s
+      from : Refusal4 text → Fault4 s
       from (givenTwice g n) = same-sheet Fault4 g (inl (inl n))
-      from (reservedName g m r) = same-sheet Fault4 g (inl (inr (record { element = _; member = m; has = r })))
-      from (unknownName g m n) = same-sheet Fault4 g (inr (record { element = _; member = m; has = n }))
+      from (reservedName g m r) = same-sheet Fault4 g (inl (inr (Some-member (λ t. T (isReserved t)) m r)))
+      from (unknownName {s = s′} g m n) = same-sheet Fault4 g (inr (Some-member (λ c. SidesBelow (length (s′ .streams)) c → ⊥) m n))
 
-  pub refusal5-reflects : Reflects (Refusal5 L text) (refuses5 s)
+  pub refusal5-reflects : Reflects (Refusal5 text) (refuses5 s)
   refusal5-reflects = reflects-iff to from (fault5-reflects s)
     where
-      ofRange : (x : Stream) → List·Memᴰ x (s .streams) → RangeFault x → Refusal5 L text
+      ofRange : (x : Stream) → List·Memᴰ x (s .streams) → RangeFault x → Refusal5 text
       ofRange x m (inl (inl l)) = lowBeyond f m l
       ofRange x m (inl (inr l)) = highBeyond f m l
       ofRange x m (inr l) = lowAboveHigh f m l
 
-      ofInteger : (e : Expression) → StandsIn (s .constraints) e → IntegerFault e → Refusal5 L text
+      ofInteger : (e : Expression) → StandsIn (s .constraints) e → IntegerFault e → Refusal5 text
       ofInteger (integer z) m l = integerBeyond f m l
       ofInteger (name k) m l = absurd l
       ofInteger (first e) m l = absurd l
@@ -282,35 +254,37 @@ module _ {L : Layout} {text : List ℕ} {s : Sheet} (f : HasForm L text s) where
       ofInteger (conditional c a b) m l = absurd l
       ofInteger (fby a b) m l = absurd l
 
-      to : Fault5 s → Refusal5 L text
-      to (inl h) = ofRange (h .element) (h .member) (h .has)
-      to (inr h) = ofInteger (h .element) (member-stands (s .constraints) (h .member)) (h .has)
+      to : Fault5 s → Refusal5 text
+      to (inl h) = let o = member-Some RangeFault (s .streams) h in ofRange (o .0) (o .1) (o .2)
+      to (inr h) = let o = member-Some IntegerFault (allExpressions (s .constraints)) h in ofInteger (o .0) (member-stands (s .constraints) (o .1)) (o .2)
 
-      from : Refusal5 L text → Fault5 s
-      from (lowBeyond g m l) = same-sheet Fault5 g (inl (record { element = _; member = m; has = inl (inl l) }))
-      from (highBeyond g m l) = same-sheet Fault5 g (inl (record { element = _; member = m; has = inl (inr l) }))
-      from (integerBeyond {s = s′} {z = z} g m l) = same-sheet Fault5 g (inr (record { element = integer z; member = stands-member (s′ .constraints) m; has = l }))
-      from (lowAboveHigh g m l) = same-sheet Fault5 g (inl (record { element = _; member = m; has = inr l }))
+      from : Refusal5 text → Fault5 s
+      from (lowBeyond g m l) = same-sheet Fault5 g (inl (Some-member RangeFault m (inl (inl l))))
+      from (highBeyond g m l) = same-sheet Fault5 g (inl (Some-member RangeFault m (inl (inr l))))
+      from (integerBeyond {s = s′} g m l) = same-sheet Fault5 g (inr (Some-member IntegerFault (stands-member (s′ .constraints) m) l))
+      from (lowAboveHigh g m l) = same-sheet Fault5 g (inl (Some-member RangeFault m (inr l)))
 
-  pub refusal6-reflects : (A : Arithmetic) → Reflects (Refusal6 A L text) (refuses6 A s)
-  refusal6-reflects A = reflects-iff to from (fault6-reflects A s)
+  pub refusal6-reflects : Reflects (Refusal6 text) (refuses6 s)
+  refusal6-reflects = reflects-iff to from (fault6-reflects s)
     where
-      to : Fault6 A s → Refusal6 A L text
-      to h = leavesBounds f (member-stands (s .constraints) (h .member)) (h .has)
+      to : Fault6 s → Refusal6 text
+      to h =
+          let o = member-Some (λ e. InBounds (interval (s .streams) e) → ⊥) (allExpressions (s .constraints)) h in
+          leavesBounds f (member-stands (s .constraints) (o .1)) (o .2)
 
-      from : Refusal6 A L text → Fault6 A s
-      from (leavesBounds {s = s′} g m n) = same-sheet (Fault6 A) g (record { element = _; member = stands-member (s′ .constraints) m; has = n })
+      from : Refusal6 text → Fault6 s
+      from (leavesBounds {s = s′} g m n) = same-sheet Fault6 g (Some-member (λ e. InBounds (interval (s′ .streams) e) → ⊥) (stands-member (s′ .constraints) m) n)
 
-  pub refusal7-reflects : Reflects (Refusal7 L text) (refuses7 s)
+  pub refusal7-reflects : Reflects (Refusal7 text) (refuses7 s)
   refusal7-reflects = reflects-iff to from (fault7-reflects s)
     where
-      to : Fault7 s → Refusal7 L text
+      to : Fault7 s → Refusal7 text
       to (inl (inl (inl l))) = tooManyLetters f l
       to (inl (inl (inr l))) = tooManyUntils f l
       to (inl (inr l)) = tooManyFirsts f l
       to (inr l) = tooWide f l
 
-      from : Refusal7 L text → Fault7 s
+      from : Refusal7 text → Fault7 s
       from (tooManyLetters g l) = same-sheet Fault7 g (inl (inl (inl l)))
       from (tooManyUntils g l) = same-sheet Fault7 g (inl (inl (inr l)))
       from (tooManyFirsts g l) = same-sheet Fault7 g (inl (inr l))
@@ -318,23 +292,23 @@ module _ {L : Layout} {text : List ℕ} {s : Sheet} (f : HasForm L text s) where
 
 -- ---- Every refusal is decided
 
-module _ {L : Layout} {text : List ℕ} where
+module _ {text : List ℕ} where
   -- Refusals 4 to 7 apply only to a text that has a sheet's form.
-  pub refusal4-form : Refusal4 L text → (s : Sheet) × HasForm L text s
+  pub refusal4-form : Refusal4 text → (s : Sheet) × HasForm text s
   refusal4-form (givenTwice f n) = (_, f)
   refusal4-form (reservedName f m r) = (_, f)
   refusal4-form (unknownName f m n) = (_, f)
 
-  pub refusal5-form : Refusal5 L text → (s : Sheet) × HasForm L text s
+  pub refusal5-form : Refusal5 text → (s : Sheet) × HasForm text s
   refusal5-form (lowBeyond f m l) = (_, f)
   refusal5-form (highBeyond f m l) = (_, f)
   refusal5-form (integerBeyond f m l) = (_, f)
   refusal5-form (lowAboveHigh f m l) = (_, f)
 
-  pub refusal6-form : {A : Arithmetic} → Refusal6 A L text → (s : Sheet) × HasForm L text s
+  pub refusal6-form : Refusal6 text → (s : Sheet) × HasForm text s
   refusal6-form (leavesBounds f m n) = (_, f)
 
-  pub refusal7-form : Refusal7 L text → (s : Sheet) × HasForm L text s
+  pub refusal7-form : Refusal7 text → (s : Sheet) × HasForm text s
   refusal7-form (tooManyLetters f l) = (_, f)
   refusal7-form (tooManyUntils f l) = (_, f)
   refusal7-form (tooManyFirsts f l) = (_, f)
@@ -343,32 +317,32 @@ module _ {L : Layout} {text : List ℕ} where
 pub refusal1-decided : (text : List ℕ) → Dec (Refusal1 text)
 refusal1-decided text = decide (refusal1-reflects text)
 
-module _ (L : Layout) (text : List ℕ) where
-  pub refusal2-decided : Dec (Refusal2 L text)
-  refusal2-decided = decide (refusal2-reflects L text)
+module _ (text : List ℕ) where
+  pub refusal2-decided : Dec (Refusal2 text)
+  refusal2-decided = decide (refusal2-reflects text)
 
-  pub refusal3-decided : Dec (Refusal3 L text)
-  refusal3-decided = by (form-decided L text)
+  pub refusal3-decided : Dec (Refusal3 text)
+  refusal3-decided = by (form-decided text)
     where
-      by : Dec ((s : Sheet) × HasForm L text s) → Dec (Refusal3 L text)
+      by : Dec ((s : Sheet) × HasForm text s) → Dec (Refusal3 text)
       by (yes f) = no (λ r. r .formless (f .0) (f .1))
       by (no n) = yes (record { formless = λ s f. n (s, f) })
 
-  by-form : {R : Type 0} {test : Sheet → Bool} → (R → (s : Sheet) × HasForm L text s) → ((s : Sheet) → HasForm L text s → Reflects R (test s)) → Dec R
-  by-form {R} {test} form tested = by (form-decided L text)
+  by-form : {R : Type 0} {test : Sheet → Bool} → (R → (s : Sheet) × HasForm text s) → ((s : Sheet) → HasForm text s → Reflects R (test s)) → Dec R
+  by-form {R} {test} form tested = by (form-decided text)
     where
-      by : Dec ((s : Sheet) × HasForm L text s) → Dec R
+      by : Dec ((s : Sheet) × HasForm text s) → Dec R
       by (yes f) = decide (tested (f .0) (f .1))
       by (no n) = no (λ r. n (form r))
 
-  pub refusal4-decided : Dec (Refusal4 L text)
+  pub refusal4-decided : Dec (Refusal4 text)
   refusal4-decided = by-form {test = refuses4} refusal4-form (λ s f. refusal4-reflects f)
 
-  pub refusal5-decided : Dec (Refusal5 L text)
+  pub refusal5-decided : Dec (Refusal5 text)
   refusal5-decided = by-form {test = refuses5} refusal5-form (λ s f. refusal5-reflects f)
 
-  pub refusal6-decided : (A : Arithmetic) → Dec (Refusal6 A L text)
-  refusal6-decided A = by-form {test = refuses6 A} refusal6-form (λ s f. refusal6-reflects f A)
+  pub refusal6-decided : Dec (Refusal6 text)
+  refusal6-decided = by-form {test = refuses6} refusal6-form (λ s f. refusal6-reflects f)
 
-  pub refusal7-decided : Dec (Refusal7 L text)
+  pub refusal7-decided : Dec (Refusal7 text)
   refusal7-decided = by-form {test = refuses7} refusal7-form (λ s f. refusal7-reflects f)

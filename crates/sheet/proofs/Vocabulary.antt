@@ -9,11 +9,12 @@ use mathlib.Core.Option.{Option, some, none, Option·none-ne-some}
 use native.Mathlib.Omega.{arith}
 use lib.Dec.{T, T-not}
 use lib.ListN.{length, getD}
+use Rattle.basics.proofs.Tests.{and-left, and-right, and-both}
+use Rattle.basics.proofs.Reflects.{Reflects, holds, fails, T-reflects, from-true, to-true, to-false}
 use Rattle.text.specs.Bytes.{Token, bytesOf}
 use Rattle.text.specs.Token.{sameBytes, isName, isInteger, isReserved, reservedWords, isNatural}
-use Rattle.text.proofs.Reflects.{Reflects, holds, fails, T-reflects, from-true, to-true, to-false, and-left, and-right, and-both}
 use Rattle.text.proofs.Token.{sameBytes-reflects, integer-not-name}
-use Rattle.sheet.specs.Vocabulary.{lookUp, operators, operatorOf, Relation, relations, relationOf, Prefix, prefixes, prefixOf, placeOf}
+use Rattle.sheet.specs.Vocabulary.{lookUp, operatorTokens, operatorOf, Relation, relationTokens, relationOf, Prefix, prefixTokens, prefixOf, namePlace}
 use Rattle.sheet.specs.Parser.{Opening, integerOpening, nameOpening, bracketOpening, noOpening, prefixOpening, plainOpening, openingFrom, openingOf}
 
 -- Every token of the table passes the test.
@@ -48,11 +49,11 @@ isNone-none (some x) h = absurd h
 
 -- A relation is no operator, and neither is a closing bracket.
 pub relation-no-operator : (t : Token) {r : Relation} → relationOf t ≡ some r → operatorOf t ≡ none
-unfolding relationOf operatorOf relations operators
-relation-no-operator t e = isNone-none (operatorOf t) (lookUp-key (λ u. isNone (operatorOf u)) relations t tt e)
+unfolding relationOf operatorOf relationTokens operatorTokens
+relation-no-operator t e = isNone-none (operatorOf t) (lookUp-key (λ u. isNone (operatorOf u)) relationTokens t tt e)
 
 pub bracket-no-operator : operatorOf (bytesOf ")") ≡ none
-unfolding operatorOf operators
+unfolding operatorOf operatorTokens
 bracket-no-operator = refl
 
 -- What a token opens a part as.
@@ -79,15 +80,15 @@ openingOf-opens t = byTable (prefixOf t) refl
 
 -- The same the other way: the conditions of the grammar exclude each other.
 pub opening-integer : (t : Token) → T (isInteger t) → openingOf t ≡ integerOpening
-unfolding openingOf prefixOf prefixes isInteger isNatural
+unfolding openingOf prefixOf prefixTokens isInteger isNatural
 opening-integer t h =
-    ap (λ o. openingFrom o t) (lookUp-none isInteger prefixes t tt h)
+    ap (λ o. openingFrom o t) (lookUp-none isInteger prefixTokens t tt h)
     ∙ ap (λ i. plainOpening i (isName t && not (isReserved t)) (sameBytes (bytesOf "(") t)) (to-true (T-reflects (isInteger t)) h)
 
 pub opening-name : (t : Token) → T (isName t) → T (not (isReserved t)) → openingOf t ≡ nameOpening
-unfolding openingOf prefixOf prefixes isReserved reservedWords
+unfolding openingOf prefixOf prefixTokens isReserved reservedWords
 opening-name t h k =
-    ap (λ o. openingFrom o t) (lookUp-none (λ u. not (isReserved u)) prefixes t tt k)
+    ap (λ o. openingFrom o t) (lookUp-none (λ u. not (isReserved u)) prefixTokens t tt k)
     ∙ ap₂ (λ i n. plainOpening i n (sameBytes (bytesOf "(") t)) (to-false (T-reflects (isInteger t)) (λ i. integer-not-name t i h))
     (to-true (T-reflects (isName t && not (isReserved t))) (and-both (isName t) (not (isReserved t)) h k))
 
@@ -96,30 +97,30 @@ unfolding openingOf
 opening-prefix t e = ap (λ o. openingFrom o t) e
 
 pub opening-bracket : openingOf (bytesOf "(") ≡ bracketOpening
-unfolding openingOf prefixOf prefixes isInteger isNatural isName
+unfolding openingOf prefixOf prefixTokens isInteger isNatural isName
 opening-bracket = refl
 
 -- No part begins with `if`.
 pub opening-if : openingOf (bytesOf "if") ≡ noOpening
-unfolding openingOf prefixOf prefixes isInteger isNatural isName isReserved reservedWords
+unfolding openingOf prefixOf prefixTokens isInteger isNatural isName isReserved reservedWords
 opening-if = refl
 
 -- A name of line 1 has a place there, and a name with a place stands at it.
-pub placeOf-member : (names : List Token) (t : Token) → List·Memᴰ t names → placeOf names t < length names
-unfolding placeOf
+pub placeOf-member : (names : List Token) (t : Token) → List·Memᴰ t names → namePlace names t < length names
+unfolding namePlace
 placeOf-member [] t m = absurd (List·Memᴰ·not-nil m)
 placeOf-member (n ∷ ns) t m = by (sameBytes-reflects n t) (placeOf-member ns t) (List·Memᴰ·cases-cons m)
   where
-    by : {b : Bool} → Reflects (n ≡ t) b → (List·Memᴰ t ns → placeOf ns t < length ns) → (t ≡ n) ⊎ List·Memᴰ t ns → cond b 0 (suc (placeOf ns t)) < suc (length ns)
+    by : {b : Bool} → Reflects (n ≡ t) b → (List·Memᴰ t ns → namePlace ns t < length ns) → (t ≡ n) ⊎ List·Memᴰ t ns → cond b 0 (suc (namePlace ns t)) < suc (length ns)
     by (holds e) below k = omega arith
     by (fails d) below (inl e) = absurd (d (sym e))
     by (fails d) below (inr k) = let z = below k in omega arith
 
-pub placeOf-token : (names : List Token) (t : Token) → placeOf names t < length names → getD names (placeOf names t) [] ≡ t
-unfolding placeOf
+pub placeOf-token : (names : List Token) (t : Token) → namePlace names t < length names → getD names (namePlace names t) [] ≡ t
+unfolding namePlace
 placeOf-token [] t l = absurd (omega arith)
 placeOf-token (n ∷ ns) t l = by (sameBytes-reflects n t) (placeOf-token ns t) l
   where
-    by : {b : Bool} → Reflects (n ≡ t) b → (placeOf ns t < length ns → getD ns (placeOf ns t) [] ≡ t) → cond b 0 (suc (placeOf ns t)) < suc (length ns) → getD (n ∷ ns) (cond b 0 (suc (placeOf ns t))) [] ≡ t
+    by : {b : Bool} → Reflects (n ≡ t) b → (namePlace ns t < length ns → getD ns (namePlace ns t) [] ≡ t) → cond b 0 (suc (namePlace ns t)) < suc (length ns) → getD (n ∷ ns) (cond b 0 (suc (namePlace ns t))) [] ≡ t
     by (holds e) below k = e
     by (fails d) below k = below (omega arith)

@@ -6,19 +6,18 @@ use mathlib.Core.List.{List·Memᴰ}
 use lib.Dec.{T}
 use lib.ListN.{length}
 use lib.Signed.{_≤ℤ_}
+use Rattle.basics.specs.Count.{NoRepeats}
 use Rattle.text.specs.Bytes.{Token}
 use Rattle.text.specs.Token.{isName, isReserved}
-use Rattle.meaning.specs.Arithmetic.{Arithmetic}
 use Rattle.meaning.specs.Expression.{Expression, Constraint, Stream, Sheet}
 use Rattle.meaning.specs.Interval.{interval, SidesBelow}
 use Rattle.meaning.specs.Letter.{letterCount}
 use Rattle.meaning.specs.Window.{allFirsts, allUntils, B, D}
-use Rattle.meaning.specs.Situation.{NoRepeats}
 use Rattle.sheet.specs.Form.{namesOf}
 use Rattle.sheet.specs.Refusal.{streamBound, constraintBound, tokenBound, letterBound, untilBound, firstBound, windowBound, StandsIn, InBounds}
 use Rattle.sheet.specs.Reading.{allExpressions}
 
-pub record Accepted (A : Arithmetic) (s : Sheet) : Type 0 where
+pub record Accepted (s : Sheet) : Type 0 where
   -- the streams
   pub someStream : 0 < length (s .streams)
   pub streamCount : length (s .streams) ≤ streamBound
@@ -31,7 +30,7 @@ pub record Accepted (A : Arithmetic) (s : Sheet) : Type 0 where
   pub constraintCount : length (s .constraints) ≤ constraintBound
   pub expressionCount : length (allExpressions (s .constraints)) + length (s .constraints) ≤ tokenBound
   pub namesKnown : (c : Constraint) → List·Memᴰ c (s .constraints) → SidesBelow (length (s .streams)) c
-  pub intervalsInBounds : (e : Expression) → StandsIn (s .constraints) e → InBounds (interval A (s .streams) e)
+  pub intervalsInBounds : (e : Expression) → StandsIn (s .constraints) e → InBounds (interval (s .streams) e)
   -- the letters and the situations
   pub someLetter : 1 ≤ letterCount (s .streams)
   pub letters : letterCount (s .streams) ≤ letterBound

@@ -7,11 +7,10 @@ use lib.IntN.{ℤ}
 use lib.ListN.{length, getD, drop}
 use Rattle.text.specs.Bytes.{Token, lines, tokens}
 use Rattle.text.specs.Token.{isName, isInteger, integerValue}
-use Rattle.meaning.specs.Arithmetic.{Interval}
 use Rattle.meaning.specs.Expression.{Constraint, Stream, Sheet}
 use Rattle.sheet.specs.Grammar.{ReadsConstraint}
 
--- The places of the header lines, counted from 0, and of the first constraint line. A later release can move them.
+-- The places of the header lines, counted from 0, and of the first constraint line.
 pub record Layout : Type 0 where
   pub namesLine : ℕ
   pub lowsLine : ℕ
@@ -19,15 +18,19 @@ pub record Layout : Type 0 where
   pub constraintsFrom : ℕ
 
 -- "Line 1: stream names. Line 2: the lowest value of each, in that order. Line 3: the highest. Every further line is one constraint".
-abbrev pub threeHeaderLines : Layout
+abbrev threeHeaderLines : Layout
 threeHeaderLines = record { namesLine = 0; lowsLine = 1; highsLine = 2; constraintsFrom = 3 }
+
+-- Where the lines of a text stand: the same in every text.
+abbrev pub layoutIn : List ℕ → Layout
+layoutIn text = threeHeaderLines
 
 -- The tokens of the line with this place.
 abbrev pub lineTokens : List ℕ → ℕ → List Token
 lineTokens text k = tokens (getD (lines text) k [])
 
-abbrev pub constraintLines : Layout → List ℕ → List (List ℕ)
-constraintLines L text = drop (L .constraintsFrom) (lines text)
+abbrev pub constraintLines : List ℕ → List (List ℕ)
+constraintLines text = drop (layoutIn text .constraintsFrom) (lines text)
 
 -- The tokens are integers with these values.
 pub data Integers : List Token → List ℤ → Type 0 where
@@ -43,11 +46,11 @@ abbrev pub namesOf : List Stream → List Token
 namesOf ss = map (λ s. s .name) ss
 
 -- The bytes have the form of a sheet, and s is that sheet. "A line without tokens is a fault of form." "there may be none" of the constraints.
-pub record HasForm (L : Layout) (text : List ℕ) (s : Sheet) : Type 0 where
-  pub headerLines : L .constraintsFrom ≤ length (lines text)
+pub record HasForm (text : List ℕ) (s : Sheet) : Type 0 where
+  pub headerLines : layoutIn text .constraintsFrom ≤ length (lines text)
   pub someStream : 0 < length (s .streams)
-  pub names : lineTokens text (L .namesLine) ≡ namesOf (s .streams)
+  pub names : lineTokens text (layoutIn text .namesLine) ≡ namesOf (s .streams)
   pub areNames : (t : Token) → List·Memᴰ t (namesOf (s .streams)) → T (isName t)
-  pub lows : Integers (lineTokens text (L .lowsLine)) (map (λ x. x .range .low) (s .streams))
-  pub highs : Integers (lineTokens text (L .highsLine)) (map (λ x. x .range .high) (s .streams))
-  pub constraints : Constraints (namesOf (s .streams)) (constraintLines L text) (s .constraints)
+  pub lows : Integers (lineTokens text (layoutIn text .lowsLine)) (map (λ x. x .range .low) (s .streams))
+  pub highs : Integers (lineTokens text (layoutIn text .highsLine)) (map (λ x. x .range .high) (s .streams))
+  pub constraints : Constraints (namesOf (s .streams)) (constraintLines text) (s .constraints)

@@ -7,7 +7,7 @@ use lib.Dec.{T}
 use Rattle.text.specs.Bytes.{Token, bytesOf}
 use Rattle.text.specs.Token.{isName, isInteger, integerValue, isReserved}
 use Rattle.meaning.specs.Expression.{Expression, integer, name, conditional, Constraint}
-use Rattle.sheet.specs.Vocabulary.{Infix, joined, operatorOf, Relation, related, relationOf, Prefix, prefixed, prefixOf, placeOf}
+use Rattle.sheet.specs.Vocabulary.{Infix, infixed, operatorOf, Relation, related, relationOf, Prefix, prefixed, prefixOf, namePlace}
 
 -- What tokens can be read as.
 pub data Phrase : Type 0 where
@@ -18,7 +18,7 @@ pub data Reads (names : List Token) : Phrase → List Token → Expression → T
   -- "A part is an integer,"
   isIntegerToken : {t : Token} → T (isInteger t) → Reads names part (t ∷ []) (integer (integerValue t))
   -- "a name," ("Reserved words [..] in a constraint they are never names.")
-  isStream : {t : Token} → T (isName t) → T (not (isReserved t)) → Reads names part (t ∷ []) (name (placeOf names t))
+  isStream : {t : Token} → T (isName t) → T (not (isReserved t)) → Reads names part (t ∷ []) (name (namePlace names t))
   -- "an expression in brackets,"
   isBracketed : {ts : List Token} {e : Expression} → Reads names expression ts e → Reads names part (bytesOf "(" ∷ (ts ++ (bytesOf ")" ∷ []))) e
   -- "or `first`, `next` or `not` before a part."
@@ -26,7 +26,7 @@ pub data Reads (names : List Token) : Phrase → List Token → Expression → T
   -- "An expression is a part,"
   isPart : {ts : List Token} {e : Expression} → Reads names part ts e → Reads names expression ts e
   -- "or two parts with an operator between them,"
-  isOperation : {ts us : List Token} (t : Token) {o : Infix} {a b : Expression} → Reads names part ts a → operatorOf t ≡ some o → Reads names part us b → Reads names expression (ts ++ (t ∷ us)) (joined o a b)
+  isOperation : {ts us : List Token} (t : Token) {o : Infix} {a b : Expression} → Reads names part ts a → operatorOf t ≡ some o → Reads names part us b → Reads names expression (ts ++ (t ∷ us)) (infixed o a b)
   -- "or `if` part `then` part `else` part."
   isConditional : {ts us vs : List Token} {c a b : Expression} → Reads names part ts c → Reads names part us a → Reads names part vs b
       → Reads names expression (bytesOf "if" ∷ (ts ++ (bytesOf "then" ∷ (us ++ (bytesOf "else" ∷ vs))))) (conditional c a b)

@@ -4,10 +4,10 @@ use mathlib.Core.Bool.{Bool, true, false, not, cond, _&&_}
 use mathlib.Core.List.{List, [], _∷_}
 use mathlib.Core.Option.{Option, some, none}
 use lib.ListN.{length}
-use Rattle.text.specs.Bytes.{Token, bytesOf, tokens}
+use Rattle.text.specs.Bytes.{Token, bytesOf}
 use Rattle.text.specs.Token.{sameBytes, isName, isInteger, integerValue, isReserved}
 use Rattle.meaning.specs.Expression.{Expression, integer, name, conditional, Constraint}
-use Rattle.sheet.specs.Vocabulary.{Infix, joined, operatorOf, Relation, related, relationOf, Prefix, prefixed, prefixOf, placeOf}
+use Rattle.sheet.specs.Vocabulary.{Infix, infixed, operatorOf, Relation, related, relationOf, Prefix, prefixed, prefixOf, namePlace}
 
 -- What was read, and the tokens after it.
 pub record Parsed : Type 0 where
@@ -32,7 +32,7 @@ Reader = List Token → Option Parsed
 -- A part, and an operator with a second part if one follows.
 abbrev pub operationFrom : Reader → Expression → List Token → Option Infix → List Token → Option Parsed
 operationFrom p a whole none ts = parsed a whole
-operationFrom p a whole (some o) ts = andThen (p ts) (λ y. parsed (joined o a (y .tree)) (y .rest))
+operationFrom p a whole (some o) ts = andThen (p ts) (λ y. parsed (infixed o a (y .tree)) (y .rest))
 
 abbrev pub afterPart : Reader → Expression → List Token → Option Parsed
 afterPart p a [] = parsed a []
@@ -89,7 +89,7 @@ module _ (names : List Token) where
   -- A part, where p reads the parts inside it.
   abbrev pub partFrom : Reader → Opening → Token → List Token → Option Parsed
   partFrom p integerOpening t ts = parsed (integer (integerValue t)) ts
-  partFrom p nameOpening t ts = parsed (name (placeOf names t)) ts
+  partFrom p nameOpening t ts = parsed (name (namePlace names t)) ts
   partFrom p bracketOpening t ts = andThen (expressionBy p ts) (λ y. andThen (expect (bytesOf ")") (y .rest)) (λ us. parsed (y .tree) us))
   partFrom p (prefixOpening f) t ts = andThen (p ts) (λ y. parsed (prefixed f (y .tree)) (y .rest))
   partFrom p noOpening t ts = none

@@ -10,12 +10,12 @@ use lib.ListN.{length}
 use lib.Signed.{leZ, ltZ}
 use Rattle.text.specs.Bytes.{Token, lines, tokens}
 use Rattle.text.specs.Token.{isOneOf, isName, isInteger, integerValue, isReserved}
-use Rattle.meaning.specs.Arithmetic.{Arithmetic, Interval}
+use Rattle.meaning.specs.Arithmetic.{Interval}
 use Rattle.meaning.specs.Expression.{Expression, integer, name, first, next, negation, binary, conditional, fby, Constraint, leftSide, rightSide, Stream, Sheet}
 use Rattle.meaning.specs.Interval.{interval, subexpressions}
 use Rattle.meaning.specs.Letter.{letterCount}
 use Rattle.meaning.specs.Window.{joinOver, allFirsts, allUntils, B, D}
-use Rattle.sheet.specs.Form.{Layout, lineTokens, constraintLines, namesOf}
+use Rattle.sheet.specs.Form.{lineTokens, constraintLines, namesOf, layoutIn}
 use Rattle.sheet.specs.Refusal.{byteBound, streamBound, constraintBound, tokenBound, bracketBound, magnitudeBound, letterBound, untilBound, firstBound, windowBound, isAllowed, tokenCount, Answer, refused, sheet}
 use Rattle.sheet.specs.Parser.{andThen, parseConstraint}
 
@@ -34,12 +34,12 @@ tooDeepFrom o c [] = ltb (bracketBound + c) o
 tooDeepFrom o c (b ∷ bs) = ltb (bracketBound + c) o || tooDeepFrom (o + cond (eqb b 40) 1 0) (c + cond (eqb b 41) 1 0) bs
 
 -- "2: over 8 tokens in line 1, 32 lines after line 3, 1,024 tokens in them, or, up to some place in one of them, more than 32 more `(` than `)`."
-unfoldable pub refuses2 : Layout → List ℕ → Bool
-refuses2 L text =
-    ltb streamBound (length (lineTokens text (L .namesLine)))
-    || ltb constraintBound (length (constraintLines L text))
-    || ltb tokenBound (tokenCount (constraintLines L text))
-    || anyOf (tooDeepFrom 0 0) (constraintLines L text)
+unfoldable pub refuses2 : List ℕ → Bool
+refuses2 text =
+    ltb streamBound (length (lineTokens text (layoutIn text .namesLine)))
+    || ltb constraintBound (length (constraintLines text))
+    || ltb tokenBound (tokenCount (constraintLines text))
+    || anyOf (tooDeepFrom 0 0) (constraintLines text)
 
 -- The streams that the tokens of the three header lines give.
 abbrev pub streamFrom : Token → Token → Token → Stream
@@ -66,10 +66,10 @@ sheetFrom ls [] = none
 sheetFrom ls (s ∷ ss) = andThen (constraintsOf (namesOf (s ∷ ss)) ls) (λ cs. some (record { streams = s ∷ ss; constraints = cs }))
 
 -- The sheet that the text has the form of.
-unfoldable pub formOf : Layout → List ℕ → Option Sheet
-formOf L text =
-    let read : Option Sheet = andThen (streamsFrom (lineTokens text (L .namesLine)) (lineTokens text (L .lowsLine)) (lineTokens text (L .highsLine))) (sheetFrom (constraintLines L text)) in
-    cond (leb (L .constraintsFrom) (length (lines text))) read none
+unfoldable pub formOf : List ℕ → Option Sheet
+formOf text =
+    let read : Option Sheet = andThen (streamsFrom (lineTokens text (layoutIn text .namesLine)) (lineTokens text (layoutIn text .lowsLine)) (lineTokens text (layoutIn text .highsLine))) (sheetFrom (constraintLines text)) in
+    cond (leb (layoutIn text .constraintsFrom) (length (lines text))) read none
 
 -- No token stands twice in the list.
 abbrev pub areDistinct : List Token → Bool
@@ -125,8 +125,8 @@ abbrev pub inBounds : Interval → Bool
 inBounds I = leZ (negℤ (pos magnitudeBound)) (I .low) && leZ (I .high) (pos magnitudeBound)
 
 -- "6: an expression's interval leaves ±1,000,000,000."
-unfoldable pub refuses6 : Arithmetic → Sheet → Bool
-refuses6 A s = anyOf (λ e. not (inBounds (interval A (s .streams) e))) (allExpressions (s .constraints))
+unfoldable pub refuses6 : Sheet → Bool
+refuses6 s = anyOf (λ e. not (inBounds (interval (s .streams) e))) (allExpressions (s .constraints))
 
 -- "7: letters, untils, firsts or D+B over the bound."
 unfoldable pub refuses7 : Sheet → Bool
@@ -137,13 +137,13 @@ refuses7 s =
     || ltb windowBound (D (s .constraints) + B (s .constraints))
 
 -- The answer to a text that has the form of the sheet.
-unfoldable pub answerToSheet : Arithmetic → Sheet → Answer
-answerToSheet A s = cond (refuses4 s) (refused 4) (cond (refuses5 s) (refused 5) (cond (refuses6 A s) (refused 6) (cond (refuses7 s) (refused 7) (sheet s))))
+unfoldable pub answerToSheet : Sheet → Answer
+answerToSheet s = cond (refuses4 s) (refused 4) (cond (refuses5 s) (refused 5) (cond (refuses6 s) (refused 6) (cond (refuses7 s) (refused 7) (sheet s))))
 
-abbrev pub answerToForm : Arithmetic → Option Sheet → Answer
-answerToForm A none = refused 3
-answerToForm A (some s) = answerToSheet A s
+abbrev pub answerToForm : Option Sheet → Answer
+answerToForm none = refused 3
+answerToForm (some s) = answerToSheet s
 
 -- The answer to a text.
-unfoldable pub answerTo : Arithmetic → Layout → List ℕ → Answer
-answerTo A L text = cond (refuses1 text) (refused 1) (cond (refuses2 L text) (refused 2) (answerToForm A (formOf L text)))
+unfoldable pub answerTo : List ℕ → Answer
+answerTo text = cond (refuses1 text) (refused 1) (cond (refuses2 text) (refused 2) (answerToForm (formOf text)))

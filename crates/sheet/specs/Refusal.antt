@@ -1,6 +1,6 @@
 -- Refusals 1 to 7, each a condition on the bytes that mentions no other, and the answer: the first that holds, or the sheet
 -- (document 01, "Who can bring about which refusal", "Sheet bounds").
-use Prim.Native.Nat.{ℕ, zero, suc, _+_, _<_}
+use Prim.Native.Nat.{ℕ, _+_, _<_}
 use mathlib.Core.Path.{_≡_}
 use mathlib.Core.Bool.{Bool, cond, false, _&&_, _||_}
 use mathlib.Core.List.{List, [], _∷_, List·Memᴰ}
@@ -8,15 +8,15 @@ use lib.Dec.{T, leb, eqb}
 use lib.IntN.{ℤ, pos, negℤ, natAbs}
 use lib.ListN.{length, take}
 use lib.Signed.{_≤ℤ_, _<ℤ_}
-use Rattle.text.specs.Bytes.{Token, lines, tokens}
+use Rattle.basics.specs.Count.{NoRepeats}
+use Rattle.text.specs.Bytes.{Token, tokens}
 use Rattle.text.specs.Token.{isReserved}
-use Rattle.meaning.specs.Arithmetic.{Arithmetic, Interval}
+use Rattle.meaning.specs.Arithmetic.{Interval}
 use Rattle.meaning.specs.Expression.{Expression, integer, Constraint, leftSide, rightSide, Stream, Sheet}
 use Rattle.meaning.specs.Interval.{interval, subexpressions, SidesBelow}
 use Rattle.meaning.specs.Letter.{letterCount}
 use Rattle.meaning.specs.Window.{allFirsts, allUntils, B, D}
-use Rattle.meaning.specs.Situation.{NoRepeats}
-use Rattle.sheet.specs.Form.{Layout, lineTokens, constraintLines, namesOf, HasForm}
+use Rattle.sheet.specs.Form.{lineTokens, constraintLines, namesOf, HasForm, layoutIn}
 
 -- "Sheet bounds: 16,384 bytes, 8 streams, 32 constraints. Over one sheet 1,024 tokens may stand in the constraint lines.
 -- Magnitudes to 1,000,000,000. 1,024 letters, 8 untils, 8 firsts, D+B at most 6".
@@ -70,15 +70,15 @@ occurrences c [] = 0
 occurrences c (b ∷ bs) = cond (eqb b c) 1 0 + occurrences c bs
 
 -- "2: over 8 tokens in line 1, 32 lines after line 3, 1,024 tokens in them, or, up to some place in one of them, more than 32 more `(` than `)`."
-pub data Refusal2 (L : Layout) (text : List ℕ) : Type 0 where
-  tooManyStreams : streamBound < length (lineTokens text (L .namesLine)) → Refusal2 L text
-  tooManyConstraints : constraintBound < length (constraintLines L text) → Refusal2 L text
-  tooManyTokens : tokenBound < tokenCount (constraintLines L text) → Refusal2 L text
-  tooDeep : {l : List ℕ} → List·Memᴰ l (constraintLines L text) → (place : ℕ) → bracketBound + occurrences 41 (take place l) < occurrences 40 (take place l) → Refusal2 L text
+pub data Refusal2 (text : List ℕ) : Type 0 where
+  tooManyStreams : streamBound < length (lineTokens text (layoutIn text .namesLine)) → Refusal2 text
+  tooManyConstraints : constraintBound < length (constraintLines text) → Refusal2 text
+  tooManyTokens : tokenBound < tokenCount (constraintLines text) → Refusal2 text
+  tooDeep : {l : List ℕ} → List·Memᴰ l (constraintLines text) → (place : ℕ) → bracketBound + occurrences 41 (take place l) < occurrences 40 (take place l) → Refusal2 text
 
 -- "3: not of the form above, the empty sheet included."
-pub record Refusal3 (L : Layout) (text : List ℕ) : Type 0 where
-  pub formless : (s : Sheet) → HasForm L text s → ⊥
+pub record Refusal3 (text : List ℕ) : Type 0 where
+  pub formless : (s : Sheet) → HasForm text s → ⊥
 
 -- The expression stands on a side of one of the constraints, whole or inside.
 pub data StandsIn (cs : List Constraint) (e : Expression) : Type 0 where
@@ -86,32 +86,32 @@ pub data StandsIn (cs : List Constraint) (e : Expression) : Type 0 where
   onRight : {c : Constraint} → List·Memᴰ c cs → List·Memᴰ e (subexpressions (rightSide c)) → StandsIn cs e
 
 -- "4: a name given twice, reserved, or unknown in a constraint."
-pub data Refusal4 (L : Layout) (text : List ℕ) : Type 0 where
-  givenTwice : {s : Sheet} → HasForm L text s → (NoRepeats (namesOf (s .streams)) → ⊥) → Refusal4 L text
-  reservedName : {s : Sheet} {t : Token} → HasForm L text s → List·Memᴰ t (namesOf (s .streams)) → T (isReserved t) → Refusal4 L text
-  unknownName : {s : Sheet} {c : Constraint} → HasForm L text s → List·Memᴰ c (s .constraints) → (SidesBelow (length (s .streams)) c → ⊥) → Refusal4 L text
+pub data Refusal4 (text : List ℕ) : Type 0 where
+  givenTwice : {s : Sheet} → HasForm text s → (NoRepeats (namesOf (s .streams)) → ⊥) → Refusal4 text
+  reservedName : {s : Sheet} {t : Token} → HasForm text s → List·Memᴰ t (namesOf (s .streams)) → T (isReserved t) → Refusal4 text
+  unknownName : {s : Sheet} {c : Constraint} → HasForm text s → List·Memᴰ c (s .constraints) → (SidesBelow (length (s .streams)) c → ⊥) → Refusal4 text
 
 -- "5: an integer beyond the magnitude bound, or a low above its high."
-pub data Refusal5 (L : Layout) (text : List ℕ) : Type 0 where
-  lowBeyond : {s : Sheet} {x : Stream} → HasForm L text s → List·Memᴰ x (s .streams) → magnitudeBound < natAbs (x .range .low) → Refusal5 L text
-  highBeyond : {s : Sheet} {x : Stream} → HasForm L text s → List·Memᴰ x (s .streams) → magnitudeBound < natAbs (x .range .high) → Refusal5 L text
-  integerBeyond : {s : Sheet} {z : ℤ} → HasForm L text s → StandsIn (s .constraints) (integer z) → magnitudeBound < natAbs z → Refusal5 L text
-  lowAboveHigh : {s : Sheet} {x : Stream} → HasForm L text s → List·Memᴰ x (s .streams) → x .range .high <ℤ x .range .low → Refusal5 L text
+pub data Refusal5 (text : List ℕ) : Type 0 where
+  lowBeyond : {s : Sheet} {x : Stream} → HasForm text s → List·Memᴰ x (s .streams) → magnitudeBound < natAbs (x .range .low) → Refusal5 text
+  highBeyond : {s : Sheet} {x : Stream} → HasForm text s → List·Memᴰ x (s .streams) → magnitudeBound < natAbs (x .range .high) → Refusal5 text
+  integerBeyond : {s : Sheet} {z : ℤ} → HasForm text s → StandsIn (s .constraints) (integer z) → magnitudeBound < natAbs z → Refusal5 text
+  lowAboveHigh : {s : Sheet} {x : Stream} → HasForm text s → List·Memᴰ x (s .streams) → x .range .high <ℤ x .range .low → Refusal5 text
 
 -- "6: an expression's interval leaves ±1,000,000,000."
 pub record InBounds (I : Interval) : Type 0 where
   pub above : negℤ (pos magnitudeBound) ≤ℤ I .low
   pub below : I .high ≤ℤ pos magnitudeBound
 
-pub data Refusal6 (A : Arithmetic) (L : Layout) (text : List ℕ) : Type 0 where
-  leavesBounds : {s : Sheet} {e : Expression} → HasForm L text s → StandsIn (s .constraints) e → (InBounds (interval A (s .streams) e) → ⊥) → Refusal6 A L text
+pub data Refusal6 (text : List ℕ) : Type 0 where
+  leavesBounds : {s : Sheet} {e : Expression} → HasForm text s → StandsIn (s .constraints) e → (InBounds (interval (s .streams) e) → ⊥) → Refusal6 text
 
 -- "7: letters, untils, firsts or D+B over the bound."
-pub data Refusal7 (L : Layout) (text : List ℕ) : Type 0 where
-  tooManyLetters : {s : Sheet} → HasForm L text s → letterBound < letterCount (s .streams) → Refusal7 L text
-  tooManyUntils : {s : Sheet} → HasForm L text s → untilBound < length (allUntils (s .constraints)) → Refusal7 L text
-  tooManyFirsts : {s : Sheet} → HasForm L text s → firstBound < length (allFirsts (s .constraints)) → Refusal7 L text
-  tooWide : {s : Sheet} → HasForm L text s → windowBound < D (s .constraints) + B (s .constraints) → Refusal7 L text
+pub data Refusal7 (text : List ℕ) : Type 0 where
+  tooManyLetters : {s : Sheet} → HasForm text s → letterBound < letterCount (s .streams) → Refusal7 text
+  tooManyUntils : {s : Sheet} → HasForm text s → untilBound < length (allUntils (s .constraints)) → Refusal7 text
+  tooManyFirsts : {s : Sheet} → HasForm text s → firstBound < length (allFirsts (s .constraints)) → Refusal7 text
+  tooWide : {s : Sheet} → HasForm text s → windowBound < D (s .constraints) + B (s .constraints) → Refusal7 text
 
 -- The answer to a text: a refusal's number, or the sheet.
 pub data Answer : Type 0 where
@@ -119,13 +119,13 @@ pub data Answer : Type 0 where
   sheet : Sheet → Answer
 
 -- "The lowest that applies to the whole sheet is given".
-pub data AnswerTo (A : Arithmetic) (L : Layout) (text : List ℕ) : Answer → Type 0 where
-  refused1 : Refusal1 text → AnswerTo A L text (refused 1)
-  refused2 : (Refusal1 text → ⊥) → Refusal2 L text → AnswerTo A L text (refused 2)
-  refused3 : (Refusal1 text → ⊥) → (Refusal2 L text → ⊥) → Refusal3 L text → AnswerTo A L text (refused 3)
-  refused4 : (Refusal1 text → ⊥) → (Refusal2 L text → ⊥) → (Refusal3 L text → ⊥) → Refusal4 L text → AnswerTo A L text (refused 4)
-  refused5 : (Refusal1 text → ⊥) → (Refusal2 L text → ⊥) → (Refusal3 L text → ⊥) → (Refusal4 L text → ⊥) → Refusal5 L text → AnswerTo A L text (refused 5)
-  refused6 : (Refusal1 text → ⊥) → (Refusal2 L text → ⊥) → (Refusal3 L text → ⊥) → (Refusal4 L text → ⊥) → (Refusal5 L text → ⊥) → Refusal6 A L text → AnswerTo A L text (refused 6)
-  refused7 : (Refusal1 text → ⊥) → (Refusal2 L text → ⊥) → (Refusal3 L text → ⊥) → (Refusal4 L text → ⊥) → (Refusal5 L text → ⊥) → (Refusal6 A L text → ⊥) → Refusal7 L text → AnswerTo A L text (refused 7)
-  accepted : {s : Sheet} → (Refusal1 text → ⊥) → (Refusal2 L text → ⊥) → (Refusal3 L text → ⊥) → (Refusal4 L text → ⊥) → (Refusal5 L text → ⊥) → (Refusal6 A L text → ⊥) → (Refusal7 L text → ⊥)
-      → HasForm L text s → AnswerTo A L text (sheet s)
+pub data AnswerTo (text : List ℕ) : Answer → Type 0 where
+  refused1 : Refusal1 text → AnswerTo text (refused 1)
+  refused2 : (Refusal1 text → ⊥) → Refusal2 text → AnswerTo text (refused 2)
+  refused3 : (Refusal1 text → ⊥) → (Refusal2 text → ⊥) → Refusal3 text → AnswerTo text (refused 3)
+  refused4 : (Refusal1 text → ⊥) → (Refusal2 text → ⊥) → (Refusal3 text → ⊥) → Refusal4 text → AnswerTo text (refused 4)
+  refused5 : (Refusal1 text → ⊥) → (Refusal2 text → ⊥) → (Refusal3 text → ⊥) → (Refusal4 text → ⊥) → Refusal5 text → AnswerTo text (refused 5)
+  refused6 : (Refusal1 text → ⊥) → (Refusal2 text → ⊥) → (Refusal3 text → ⊥) → (Refusal4 text → ⊥) → (Refusal5 text → ⊥) → Refusal6 text → AnswerTo text (refused 6)
+  refused7 : (Refusal1 text → ⊥) → (Refusal2 text → ⊥) → (Refusal3 text → ⊥) → (Refusal4 text → ⊥) → (Refusal5 text → ⊥) → (Refusal6 text → ⊥) → Refusal7 text → AnswerTo text (refused 7)
+  accepted : {s : Sheet} → (Refusal1 text → ⊥) → (Refusal2 text → ⊥) → (Refusal3 text → ⊥) → (Refusal4 text → ⊥) → (Refusal5 text → ⊥) → (Refusal6 text → ⊥) → (Refusal7 text → ⊥)
+      → HasForm text s → AnswerTo text (sheet s)

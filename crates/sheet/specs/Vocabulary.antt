@@ -1,6 +1,6 @@
 -- The tokens that have a meaning of their own in a constraint (document 01, "The sheet").
 use Prim.Native.Nat.{ℕ, suc}
-use mathlib.Core.Bool.{Bool, cond}
+use mathlib.Core.Bool.{cond}
 use mathlib.Core.List.{List, [], _∷_}
 use mathlib.Core.Option.{Option, some, none}
 use Rattle.text.specs.Bytes.{Token, bytesOf}
@@ -19,13 +19,13 @@ pub data Infix : Type 0 where
   pointwise : Operator → Infix
   followedBy : Infix
 
-abbrev pub joined : Infix → Expression → Expression → Expression
-joined (pointwise o) a b = binary o a b
-joined followedBy a b = fby a b
+abbrev pub infixed : Infix → Expression → Expression → Expression
+infixed (pointwise o) a b = binary o a b
+infixed followedBy a b = fby a b
 
 -- "Operators: `+ - * / % lt le eq ge gt ne and or fby`."
-unfoldable pub operators : List (Token × Infix)
-operators =
+unfoldable pub operatorTokens : List (Token × Infix)
+operatorTokens =
     (bytesOf "+", pointwise add)
     ∷ (bytesOf "-", pointwise subtract)
     ∷ (bytesOf "*", pointwise multiply)
@@ -43,7 +43,7 @@ operators =
     ∷ []
 
 unfoldable pub operatorOf : Token → Option Infix
-operatorOf t = lookUp operators t
+operatorOf t = lookUp operatorTokens t
 
 -- What stands between the two sides of a constraint.
 pub data Relation : Type 0 where
@@ -55,8 +55,8 @@ related (sign s) a b = always s a b
 related untilSign a b = until a b
 
 -- "one of `< <= == >= > != -> until`"
-unfoldable pub relations : List (Token × Relation)
-relations =
+unfoldable pub relationTokens : List (Token × Relation)
+relationTokens =
     (bytesOf "<", sign (comparison less))
     ∷ (bytesOf "<=", sign (comparison atMost))
     ∷ (bytesOf "==", sign (comparison equal))
@@ -68,7 +68,7 @@ relations =
     ∷ []
 
 unfoldable pub relationOf : Token → Option Relation
-relationOf t = lookUp relations t
+relationOf t = lookUp relationTokens t
 
 -- "`first`, `next` or `not` before a part"
 pub data Prefix : Type 0 where
@@ -79,13 +79,13 @@ prefixed firstPrefix e = first e
 prefixed nextPrefix e = next e
 prefixed notPrefix e = negation e
 
-unfoldable pub prefixes : List (Token × Prefix)
-prefixes = (bytesOf "first", firstPrefix) ∷ (bytesOf "next", nextPrefix) ∷ (bytesOf "not", notPrefix) ∷ []
+unfoldable pub prefixTokens : List (Token × Prefix)
+prefixTokens = (bytesOf "first", firstPrefix) ∷ (bytesOf "next", nextPrefix) ∷ (bytesOf "not", notPrefix) ∷ []
 
 unfoldable pub prefixOf : Token → Option Prefix
-prefixOf t = lookUp prefixes t
+prefixOf t = lookUp prefixTokens t
 
 -- The place of a name in line 1, counted from 0; as many as there are names where it is unknown.
-unfoldable pub placeOf : List Token → Token → ℕ
-placeOf [] t = 0
-placeOf (n ∷ ns) t = cond (sameBytes n t) 0 (suc (placeOf ns t))
+unfoldable pub namePlace : List Token → Token → ℕ
+namePlace [] t = 0
+namePlace (n ∷ ns) t = cond (sameBytes n t) 0 (suc (namePlace ns t))

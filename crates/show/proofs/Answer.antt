@@ -8,14 +8,12 @@ use mathlib.Core.Bool.{Bool, true, false}
 use lib.Dec.{ltb}
 use lib.IntN.{ℤ, pos, negℤ}
 use lib.ListN.{length, take, replicate, length-append, length-map, length-replicate}
-use Rattle.meaning.specs.Arithmetic.{cutTowardZero}
+use Rattle.basics.proofs.Reflects.{to-true, T-reflects}
 use Rattle.meaning.specs.Expression.{Stream, Sheet}
 use Rattle.meaning.proofs.Order.{≤ℤ-trans}
 use Rattle.meaning.specs.Letter.{letterCount}
-use Rattle.sheet.specs.Form.{threeHeaderLines}
 use Rattle.sheet.specs.Refusal.{Answer, refused, sheet, AnswerTo, magnitudeBound}
 use Rattle.text.specs.Token.{isName}
-use Rattle.text.proofs.Reflects.{to-true, T-reflects}
 use Rattle.nodes.specs.Bounds.{lowsOf, highsOf}
 use Rattle.letters.proofs.Above.{between-fits}
 use borrow.Author.Tests.{ltb-true, ltb-false}
@@ -33,7 +31,7 @@ use Rattle.outcome.proofs.Answers.{one-number, one-sheet, refused≢sheet}
 use Rattle.outcome.proofs.AcceptedCompile.{refusal-positive, accepted-compile}
 use Rattle.outcome.proofs.CompileUnique.{compile-unique}
 use Rattle.outcome.proofs.CompileTotal.{compile-total}
-use Rattle.compile.proofs.Stored.{part-held, lows-part, highs-part, sheet-slices}
+use Rattle.situations.proofs.Stored.{part-held, lows-part, highs-part, sheet-letters}
 use Rattle.pages.specs.Output.{Printout, outputText}
 use Rattle.pages.proofs.Output.{refused-text, table-text}
 use Rattle.print.specs.Text.{refusalLine}
@@ -48,7 +46,7 @@ module _ {text : List ℕ} where
   same-outcome : {s q : Sheet} {a b : CompileAnswer} {t u : Tables} → s ≡ q → CompileCall text (lentRoom (letterCount (s .streams))) a t
       → CompileCall text (lentRoom (letterCount (q .streams))) b u → (a ≡ b) × (t ≡ u)
   same-outcome {s} {q} {a} {b} {t} {u} e o p =
-      compile-unique cutTowardZero threeHeaderLines text (lentRoom (letterCount (q .streams)))
+      compile-unique text (lentRoom (letterCount (q .streams)))
       (subst (λ z. CompileCall text (lentRoom (letterCount (z .streams))) a t) e o) p
 
   pub prints-unique : {m n : ℕ} {b c : List ℕ} → Prints text m b → Prints text n c → (m ≡ n) × (b ≡ c)
@@ -73,16 +71,16 @@ pub record HasOutput (text : List ℕ) : Type 0 where
   pub prints : Prints text number bytes
 
 pub prints-total : (text : List ℕ) → HasOutput text
-prints-total text = go (answerTo cutTowardZero threeHeaderLines text) (answer-correct cutTowardZero threeHeaderLines text)
+prints-total text = go (answerTo text) (answer-correct text)
   where
-    by : {s : Sheet} {a : CompileAnswer} {t : Tables} → AnswerTo cutTowardZero threeHeaderLines text (sheet s)
+    by : {s : Sheet} {a : CompileAnswer} {t : Tables} → AnswerTo text (sheet s)
         → CompileCall text (lentRoom (letterCount (s .streams))) a t → (b : Bool) → ltb 0 (a .refusal) ≡ b → HasOutput text
     by {s} {a} r o true e = record { number = _; bytes = _; prints = notCompiled r o (ltb-true 0 (a .refusal) e) }
     by {s} {a} r o false e = record { number = _; bytes = _; prints = compiled r o (omega (arith, ltb-false 0 (a .refusal) e)) }
 
-    go : (x : Answer) → AnswerTo cutTowardZero threeHeaderLines text x → HasOutput text
+    go : (x : Answer) → AnswerTo text x → HasOutput text
     go (refused n) r = record { number = n; bytes = refusalLine n; prints = unread r }
-    go (sheet s) r = let o = compile-total cutTowardZero threeHeaderLines text (lentRoom (letterCount (s .streams))) in by r (o .outcome) (ltb 0 (o .answer .refusal)) refl
+    go (sheet s) r = let o = compile-total text (lentRoom (letterCount (s .streams))) in by r (o .outcome) (ltb 0 (o .answer .refusal)) refl
 
 -- ---- the ranges of a stored sheet
 
@@ -104,7 +102,7 @@ bound-low = record { sfits = omega arith }
 bound-high : SFits w64 (pos magnitudeBound)
 bound-high = record { sfits = omega arith }
 
-module _ {s : Sheet} (accepted : Accepted cutTowardZero s) where
+module _ {s : Sheet} (accepted : Accepted s) where
   low-fits : (x : Stream) → List·Memᴰ x (s .streams) → SFits w64 (x .range .low)
   low-fits x m =
       let i = accepted .rangesInBounds x m in
@@ -132,23 +130,23 @@ module _ {s : Sheet} (accepted : Accepted cutTowardZero s) where
 
 -- ---- what `show` gives back
 
-module _ (text : List ℕ) {reading : Reading} (read-as : reading ≡ readingOf (answerTo cutTowardZero threeHeaderLines text)) where
+module _ (text : List ℕ) {reading : Reading} (read-as : reading ≡ readingOf (answerTo text)) where
   pub read-ranges : HasRanges (reading .sheet)
-  read-ranges = subst (λ x. HasRanges (x .sheet)) (sym read-as) (go (answerTo cutTowardZero threeHeaderLines text) (answer-correct cutTowardZero threeHeaderLines text))
+  read-ranges = subst (λ x. HasRanges (x .sheet)) (sym read-as) (go (answerTo text) (answer-correct text))
     where
-      go : (x : Answer) → AnswerTo cutTowardZero threeHeaderLines text x → HasRanges (readingOf x .sheet)
+      go : (x : Answer) → AnswerTo text x → HasRanges (readingOf x .sheet)
       go (refused n) r = record { lowCount = refl; highCount = refl; lows = fit-zeros 8; highs = fit-zeros 8 }
       go (sheet s) r = stored-ranges (accepted-facts r)
 
   -- The stored sheet is that of the sheet which the text is.
-  stored-is : {s : Sheet} → AnswerTo cutTowardZero threeHeaderLines text (sheet s) → reading .sheet ≡ storedSheet s
-  stored-is {s} r = ap (λ x. x .sheet) (read-as ∙ ap readingOf (answer-unique (answer-correct cutTowardZero threeHeaderLines text) r))
+  stored-is : {s : Sheet} → AnswerTo text (sheet s) → reading .sheet ≡ storedSheet s
+  stored-is {s} r = ap (λ x. x .sheet) (read-as ∙ ap readingOf (answer-unique (answer-correct text) r))
 
   abbrev shownAs : CompileAnswer → Tables → Printout
   shownAs a t = printoutOf (reading .sheet) (a .refusal) (a .states) (t .entries) (t .finals)
 
   -- The text of a table is that of the sheet's streams.
-  table-bytes : {s : Sheet} (a : CompileAnswer) (t : Tables) → AnswerTo cutTowardZero threeHeaderLines text (sheet s) → a .refusal ≡ 0 → a .states * letterCount (s .streams) ≤ length (t .entries)
+  table-bytes : {s : Sheet} (a : CompileAnswer) (t : Tables) → AnswerTo text (sheet s) → a .refusal ≡ 0 → a .states * letterCount (s .streams) ≤ length (t .entries)
       → outputText (shownAs a t) ≡ printed (s .streams) (a .states) (t .entries) (t .finals)
   unfolding storedSheet
   table-bytes {s} a t x z fits =
@@ -159,7 +157,7 @@ module _ (text : List ℕ) {reading : Reading} (read-as : reading ≡ readingOf 
       table-text (shownAs a t) z few (f .letters) (short-names f) (replicate (64 - length (nameBytes (s .streams))) 0) (replicate (8 - length (nameLengths (s .streams))) 0)
       (ap (λ y. y .names) same) (ap (λ y. y .lengths) same) (ap (λ n. take n (reading .sheet .lows)) k ∙ part-held (lows-part s same)) (ap (λ n. take n (reading .sheet .highs)) k ∙ part-held (highs-part s same)) fits
 
-  sheet-prints : {s : Sheet} {a : CompileAnswer} {t : Tables} → AnswerTo cutTowardZero threeHeaderLines text (sheet s) → CompileCall text (lentRoom (letterCount (s .streams))) a t
+  sheet-prints : {s : Sheet} {a : CompileAnswer} {t : Tables} → AnswerTo text (sheet s) → CompileCall text (lentRoom (letterCount (s .streams))) a t
       → (b : Bool) → ltb 0 (a .refusal) ≡ b → Prints text (a .refusal) (outputText (shownAs a t))
   sheet-prints {s} {a} {t} x o true e =
       let h = ltb-true 0 (a .refusal) e in subst (Prints text (a .refusal)) (sym (refused-text (shownAs a t) (λ z. omega arith))) (notCompiled x o h)
@@ -173,7 +171,7 @@ module _ (text : List ℕ) {reading : Reading} (read-as : reading ≡ readingOf 
   pub call-prints : {a : CompileAnswer} {t : Tables} → CompileCall text (lentRoom (reading .sheet .letters)) a t → Prints text (a .refusal) (outputText (shownAs a t))
   call-prints {a} {t} (textUnread x) = let h = refusal-positive x in subst (Prints text (a .refusal)) (sym (refused-text (shownAs a t) (λ z. omega arith))) (unread x)
   call-prints {a} {t} (read x o) =
-      sheet-prints x (subst (λ k. CompileCall text (lentRoom k) a t) (sheet-slices _ (stored-is x) .sameLetters) (read x o)) (ltb 0 (a .refusal)) refl
+      sheet-prints x (subst (λ k. CompileCall text (lentRoom k) a t) (sheet-letters _ (stored-is x)) (read x o)) (ltb 0 (a .refusal)) refl
 
   pub shown-of : {r : Printed} → CompiledWith text (lentRoom (reading .sheet .letters)) (reading .sheet) r → Shown text r
   shown-of {r} c =

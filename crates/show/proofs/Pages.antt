@@ -5,9 +5,9 @@ use mathlib.Core.List.{List, [], _∷_}
 use lib.Dec.{eqb}
 use lib.IntN.{ℤ}
 use lib.ListN.{length, getD, take}
+use Rattle.basics.proofs.Tests.{cond-cases}
 use Rattle.reader.specs.declared.Sheet.{Sheet as StoredSheet}
 use Rattle.meaning.specs.Letter.{letterCount}
-use Rattle.meaning.proofs.Lists.{cond-cases}
 use Rattle.letters.specs.Described.{described, cutCount}
 use Rattle.print.specs.Table.{AllFit}
 use Rattle.pages.specs.Lines.{lineRoom}

@@ -5,13 +5,11 @@ use mathlib.Core.Path.{_≡_}
 use mathlib.Core.Bool.{true, false}
 use mathlib.Core.List.{List, [], _∷_}
 use lib.ListN.{length, take}
-use Rattle.meaning.specs.Arithmetic.{cutTowardZero}
 use Rattle.meaning.specs.Expression.{Sheet}
 use Rattle.meaning.specs.Letter.{letterCount}
-use Rattle.sheet.specs.Form.{threeHeaderLines}
 use Rattle.sheet.specs.Refusal.{refused, sheet, AnswerTo}
 use Rattle.reader.specs.declared.Sheet.{Sheet as StoredSheet}
-use Rattle.outcome.specs.Room.{Lent}
+use Rattle.outcome.specs.Room.{LentTable}
 use Rattle.outcome.specs.Compile.{CompileAnswer, Room, Tables, CompileCall}
 use Rattle.print.specs.Text.{refusalLine}
 use Rattle.print.specs.Table.{printed, rowsLent, AllFit}
@@ -23,7 +21,7 @@ use Rattle.show.specs.declared.Printed.{Printed}
 abbrev pub lentRoom : ℕ → Room
 lentRoom letters =
     let rows = rowsLent letters in
-    let one : Lent = record { perRow = 1; size = rows } in
+    let one : LentTable = record { perRow = 1; size = rows } in
     record {
       entries = rows * letters;
       finals = rows;
@@ -33,12 +31,12 @@ lentRoom letters =
 -- What `sluice` prints for a text, with the number of the refusal that it prints, or 0.
 pub data Prints (text : List ℕ) : ℕ → List ℕ → Type 0 where
   -- a refusal 1 to 7
-  unread : {n : ℕ} → AnswerTo cutTowardZero threeHeaderLines text (refused n) → Prints text n (refusalLine n)
+  unread : {n : ℕ} → AnswerTo text (refused n) → Prints text n (refusalLine n)
   -- "printed as the one line `refused 9`", in the rows lent
-  notCompiled : {s : Sheet} {a : CompileAnswer} {t : Tables} → AnswerTo cutTowardZero threeHeaderLines text (sheet s)
+  notCompiled : {s : Sheet} {a : CompileAnswer} {t : Tables} → AnswerTo text (sheet s)
       → CompileCall text (lentRoom (letterCount (s .streams))) a t → 0 < a .refusal → Prints text (a .refusal) (refusalLine (a .refusal))
   -- "a heading with the names, then a line for each entry that is not 65,535, by state and letter"
-  compiled : {s : Sheet} {a : CompileAnswer} {t : Tables} → AnswerTo cutTowardZero threeHeaderLines text (sheet s)
+  compiled : {s : Sheet} {a : CompileAnswer} {t : Tables} → AnswerTo text (sheet s)
       → CompileCall text (lentRoom (letterCount (s .streams))) a t → a .refusal ≡ 0
       → Prints text (a .refusal) (printed (s .streams) (a .states) (t .entries) (t .finals))
 

@@ -1,10 +1,9 @@
 // Prints what `sluice` prints for a sheet: its table, or the line of its refusal. The crate `pages` gives the bytes; what is left here is the loop
 // that writes them. No contract can say what reaches standard output, so the loop counts the bytes that it hands over.
-use arithmetic::fewer;
+use basics::fewer;
 ghost use mathlib.Core.Path.{_≡_};
 ghost use Prim.Native.Nat.{_*_, _≤_};
 ghost use lib.ListN.{length};
-ghost use Rattle.compile.specs.Lent.{roomOf};
 ghost use Rattle.pages.specs.Lines.{IsPage};
 ghost use Rattle.pages.specs.Output.{outputAt, placesOf};
 ghost use Rattle.show.specs.Answer.{HasRanges, lentRoom, printoutOf, PrintsAll, CompiledWith, Shown};
@@ -86,83 +85,6 @@ fn write_pages(
     }
 }
 
-// Compiles a sheet in lent tables, and prints its table or its refusal.
-fn show_compiled(
-    text: &[u8],
-    sheet: reader::Sheet,
-    entries: &mut [u16],
-    finals: &mut [u8],
-    keys: &mut [u32],
-    live: &mut [u32],
-    class: &mut [u32],
-    next: &mut [u32],
-    heads: &mut [u32],
-    links: &mut [u32],
-    shared: &mut [u32],
-) -> Printed
-    requires { ⌜ HasRanges sheet × (length (now entries) ≤ 32768) ⌝ }
-    ensures { λ r. ⌜ CompiledWith (now (text .entry)) (roomOf (now (entries .entry)) (now (finals .entry)) (now (keys .entry)) (now (live .entry)) (now (class .entry)) (now (next .entry)) (now (heads .entry)) (now (links .entry)) (now (shared .entry))) sheet r ⌝ }
-{
-    let compiled = compile::compile(
-        text,
-        entries,
-        finals,
-        keys,
-        live,
-        class,
-        next,
-        heads,
-        links,
-        shared,
-    );
-    write_pages(sheet, compiled.refusal, compiled.states, entries, finals)
-}
-
-// "256 rows, or 32,768 divided by the letters, cut to a whole number, if that is fewer", of tables that have as much room.
-fn show_in_rows(
-    text: &[u8],
-    sheet: reader::Sheet,
-    entries: &mut [u16],
-    finals: &mut [u8],
-    keys: &mut [u32],
-    live: &mut [u32],
-    class: &mut [u32],
-    next: &mut [u32],
-    heads: &mut [u32],
-    links: &mut [u32],
-    shared: &mut [u32],
-) -> Printed
-    requires { ⌜ 32768 ≤ length (now entries) ⌝ }
-    requires { ⌜ 256 ≤ length (now finals) ⌝ }
-    requires { ⌜ 4096 ≤ length (now keys) ⌝ }
-    requires { ⌜ 256 ≤ length (now live) ⌝ }
-    requires { ⌜ 256 ≤ length (now class) ⌝ }
-    requires { ⌜ 256 ≤ length (now next) ⌝ }
-    requires { ⌜ 256 ≤ length (now heads) ⌝ }
-    requires { ⌜ 256 ≤ length (now links) ⌝ }
-    requires { ⌜ 256 ≤ length (now shared) ⌝ }
-    requires { ⌜ HasRanges sheet ⌝ }
-    ensures { λ r. ⌜ CompiledWith (now (text .entry)) (lentRoom (sheet .letters)) sheet r ⌝ }
-{
-    let letters = sheet.letters as usize;
-    let rows = print::rows_lent(letters);
-    let room = rows * letters;
-    let key_room = rows * 16;
-    show_compiled(
-        text,
-        sheet,
-        &mut entries[..room],
-        &mut finals[..rows],
-        &mut keys[..key_room],
-        &mut live[..rows],
-        &mut class[..rows],
-        &mut next[..rows],
-        &mut heads[..rows],
-        &mut links[..rows],
-        &mut shared[..rows],
-    )
-}
-
 // Room for the entries, the final bytes, the keys with 16 numbers a row, and a work table with one.
 fn entry_room() -> [u16; 32768]
     ensures { λ r. ⌜ 32768 ≡ length r ⌝ }
@@ -188,10 +110,15 @@ fn work_room() -> [u32; 256]
     [0; 256]
 }
 
+// Compiles the text in "256 rows, or 32,768 divided by the letters, cut to a whole number, if that is fewer", and prints the table or the refusal.
 fn show_sheet(text: &[u8], sheet: reader::Sheet) -> Printed
     requires { ⌜ HasRanges sheet ⌝ }
     ensures { λ r. ⌜ CompiledWith (now (text .entry)) (lentRoom (sheet .letters)) sheet r ⌝ }
 {
+    let letters = sheet.letters as usize;
+    let rows = print::rows_lent(letters);
+    let room = rows * letters;
+    let key_size = rows * 16;
     let mut entries = entry_room();
     let mut finals = final_room();
     let mut keys = key_room();
@@ -201,18 +128,24 @@ fn show_sheet(text: &[u8], sheet: reader::Sheet) -> Printed
     let mut heads = work_room();
     let mut links = work_room();
     let mut shared = work_room();
-    show_in_rows(
+    let compiled = compile::compile(
         text,
+        &mut entries[..room],
+        &mut finals[..rows],
+        &mut keys[..key_size],
+        &mut live[..rows],
+        &mut class[..rows],
+        &mut next[..rows],
+        &mut heads[..rows],
+        &mut links[..rows],
+        &mut shared[..rows],
+    );
+    write_pages(
         sheet,
-        &mut entries,
-        &mut finals,
-        &mut keys,
-        &mut live,
-        &mut class,
-        &mut next,
-        &mut heads,
-        &mut links,
-        &mut shared,
+        compiled.refusal,
+        compiled.states,
+        &entries[..room],
+        &finals[..rows],
     )
 }
 

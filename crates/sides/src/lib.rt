@@ -1,13 +1,12 @@
 // The sides of one constraint, judged at one time.
 use arithmetic::at_most;
 use arithmetic::less;
+use arithmetic::nonzero;
 use arithmetic::same;
-use arithmetic::truth;
 use evaluate::evaluate;
 ghost use mathlib.Core.Path.{_≡_};
 ghost use mathlib.Core.Bool.{_||_};
 ghost use Rattle.meaning.specs.Value.{truth};
-ghost use Rattle.meaning.specs.Arithmetic.{cutTowardZero};
 ghost use Rattle.meaning.specs.Expression.{holds, implies};
 ghost use Rattle.nodes.specs.Code.{signAt};
 ghost use Rattle.nodes.specs.Evaluate.{stored, view, nodeValue};
@@ -16,7 +15,7 @@ ghost use Rattle.sides.specs.Mark.{odd};
 fn implied(a: i64, b: i64) -> bool
     ensures { λ r. ⌜ r ≡ holds implies a b ⌝ }
 {
-    if truth(a) { truth(b) } else { true }
+    if nonzero(a) { nonzero(b) } else { true }
 }
 
 // What a sign asks at one time, by its number.
@@ -24,12 +23,12 @@ fn sign_holds(relation: u8, a: i64, b: i64) -> bool
     ensures { λ r. ⌜ r ≡ holds (signAt relation) a b ⌝ }
 {
     match relation {
-        0 => less(a, b),
-        1 => at_most(a, b),
-        2 => same(a, b),
-        3 => at_most(b, a),
-        4 => less(b, a),
-        5 => !same(a, b),
+        nodes::LESS_RELATION => less(a, b),
+        nodes::AT_MOST_RELATION => at_most(a, b),
+        nodes::EQUAL_RELATION => same(a, b),
+        nodes::AT_LEAST_RELATION => at_most(b, a),
+        nodes::GREATER_RELATION => less(b, a),
+        nodes::DIFFERENT_RELATION => !same(a, b),
         _ => implied(a, b),
     }
 }
@@ -46,7 +45,7 @@ pub fn value_of(
     place: usize,
     whole: bool,
 ) -> i64
-    ensures { λ r. ⌜ r ≡ nodeValue cutTowardZero (stored (now (kinds .entry)) (now (values .entry)) (now (starts .entry))) (view (now (window .entry)) streams (now (firsts .entry)) whole) root place .value ⌝ }
+    ensures { λ r. ⌜ r ≡ nodeValue (stored (now (kinds .entry)) (now (values .entry)) (now (starts .entry))) (view (now (window .entry)) streams (now (firsts .entry)) whole) root place .value ⌝ }
 {
     let found = evaluate(
         kinds,
@@ -75,7 +74,7 @@ pub fn is_done(
     whole: bool,
     marks: u32,
 ) -> bool
-    ensures { λ r. ⌜ r ≡ (odd marks || truth (nodeValue cutTowardZero (stored (now (kinds .entry)) (now (values .entry)) (now (starts .entry))) (view (now (window .entry)) streams (now (firsts .entry)) whole) right place .value)) ⌝ }
+    ensures { λ r. ⌜ r ≡ (odd marks || truth (nodeValue (stored (now (kinds .entry)) (now (values .entry)) (now (starts .entry))) (view (now (window .entry)) streams (now (firsts .entry)) whole) right place .value)) ⌝ }
 {
     if marks % 2 == 1 {
         return true;
@@ -107,12 +106,12 @@ pub fn is_permitted(
     whole: bool,
     done: bool,
 ) -> bool
-    ensures { λ r. ⌜ r ≡ (done || truth (nodeValue cutTowardZero (stored (now (kinds .entry)) (now (values .entry)) (now (starts .entry))) (view (now (window .entry)) streams (now (firsts .entry)) whole) left place .value)) ⌝ }
+    ensures { λ r. ⌜ r ≡ (done || truth (nodeValue (stored (now (kinds .entry)) (now (values .entry)) (now (starts .entry))) (view (now (window .entry)) streams (now (firsts .entry)) whole) left place .value)) ⌝ }
 {
     if done {
         return true;
     }
-    truth(value_of(
+    nonzero(value_of(
         kinds,
         values,
         starts,
@@ -139,7 +138,7 @@ pub fn sides_hold(
     place: usize,
     whole: bool,
 ) -> bool
-    ensures { λ r. ⌜ r ≡ holds (signAt relation) (nodeValue cutTowardZero (stored (now (kinds .entry)) (now (values .entry)) (now (starts .entry))) (view (now (window .entry)) streams (now (firsts .entry)) whole) left place .value) (nodeValue cutTowardZero (stored (now (kinds .entry)) (now (values .entry)) (now (starts .entry))) (view (now (window .entry)) streams (now (firsts .entry)) whole) right place .value) ⌝ }
+    ensures { λ r. ⌜ r ≡ holds (signAt relation) (nodeValue (stored (now (kinds .entry)) (now (values .entry)) (now (starts .entry))) (view (now (window .entry)) streams (now (firsts .entry)) whole) left place .value) (nodeValue (stored (now (kinds .entry)) (now (values .entry)) (now (starts .entry))) (view (now (window .entry)) streams (now (firsts .entry)) whole) right place .value) ⌝ }
 {
     let a = value_of(
         kinds,

@@ -1,23 +1,6 @@
 // Reads sheets from standard input and prints what `sluice` prints for each. The enumerator wrote the input and what is expected: a number of
 // four bytes, low first, and then as many bytes of a sheet, sheet after sheet.
-ghost use Prim.Native.Nat.{_<_, _≤_};
-ghost use lib.ListN.{length};
 use libc::STDIN_FILENO;
-
-fn wide(b: u8) -> u32
-    ensures { λ r. ⌜ r < 256 ⌝ }
-{
-    b as u32
-}
-
-// The number that the first four bytes write.
-fn number(all: &[u8]) -> u32
-    requires { ⌜ 4 ≤ length (now all) ⌝ }
-{
-    let low = wide(all[0]) + wide(all[1]) * 256;
-    let high = wide(all[2]) + wide(all[3]) * 256;
-    low + high * 65536
-}
 
 // One sheet; whether there was one.
 fn one(space: &mut [u8]) -> bool {
@@ -28,7 +11,7 @@ fn one(space: &mut [u8]) -> bool {
     if n < 4 {
         return false;
     }
-    let size = number(space) as usize;
+    let size = cases::number(space, 0) as usize;
     if space.len() < size {
         return false;
     }

@@ -11,34 +11,34 @@ use Rattle.text.specs.Token.{sameBytes}
 use Rattle.meaning.specs.Value.{Comparison, less, atMost, equal, atLeast, greater, different}
 use Rattle.meaning.specs.Arithmetic.{add, subtract, multiply, divide, remainder, compare, and, or}
 use Rattle.nodes.specs.Code.{comparisonCode}
-use Rattle.sheet.specs.Vocabulary.{Infix, pointwise, followedBy, operators, operatorOf, Prefix, firstPrefix, nextPrefix, notPrefix, prefixOf}
+use Rattle.sheet.specs.Vocabulary.{Infix, pointwise, followedBy, operatorTokens, operatorOf, Prefix, firstPrefix, nextPrefix, notPrefix, prefixOf}
 use Rattle.scan.specs.declared.Span.{Span}
 use Rattle.scan.specs.Place.{TokenAt, noToken, aToken}
 use Rattle.scan.specs.Word.{codeOr255, infixCode, prefixCode}
 use Rattle.scan.proofs.Tokens.{between-none}
 use Rattle.scan.proofs.Words.{code-none, code-some}
 use Rattle.spans.specs.Token.{span, tokenFrom}
-use Rattle.spans.specs.Spans.{Spanned, spanned, closed, wordOf, branchesBy, afterPart, expressionBy, partTo, constraintFrom}
-use Rattle.spans.specs.Stored.{spanBound, putSpans, PlaceIn, Stores}
+use Rattle.spans.specs.Spans.{Spanned, spanned, closed, tokenIn, branchesBy, afterPart, expressionBy, partTo, constraintFrom}
+use Rattle.spans.specs.Stored.{spanBound, putSpans, PlaceIn, StoresSpans}
 use Rattle.spans.specs.declared.Reached.{Reached}
 use Rattle.spans.proofs.Token.{token-from, token-is, token-ordered}
 use Rattle.spans.proofs.Tables.{put-append}
 use Rattle.spans.proofs.Steps.{step-none, step-prefix, step-bracket, step-leaf, step-conditional, step-operation, step-alone, step-joined, step-branches}
 
 -- What a function reached stands no earlier than what it began with.
-pub reached-on : {S : ℕ → Spanned} {text : List ℕ} {at count : ℕ} {old new : List ℕ} {r : Reached} → Stores S text at count old new r → at ≤ length text → at ≤ r .next
+pub reached-on : {S : ℕ → Spanned} {text : List ℕ} {at count : ℕ} {old new : List ℕ} {r : Reached} → StoresSpans S text at count old new r → at ≤ length text → at ≤ r .next
 reached-on {text = text} {at = at} h l = let o = token-ordered l (token-from text at l) in omega (arith, h .past, o .forward, o .ordered)
 
 -- A token that is a word stands behind the place from which it was sought.
-pub word-after : {text : List ℕ} {at : ℕ} {t : Span} → TokenAt text at t → (wordOf text t ≡ [] → ⊥) → at < t .end
-word-after {text} {t = t} (noToken s e m) n = absurd (n (ap (λ k. wordOf text (span k (t .end))) (s ∙ sym e) ∙ between-none text (t .end)))
+pub word-after : {text : List ℕ} {at : ℕ} {t : Span} → TokenAt text at t → (tokenIn text t ≡ [] → ⊥) → at < t .end
+word-after {text} {t = t} (noToken s e m) n = absurd (n (ap (λ k. tokenIn text (span k (t .end))) (s ∙ sym e) ∙ between-none text (t .end)))
 word-after (aToken f s w all) n = omega arith
 
 if-some : {w : Token} → sameBytes (bytesOf "if") w ≡ true → w ≡ [] → ⊥
 if-some {w} h e = true≢false (sym h ∙ ap (sameBytes (bytesOf "if")) e)
 
 operator-some : {w : Token} {o : Infix} → operatorOf w ≡ some o → w ≡ [] → ⊥
-unfolding operatorOf operators
+unfolding operatorOf operatorTokens
 operator-some {w} {o} h e = Option·none-ne-some o (sym (ap operatorOf e) ∙ h)
 
 module _ {text : List ℕ} {at count : ℕ} (place : PlaceIn text at count) {t : Span} (token : TokenAt text at t) where
@@ -55,7 +55,7 @@ module _ {text : List ℕ} {at count : ℕ} (place : PlaceIn text at count) {t :
 
   -- ---- parts
 
-  pub part-none : (old : List ℕ) → t .start ≡ t .end → Stores (λ d. partTo text d at) text at count old old (record { next = t .end; count = count })
+  pub part-none : (old : List ℕ) → t .start ≡ t .end → StoresSpans (λ d. partTo text d at) text at count old old (record { next = t .end; count = count })
   part-none old h =
       let o = token-ordered (place .inside) token in
       record {
@@ -69,8 +69,8 @@ module _ {text : List ℕ} {at count : ℕ} (place : PlaceIn text at count) {t :
       }
 
   module _ (stands : t .start ≡ t .end → ⊥) where
-    pub part-prefix : {f : Prefix} {old mid new : List ℕ} {r : Reached} → prefixOf (wordOf text t) ≡ some f → Stores (λ d. partTo text d (t .end)) text (t .end) count old mid r → (r .count < spanBound → new ≡ putSpans mid (r .count) (span (t .start) (r .next) ∷ []))
-        → Stores (λ d. partTo text d at) text at count old new (record { next = r .next; count = r .count + 1 })
+    pub part-prefix : {f : Prefix} {old mid new : List ℕ} {r : Reached} → prefixOf (tokenIn text t) ≡ some f → StoresSpans (λ d. partTo text d (t .end)) text (t .end) count old mid r → (r .count < spanBound → new ≡ putSpans mid (r .count) (span (t .start) (r .next) ∷ []))
+        → StoresSpans (λ d. partTo text d at) text at count old new (record { next = r .next; count = r .count + 1 })
     part-prefix {old = old} {r = r} e h q =
         let o = token-ordered (place .inside) token in
         let k : t .end ≤ r .next = reached-on h (o .within) in
@@ -84,9 +84,9 @@ module _ {text : List ℕ} {at count : ℕ} (place : PlaceIn text at count) {t :
           few = omega (arith, h .few, o .forward, o .ordered);
         }
 
-    module _ (e : prefixOf (wordOf text t) ≡ none) where
-      pub part-bracket : {u : Span} {old new : List ℕ} {r : Reached} → sameBytes (bytesOf "(") (wordOf text t) ≡ true → Stores (λ d. expressionBy text (partTo text d) (t .end)) text (t .end) count old new r → TokenAt text (r .next) u
-          → Stores (λ d. partTo text d at) text at count old new (record { next = u .end; count = r .count })
+    module _ (e : prefixOf (tokenIn text t) ≡ none) where
+      pub part-bracket : {u : Span} {old new : List ℕ} {r : Reached} → sameBytes (bytesOf "(") (tokenIn text t) ≡ true → StoresSpans (λ d. expressionBy text (partTo text d) (t .end)) text (t .end) count old new r → TokenAt text (r .next) u
+          → StoresSpans (λ d. partTo text d at) text at count old new (record { next = u .end; count = r .count })
       part-bracket {u} {r = r} b h close =
           let o = token-ordered (place .inside) token in
           let v = token-ordered (h .within) close in
@@ -103,7 +103,7 @@ module _ {text : List ℕ} {at count : ℕ} (place : PlaceIn text at count) {t :
             few = omega (arith, h .few, o .forward, o .ordered, v .forward, v .ordered);
           }
 
-      pub part-leaf : {old new : List ℕ} → sameBytes (bytesOf "(") (wordOf text t) ≡ false → (count < spanBound → new ≡ putSpans old count (span (t .start) (t .end) ∷ [])) → Stores (λ d. partTo text d at) text at count old new (record { next = t .end; count = count + 1 })
+      pub part-leaf : {old new : List ℕ} → sameBytes (bytesOf "(") (tokenIn text t) ≡ false → (count < spanBound → new ≡ putSpans old count (span (t .start) (t .end) ∷ [])) → StoresSpans (λ d. partTo text d at) text at count old new (record { next = t .end; count = count + 1 })
       part-leaf b q =
           let o = token-ordered (place .inside) token in
           record {
@@ -118,8 +118,8 @@ module _ {text : List ℕ} {at count : ℕ} (place : PlaceIn text at count) {t :
 
   -- ---- expressions
 
-  pub expression-conditional : {old mid new : List ℕ} {r : Reached} → sameBytes (bytesOf "if") (wordOf text t) ≡ true → Stores (λ d. branchesBy text (partTo text d) (t .end)) text (t .end) count old mid r → (r .count < spanBound → new ≡ putSpans mid (r .count) (span (t .start) (r .next) ∷ []))
-      → Stores (λ d. expressionBy text (partTo text d) at) text at count old new (record { next = r .next; count = r .count + 1 })
+  pub expression-conditional : {old mid new : List ℕ} {r : Reached} → sameBytes (bytesOf "if") (tokenIn text t) ≡ true → StoresSpans (λ d. branchesBy text (partTo text d) (t .end)) text (t .end) count old mid r → (r .count < spanBound → new ≡ putSpans mid (r .count) (span (t .start) (r .next) ∷ []))
+      → StoresSpans (λ d. expressionBy text (partTo text d) at) text at count old new (record { next = r .next; count = r .count + 1 })
   expression-conditional {old} {r = r} e h q =
       let o = token-ordered (place .inside) token in
       let k : t .end ≤ r .next = reached-on h (o .within) in
@@ -134,11 +134,11 @@ module _ {text : List ℕ} {at count : ℕ} (place : PlaceIn text at count) {t :
         few = omega (arith, h .few);
       }
 
-  module _ (e : sameBytes (bytesOf "if") (wordOf text t) ≡ false) {old mid : List ℕ} {r : Reached} (h : Stores (λ d. partTo text d at) text at count old mid r) {u : Span} (sign : TokenAt text (r .next) u) where
+  module _ (e : sameBytes (bytesOf "if") (tokenIn text t) ≡ false) {old mid : List ℕ} {r : Reached} (h : StoresSpans (λ d. partTo text d at) text at count old mid r) {u : Span} (sign : TokenAt text (r .next) u) where
     left-given : (d : ℕ) → length text < at + d → expressionBy text (partTo text d) at ≡ afterPart text (partTo text d) (t .start) (spanned (h .spans) (r .next))
     left-given d l = step-operation text at is (partTo text d) e ∙ ap (afterPart text (partTo text d) (t .start)) (h .gives d l)
 
-    pub expression-alone : operatorOf (wordOf text u) ≡ none → Stores (λ d. expressionBy text (partTo text d) at) text at count old mid r
+    pub expression-alone : operatorOf (tokenIn text u) ≡ none → StoresSpans (λ d. expressionBy text (partTo text d) at) text at count old mid r
     expression-alone n =
         record {
           spans = h .spans;
@@ -150,8 +150,8 @@ module _ {text : List ℕ} {at count : ℕ} (place : PlaceIn text at count) {t :
           few = h .few;
         }
 
-    pub expression-operation : {f : Infix} {late new : List ℕ} {b : Reached} → operatorOf (wordOf text u) ≡ some f → Stores (λ d. partTo text d (u .end)) text (u .end) (r .count) mid late b → (b .count < spanBound → new ≡ putSpans late (b .count) (span (t .start) (b .next) ∷ []))
-        → Stores (λ d. expressionBy text (partTo text d) at) text at count old new (record { next = b .next; count = b .count + 1 })
+    pub expression-operation : {f : Infix} {late new : List ℕ} {b : Reached} → operatorOf (tokenIn text u) ≡ some f → StoresSpans (λ d. partTo text d (u .end)) text (u .end) (r .count) mid late b → (b .count < spanBound → new ≡ putSpans late (b .count) (span (t .start) (b .next) ∷ []))
+        → StoresSpans (λ d. expressionBy text (partTo text d) at) text at count old new (record { next = b .next; count = b .count + 1 })
     expression-operation {b = b} f k q =
         let v = token-ordered (h .within) sign in
         let further : r .next < u .end = word-after sign (operator-some f) in
@@ -172,7 +172,7 @@ module _ {text : List ℕ} {at count : ℕ} (place : PlaceIn text at count) {t :
         }
 
 -- What is behind the word after a phrase stands at a place of the text, with room for its spans.
-pub behind-word : {S : ℕ → Spanned} {text : List ℕ} {at count : ℕ} {old mid : List ℕ} {a : Reached} {u : Span} → PlaceIn text at count → Stores S text at count old mid a → TokenAt text (a .next) u → PlaceIn text (u .end) (a .count)
+pub behind-word : {S : ℕ → Spanned} {text : List ℕ} {at count : ℕ} {old mid : List ℕ} {a : Reached} {u : Span} → PlaceIn text at count → StoresSpans S text at count old mid a → TokenAt text (a .next) u → PlaceIn text (u .end) (a .count)
 behind-word place h sign =
     let v = token-ordered (h .within) sign in
     record { short = place .short; inside = v .within; few = omega (arith, place .few, h .few, v .forward, v .ordered) }
@@ -183,9 +183,9 @@ place-behind p token = let o = token-ordered (p .inside) token in record { short
 -- ---- the parts after `if`, and the sides of a constraint
 
 module _ {text : List ℕ} {at count : ℕ} (place : PlaceIn text at count) {S T : ℕ → Spanned} {old mid new : List ℕ} {a b : Reached} {u : Span}
-    (h : Stores S text at count old mid a) (sign : TokenAt text (a .next) u) (k : Stores T text (u .end) (a .count) mid new b) where
+    (h : StoresSpans S text at count old mid a) (sign : TokenAt text (a .next) u) (k : StoresSpans T text (u .end) (a .count) mid new b) where
   -- Two phrases with a word between them.
-  pub both : (R : ℕ → Spanned) → ((d : ℕ) → length text < at + d → R d ≡ spanned (h .spans ++ k .spans) (b .next)) → Stores R text at count old new b
+  pub both : (R : ℕ → Spanned) → ((d : ℕ) → length text < at + d → R d ≡ spanned (h .spans ++ k .spans) (b .next)) → StoresSpans R text at count old new b
   both R gives =
       let v = token-ordered (h .within) sign in
       let on : u .end ≤ b .next = reached-on k (v .within) in
@@ -200,9 +200,9 @@ module _ {text : List ℕ} {at count : ℕ} (place : PlaceIn text at count) {S T
       }
 
 -- The parts after `if`.
-pub branches-found : {text : List ℕ} {at count : ℕ} {old mid late new : List ℕ} {x y z : Reached} {u v : Span} → PlaceIn text at count → Stores (λ d. partTo text d at) text at count old mid x → TokenAt text (x .next) u
-    → Stores (λ d. partTo text d (u .end)) text (u .end) (x .count) mid late y → TokenAt text (y .next) v → Stores (λ d. partTo text d (v .end)) text (v .end) (y .count) late new z
-    → Stores (λ d. branchesBy text (partTo text d) at) text at count old new z
+pub branches-found : {text : List ℕ} {at count : ℕ} {old mid late new : List ℕ} {x y z : Reached} {u v : Span} → PlaceIn text at count → StoresSpans (λ d. partTo text d at) text at count old mid x → TokenAt text (x .next) u
+    → StoresSpans (λ d. partTo text d (u .end)) text (u .end) (x .count) mid late y → TokenAt text (y .next) v → StoresSpans (λ d. partTo text d (v .end)) text (v .end) (y .count) late new z
+    → StoresSpans (λ d. branchesBy text (partTo text d) at) text at count old new z
 unfolding both
 branches-found {text} {at} {z = z} {u} {v} place c then a other b =
     let o = token-ordered (c .within) then in
@@ -215,8 +215,8 @@ branches-found {text} {at} {z = z} {u} {v} place c then a other b =
     (ap (λ (t : Span). partTo text d (t .end)) (token-is text (a .within) other) ∙ b .gives d (omega arith)))
 
 -- The two sides of a constraint.
-pub constraint-found : {text : List ℕ} {at count : ℕ} {old mid new : List ℕ} {x y : Reached} {u : Span} → PlaceIn text at count → Stores (λ d. expressionBy text (partTo text d) at) text at count old mid x → TokenAt text (x .next) u
-    → Stores (λ d. expressionBy text (partTo text d) (u .end)) text (u .end) (x .count) mid new y → Stores (λ d. constraintFrom text at) text at count old new y
+pub constraint-found : {text : List ℕ} {at count : ℕ} {old mid new : List ℕ} {x y : Reached} {u : Span} → PlaceIn text at count → StoresSpans (λ d. expressionBy text (partTo text d) at) text at count old mid x → TokenAt text (x .next) u
+    → StoresSpans (λ d. expressionBy text (partTo text d) (u .end)) text (u .end) (x .count) mid new y → StoresSpans (λ d. constraintFrom text at) text at count old new y
 constraint-found {text} {at} {x = x} {u = u} place a sign b =
     let whole = suc (length text) in
     both place a sign b (λ d. constraintFrom text at)

@@ -12,7 +12,7 @@ use lib.ListN.{length, getD, drop}
 use Rattle.text.specs.Bytes.{Token, bytesOf, tokens}
 use Rattle.text.specs.Token.{sameBytes}
 use Rattle.meaning.specs.Expression.{Expression, integer, name, conditional}
-use Rattle.sheet.specs.Vocabulary.{Infix, pointwise, followedBy, joined, operators, operatorOf, Prefix, firstPrefix, nextPrefix, notPrefix, prefixed, prefixOf}
+use Rattle.sheet.specs.Vocabulary.{Infix, pointwise, followedBy, infixed, operatorTokens, operatorOf, Prefix, firstPrefix, nextPrefix, notPrefix, prefixed, prefixOf}
 use Rattle.sheet.specs.Grammar.{Phrase, part, expression, Reads, isIntegerToken, isStream, isBracketed, isPrefixed, isPart, isOperation, isConditional}
 use Rattle.sheet.proofs.Vocabulary.{bracket-no-operator}
 use Rattle.sheet.proofs.Parser.{NoOperator, Follows}
@@ -22,7 +22,7 @@ use Rattle.scan.specs.Start.{isVisible}
 use Rattle.scan.proofs.Tokens.{between-none}
 use Rattle.spans.specs.Token.{span, tokenFrom}
 use Rattle.spans.specs.Postfix.{inPostfix}
-use Rattle.spans.specs.Spans.{Spanned, closed, wordOf, expressionBy, partTo}
+use Rattle.spans.specs.Spans.{Spanned, closed, tokenIn, expressionBy, partTo}
 use Rattle.spans.specs.Reading.{SpanReads, EachReads}
 use Rattle.spans.proofs.Token.{Ended, Seen, token-from, token-same, token-ended, token-seen, token-ordered, tokens-up-to}
 use Rattle.spans.proofs.Words.{integer-no-bracket, integer-no-prefix, name-no-bracket, name-no-prefix, bracket-no-prefix, part-first}
@@ -35,10 +35,10 @@ prefixed-nodes firstPrefix e = refl
 prefixed-nodes nextPrefix e = refl
 prefixed-nodes notPrefix e = refl
 
-joined-nodes : (o : Infix) (a b : Expression) → inPostfix (joined o a b) ≡ (inPostfix a ++ inPostfix b) ++ (joined o a b ∷ [])
+joined-nodes : (o : Infix) (a b : Expression) → inPostfix (infixed o a b) ≡ (inPostfix a ++ inPostfix b) ++ (infixed o a b ∷ [])
 unfolding inPostfix
-joined-nodes (pointwise o) a b = sym (append-assoc (inPostfix a) (inPostfix b) (joined (pointwise o) a b ∷ []))
-joined-nodes followedBy a b = sym (append-assoc (inPostfix a) (inPostfix b) (joined followedBy a b ∷ []))
+joined-nodes (pointwise o) a b = sym (append-assoc (inPostfix a) (inPostfix b) (infixed (pointwise o) a b ∷ []))
+joined-nodes followedBy a b = sym (append-assoc (inPostfix a) (inPostfix b) (infixed followedBy a b ∷ []))
 
 conditional-nodes : (c a b : Expression) → inPostfix (conditional c a b) ≡ (inPostfix c ++ (inPostfix a ++ inPostfix b)) ++ (conditional c a b ∷ [])
 unfolding inPostfix
@@ -55,7 +55,7 @@ module _ (names : List Token) (text : List ℕ) where
     pub forward : at ≤ tokenFrom text at .start
     pub ordered : tokenFrom text at .start < tokenFrom text at .end
     pub within : tokenFrom text at .end ≤ length text
-    pub word : wordOf text (tokenFrom text at) ≡ t
+    pub word : tokenIn text (tokenFrom text at) ≡ t
     pub after : tokens (drop (tokenFrom text at .end) text) ≡ ts
     pub seen : Seen text (tokenFrom text at)
 
@@ -75,10 +75,10 @@ module _ (names : List Token) (text : List ℕ) where
             seen = token-seen text at h s;
           }
 
-  no-word : {at : ℕ} → at ≤ length text → tokens (drop at text) ≡ [] → wordOf text (tokenFrom text at) ≡ []
+  no-word : {at : ℕ} → at ≤ length text → tokens (drop at text) ≡ [] → tokenIn text (tokenFrom text at) ≡ []
   no-word {at} h e = by (token-from text at h)
     where
-      by : TokenAt text at (tokenFrom text at) → wordOf text (tokenFrom text at) ≡ []
+      by : TokenAt text at (tokenFrom text at) → tokenIn text (tokenFrom text at) ≡ []
       by (noToken s f n) = ap (λ k. between text k (tokenFrom text at .end)) (s ∙ sym f) ∙ between-none text (tokenFrom text at .end)
       by (aToken f s w all) = absurd (nil≢cons (sym e ∙ all))
 
@@ -86,7 +86,7 @@ module _ (names : List Token) (text : List ℕ) where
   token-from-past {at} h = token-ordered h (token-from text at h) .forward
 
   -- The spans of a phrase that is read as e and stands before the tokens `rest`.
-  pub record Found (e : Expression) (rest : List Token) (at : ℕ) (w : Spanned) : Type 0 where
+  pub record PhraseRead (e : Expression) (rest : List Token) (at : ℕ) (w : Spanned) : Type 0 where
     pub each : EachReads names text (w .spans) (inPostfix e)
     pub after : tokens (drop (w .next) text) ≡ rest
     pub ended : Ended text (w .next)
@@ -108,7 +108,7 @@ module _ (names : List Token) (text : List ℕ) where
 
   -- A phrase whose last expression is the whole.
   closed-found : {at n : ℕ} {us rest : List Token} {e : Expression} {l : List Span} {es : List Expression} → Reads names expression us e → at ≤ length text → tokens (drop at text) ≡ us ++ rest → tokens (drop n text) ≡ rest → Ended text n → tokenFrom text at .start < n → n ≤ length text
-      → Seen text (span (tokenFrom text at .start) n) → EachReads names text l es → inPostfix e ≡ es ++ (e ∷ []) → Found e rest at (closed l (tokenFrom text at .start) n)
+      → Seen text (span (tokenFrom text at .start) n) → EachReads names text l es → inPostfix e ≡ es ++ (e ∷ []) → PhraseRead e rest at (closed l (tokenFrom text at .start) n)
   closed-found r h q k f i w v each nodes =
       record {
         each = subst (EachReads names text _) (sym nodes) (each-append each (EachReads.more (own-reads r h q k f i w v) EachReads.none));
@@ -119,10 +119,10 @@ module _ (names : List Token) (text : List ℕ) where
         within = w;
       }
 
-  leaf-found : (n : ℕ) {at : ℕ} {t : Token} {rest : List Token} {e : Expression} → Reads names part (t ∷ []) e → inPostfix e ≡ e ∷ [] → prefixOf t ≡ none → sameBytes (bytesOf "(") t ≡ false → at ≤ length text → tokens (drop at text) ≡ t ∷ rest → Found e rest at (partTo text (suc n) at)
+  leaf-found : (n : ℕ) {at : ℕ} {t : Token} {rest : List Token} {e : Expression} → Reads names part (t ∷ []) e → inPostfix e ≡ e ∷ [] → prefixOf t ≡ none → sameBytes (bytesOf "(") t ≡ false → at ≤ length text → tokens (drop at text) ≡ t ∷ rest → PhraseRead e rest at (partTo text (suc n) at)
   leaf-found n {at} {t} {rest} {e} r nodes p b h q =
       let w = word-at h q in
-      subst (Found e rest at) (sym (step-leaf text at refl n (w .stands) (ap prefixOf (w .word) ∙ p) (ap (sameBytes (bytesOf "(")) (w .word) ∙ b)))
+      subst (PhraseRead e rest at) (sym (step-leaf text at refl n (w .stands) (ap prefixOf (w .word) ∙ p) (ap (sameBytes (bytesOf "(")) (w .word) ∙ b)))
       (closed-found (isPart r) h q (w .after) (token-ended text at h) (w .ordered) (w .within) (w .seen) EachReads.none nodes)
 
   -- What p gives for a bound.
@@ -131,8 +131,8 @@ module _ (names : List Token) (text : List ℕ) where
   spansTo expression n at = expressionBy text (partTo text n) at
 
   -- Where nothing, or no operator, follows a part, the expression ends with it.
-  alone : (n : ℕ) {e : Expression} {rest : List Token} {at : ℕ} → NoOperator rest → Found e rest at (partTo text n at) → operatorOf (wordOf text (tokenFrom text (partTo text n at .next))) ≡ none
-  unfolding operatorOf operators
+  alone : (n : ℕ) {e : Expression} {rest : List Token} {at : ℕ} → NoOperator rest → PhraseRead e rest at (partTo text n at) → operatorOf (tokenIn text (tokenFrom text (partTo text n at .next))) ≡ none
+  unfolding operatorOf operatorTokens
   alone n {rest = []} f h = ap operatorOf (no-word (h .within) (h .after))
   alone n {rest = t ∷ ts} f h = ap operatorOf (word-at (h .within) (h .after) .word) ∙ f
 
@@ -144,7 +144,7 @@ module _ (names : List Token) (text : List ℕ) where
   unfolding inPostfix
   name-nodes k = refl
 
-  found : {k : Phrase} {us : List Token} {e : Expression} → Reads names k us e → (n : ℕ) (rest : List Token) → Follows k rest → (at : ℕ) → at ≤ length text → length text < at + n → tokens (drop at text) ≡ us ++ rest → Found e rest at (spansTo k n at)
+  found : {k : Phrase} {us : List Token} {e : Expression} → Reads names k us e → (n : ℕ) (rest : List Token) → Follows k rest → (at : ℕ) → at ≤ length text → length text < at + n → tokens (drop at text) ≡ us ++ rest → PhraseRead e rest at (spansTo k n at)
   found (isIntegerToken h) zero rest f at i l q = absurd (omega arith)
   found (isIntegerToken {t} h) (suc n) rest f at i l q = leaf-found n (isIntegerToken h) (integer-nodes _) (integer-no-prefix t h) (integer-no-bracket t h) i q
   found (isStream h k) zero rest f at i l q = absurd (omega arith)
@@ -155,7 +155,7 @@ module _ (names : List Token) (text : List ℕ) where
       let a = found r n (bytesOf ")" ∷ rest) bracket-no-operator (tokenFrom text at .end) (w .within) (omega (arith, w .forward, w .ordered)) (w .after) in
       let c = word-at (a .within) (a .after) in
       let from = token-from-past (w .within) in
-      subst (Found e rest at) (sym (step-bracket text at refl n (w .stands) (ap prefixOf (w .word) ∙ bracket-no-prefix) (ap (sameBytes (bytesOf "(")) (w .word))))
+      subst (PhraseRead e rest at) (sym (step-bracket text at refl n (w .stands) (ap prefixOf (w .word) ∙ bracket-no-prefix) (ap (sameBytes (bytesOf "(")) (w .word))))
       (record {
         each = a .each;
         after = c .after;
@@ -169,13 +169,13 @@ module _ (names : List Token) (text : List ℕ) where
       let w = word-at i q in
       let b = found r n rest tt (tokenFrom text at .end) (w .within) (omega (arith, w .forward, w .ordered)) (w .after) in
       let from = token-from-past (w .within) in
-      subst (Found (prefixed p a) rest at) (sym (step-prefix text at refl n (w .stands) (ap prefixOf (w .word) ∙ e)))
+      subst (PhraseRead (prefixed p a) rest at) (sym (step-prefix text at refl n (w .stands) (ap prefixOf (w .word) ∙ e)))
       (closed-found (isPart (isPrefixed e r)) i q (b .after) (b .ended) (omega (arith, w .ordered, b .past, from)) (b .within) (record { first = w .seen .first; last = b .last }) (b .each) (prefixed-nodes p a))
   found (isPart {ts} {e} r) n rest f at i l q =
       let a = found r n rest tt at i l q in
       let t = part-first r in
       let w = word-at i (q ∙ ap (λ us. us ++ rest) (t .whole)) in
-      subst (Found e rest at) (sym (step-operation text at refl (partTo text n) (ap (sameBytes (bytesOf "if")) (w .word) ∙ t .noIf) ∙ step-alone text (partTo text n) (tokenFrom text at .start) (partTo text n at) refl (alone n f a))) a
+      subst (PhraseRead e rest at) (sym (step-operation text at refl (partTo text n) (ap (sameBytes (bytesOf "if")) (w .word) ∙ t .noIf) ∙ step-alone text (partTo text n) (tokenFrom text at .start) (partTo text n at) refl (alone n f a))) a
   found (isOperation {ts} {us} t {o} {a = x} {b = y} r e s) n rest f at i l q =
       let whole : tokens (drop at text) ≡ ts ++ (t ∷ (us ++ rest)) = q ∙ append-assoc ts (t ∷ us) rest in
       let a = found r n (t ∷ (us ++ rest)) tt at i l whole in
@@ -184,7 +184,7 @@ module _ (names : List Token) (text : List ℕ) where
       let sign = word-at (a .within) (a .after) in
       let from = token-from-past (sign .within) in
       let b = found s n rest tt (tokenFrom text (partTo text n at .next) .end) (sign .within) (omega (arith, w .forward, a .past, sign .forward, sign .ordered)) (sign .after) in
-      subst (Found (joined o x y) rest at) (sym (step-operation text at refl (partTo text n) (ap (sameBytes (bytesOf "if")) (w .word) ∙ first .noIf) ∙ step-joined text (partTo text n) (tokenFrom text at .start) (partTo text n at) refl (ap operatorOf (sign .word) ∙ e)))
+      subst (PhraseRead (infixed o x y) rest at) (sym (step-operation text at refl (partTo text n) (ap (sameBytes (bytesOf "if")) (w .word) ∙ first .noIf) ∙ step-joined text (partTo text n) (tokenFrom text at .start) (partTo text n at) refl (ap operatorOf (sign .word) ∙ e)))
       (closed-found (isOperation t r e s) i q (b .after) (b .ended) (omega (arith, a .past, sign .forward, sign .ordered, b .past, from)) (b .within) (record { first = w .seen .first; last = b .last }) (each-append (a .each) (b .each)) (joined-nodes o x y))
   found (isConditional {ts} {us} {vs} {c = x} {a = y} {b = z} r s t) n rest f at i l q =
       let whole : tokens (drop at text) ≡ bytesOf "if" ∷ (ts ++ (bytesOf "then" ∷ (us ++ (bytesOf "else" ∷ (vs ++ rest))))) =
@@ -199,10 +199,10 @@ module _ (names : List Token) (text : List ℕ) where
       let other = word-at (a .within) (a .after) in
       let from3 = token-from-past (other .within) in
       let b = found t n rest tt (tokenFrom text (p (tokenFrom text (p (tokenFrom text at .end) .next) .end) .next) .end) (other .within) (omega (arith, w .forward, w .ordered, from, c .past, then .forward, then .ordered, from2, a .past, other .forward, other .ordered)) (other .after) in
-      subst (Found (conditional x y z) rest at) (sym (step-conditional text at refl p (ap (sameBytes (bytesOf "if")) (w .word)) ∙ ap (λ d. closed (d .spans) (tokenFrom text at .start) (d .next)) (step-branches text p (tokenFrom text at .end) refl refl refl)))
+      subst (PhraseRead (conditional x y z) rest at) (sym (step-conditional text at refl p (ap (sameBytes (bytesOf "if")) (w .word)) ∙ ap (λ d. closed (d .spans) (tokenFrom text at .start) (d .next)) (step-branches text p (tokenFrom text at .end) refl refl refl)))
       (closed-found (isConditional r s t) i q (b .after) (b .ended) (omega (arith, w .ordered, from, c .past, then .forward, then .ordered, from2, a .past, other .forward, other .ordered, from3, b .past)) (b .within) (record { first = w .seen .first; last = b .last })
       (each-append (c .each) (each-append (a .each) (b .each))) (conditional-nodes x y z))
 
   -- The expression from a place on.
-  pub expression-found : {us : List Token} {e : Expression} → Reads names expression us e → (n : ℕ) (rest : List Token) → NoOperator rest → (at : ℕ) → at ≤ length text → length text < at + n → tokens (drop at text) ≡ us ++ rest → Found e rest at (expressionBy text (partTo text n) at)
+  pub expression-found : {us : List Token} {e : Expression} → Reads names expression us e → (n : ℕ) (rest : List Token) → NoOperator rest → (at : ℕ) → at ≤ length text → length text < at + n → tokens (drop at text) ≡ us ++ rest → PhraseRead e rest at (expressionBy text (partTo text n) at)
   expression-found r n rest f at i l q = found r n rest f at i l q

@@ -11,7 +11,7 @@ use Rattle.text.specs.Token.{sameBytes}
 use Rattle.sheet.specs.Vocabulary.{Infix, operatorOf, Prefix, prefixOf}
 use Rattle.scan.specs.declared.Span.{Span}
 use Rattle.spans.specs.Token.{tokenFrom}
-use Rattle.spans.specs.Spans.{Spanned, spanned, closed, wordOf, branchesBy, conditionalBy, operationFrom, afterPart, expressionBy, partBy, partFrom, partTo, constraintFrom, constraintsFrom, constraintsTo}
+use Rattle.spans.specs.Spans.{Spanned, spanned, closed, tokenIn, branchesBy, conditionalBy, operationFrom, afterPart, expressionBy, partBy, partFrom, partTo, constraintFrom, constraintsFrom, constraintsTo}
 
 module _ (text : List ℕ) where
   module _ (at : ℕ) {t : Span} (is : tokenFrom text at ≡ t) where
@@ -19,54 +19,54 @@ module _ (text : List ℕ) where
       abbrev byToken : Bool → Option Prefix → Bool → Spanned
       byToken z f o = cond z (spanned [] (t .end)) (partBy text (partTo text n) t f o)
 
-      part-step : partTo text (suc n) at ≡ byToken (eqb (t .start) (t .end)) (prefixOf (wordOf text t)) (sameBytes (bytesOf "(") (wordOf text t))
+      part-step : partTo text (suc n) at ≡ byToken (eqb (t .start) (t .end)) (prefixOf (tokenIn text t)) (sameBytes (bytesOf "(") (tokenIn text t))
       unfolding partTo partFrom
       part-step = ap (partFrom text (partTo text n)) is
 
       pub step-none : t .start ≡ t .end → partTo text (suc n) at ≡ spanned [] (t .end)
-      step-none h = part-step ∙ ap (λ z. byToken z (prefixOf (wordOf text t)) (sameBytes (bytesOf "(") (wordOf text t))) (eq-eqb (t .start) (t .end) h)
+      step-none h = part-step ∙ ap (λ z. byToken z (prefixOf (tokenIn text t)) (sameBytes (bytesOf "(") (tokenIn text t))) (eq-eqb (t .start) (t .end) h)
 
       module _ (stands : t .start ≡ t .end → ⊥) where
-        step-some : partTo text (suc n) at ≡ partBy text (partTo text n) t (prefixOf (wordOf text t)) (sameBytes (bytesOf "(") (wordOf text t))
-        step-some = part-step ∙ ap (λ z. byToken z (prefixOf (wordOf text t)) (sameBytes (bytesOf "(") (wordOf text t))) (ne-eqb (t .start) (t .end) stands)
+        step-some : partTo text (suc n) at ≡ partBy text (partTo text n) t (prefixOf (tokenIn text t)) (sameBytes (bytesOf "(") (tokenIn text t))
+        step-some = part-step ∙ ap (λ z. byToken z (prefixOf (tokenIn text t)) (sameBytes (bytesOf "(") (tokenIn text t))) (ne-eqb (t .start) (t .end) stands)
 
-        pub step-prefix : {f : Prefix} → prefixOf (wordOf text t) ≡ some f → partTo text (suc n) at ≡ closed (partTo text n (t .end) .spans) (t .start) (partTo text n (t .end) .next)
-        step-prefix e = step-some ∙ ap (λ f. partBy text (partTo text n) t f (sameBytes (bytesOf "(") (wordOf text t))) e
+        pub step-prefix : {f : Prefix} → prefixOf (tokenIn text t) ≡ some f → partTo text (suc n) at ≡ closed (partTo text n (t .end) .spans) (t .start) (partTo text n (t .end) .next)
+        step-prefix e = step-some ∙ ap (λ f. partBy text (partTo text n) t f (sameBytes (bytesOf "(") (tokenIn text t))) e
 
-        module _ (e : prefixOf (wordOf text t) ≡ none) where
-          step-plain : {m : Bool} → sameBytes (bytesOf "(") (wordOf text t) ≡ m → partTo text (suc n) at ≡ partBy text (partTo text n) t none m
+        module _ (e : prefixOf (tokenIn text t) ≡ none) where
+          step-plain : {m : Bool} → sameBytes (bytesOf "(") (tokenIn text t) ≡ m → partTo text (suc n) at ≡ partBy text (partTo text n) t none m
           step-plain b = step-some ∙ (λ i. partBy text (partTo text n) t (e i) (b i))
 
-          pub step-bracket : sameBytes (bytesOf "(") (wordOf text t) ≡ true
+          pub step-bracket : sameBytes (bytesOf "(") (tokenIn text t) ≡ true
               → partTo text (suc n) at ≡ spanned (expressionBy text (partTo text n) (t .end) .spans) (tokenFrom text (expressionBy text (partTo text n) (t .end) .next) .end)
           step-bracket b = step-plain b
 
-          pub step-leaf : sameBytes (bytesOf "(") (wordOf text t) ≡ false → partTo text (suc n) at ≡ closed [] (t .start) (t .end)
+          pub step-leaf : sameBytes (bytesOf "(") (tokenIn text t) ≡ false → partTo text (suc n) at ≡ closed [] (t .start) (t .end)
           step-leaf b = step-plain b
 
     module _ (p : ℕ → Spanned) where
       abbrev byWord : Bool → Spanned
       byWord m = cond m (conditionalBy text p t) (afterPart text p (t .start) (p at))
 
-      expression-step : expressionBy text p at ≡ byWord (sameBytes (bytesOf "if") (wordOf text t))
+      expression-step : expressionBy text p at ≡ byWord (sameBytes (bytesOf "if") (tokenIn text t))
       unfolding expressionBy
-      expression-step = ap (λ u. cond (sameBytes (bytesOf "if") (wordOf text u)) (conditionalBy text p u) (afterPart text p (u .start) (p at))) is
+      expression-step = ap (λ u. cond (sameBytes (bytesOf "if") (tokenIn text u)) (conditionalBy text p u) (afterPart text p (u .start) (p at))) is
 
-      pub step-conditional : sameBytes (bytesOf "if") (wordOf text t) ≡ true → expressionBy text p at ≡ closed (branchesBy text p (t .end) .spans) (t .start) (branchesBy text p (t .end) .next)
+      pub step-conditional : sameBytes (bytesOf "if") (tokenIn text t) ≡ true → expressionBy text p at ≡ closed (branchesBy text p (t .end) .spans) (t .start) (branchesBy text p (t .end) .next)
       step-conditional e = expression-step ∙ ap byWord e
 
-      pub step-operation : sameBytes (bytesOf "if") (wordOf text t) ≡ false → expressionBy text p at ≡ afterPart text p (t .start) (p at)
+      pub step-operation : sameBytes (bytesOf "if") (tokenIn text t) ≡ false → expressionBy text p at ≡ afterPart text p (t .start) (p at)
       step-operation e = expression-step ∙ ap byWord e
 
   module _ (p : ℕ → Spanned) (s : ℕ) (a : Spanned) {t : Span} (is : tokenFrom text (a .next) ≡ t) where
-    after-step : {o : Option Infix} → operatorOf (wordOf text t) ≡ o → afterPart text p s a ≡ operationFrom text p s a t o
+    after-step : {o : Option Infix} → operatorOf (tokenIn text t) ≡ o → afterPart text p s a ≡ operationFrom text p s a t o
     unfolding afterPart
-    after-step e = ap (λ u. operationFrom text p s a u (operatorOf (wordOf text u))) is ∙ ap (operationFrom text p s a t) e
+    after-step e = ap (λ u. operationFrom text p s a u (operatorOf (tokenIn text u))) is ∙ ap (operationFrom text p s a t) e
 
-    pub step-alone : operatorOf (wordOf text t) ≡ none → afterPart text p s a ≡ a
+    pub step-alone : operatorOf (tokenIn text t) ≡ none → afterPart text p s a ≡ a
     step-alone e = after-step e
 
-    pub step-joined : {o : Infix} → operatorOf (wordOf text t) ≡ some o → afterPart text p s a ≡ closed (a .spans ++ p (t .end) .spans) s (p (t .end) .next)
+    pub step-joined : {o : Infix} → operatorOf (tokenIn text t) ≡ some o → afterPart text p s a ≡ closed (a .spans ++ p (t .end) .spans) s (p (t .end) .next)
     step-joined e = after-step e
 
   pub step-branches : (p : ℕ → Spanned) (at : ℕ) {c a b : Spanned} → p at ≡ c → p (tokenFrom text (c .next) .end) ≡ a → p (tokenFrom text (a .next) .end) ≡ b → branchesBy text p at ≡ spanned (c .spans ++ (a .spans ++ b .spans)) (b .next)

@@ -7,7 +7,7 @@ use mathlib.Core.List.{List, [], _∷_, _++_}
 use borrow.Author.Tests.{lt-ltb, le-ltb}
 use lib.ListN.{length}
 use lib.Seq.{sets}
-use Rattle.meaning.proofs.Lists.{sets-append}
+use Rattle.basics.proofs.Lists.{sets-append}
 use Rattle.scan.specs.declared.Span.{Span}
 use Rattle.spans.specs.Spans.{spansIn}
 use Rattle.spans.specs.Stored.{placesOf, spanBound, putSpans, noSpans, spanTable}

@@ -28,8 +28,8 @@ abbrev pub closed : List Span → ℕ → ℕ → Spanned
 closed l s e = spanned (l ++ (span s e ∷ [])) e
 
 module _ (text : List ℕ) where
-  abbrev pub wordOf : Span → Token
-  wordOf t = between text (t .start) (t .end)
+  abbrev pub tokenIn : Span → Token
+  tokenIn t = between text (t .start) (t .end)
 
   -- The parts after `if`: "part `then` part `else` part", where p gives the spans of the part from a place on.
   unfoldable pub branchesBy : (ℕ → Spanned) → ℕ → Spanned
@@ -49,13 +49,13 @@ module _ (text : List ℕ) where
   operationFrom p s a sign (some o) = let b = p (sign .end) in closed (a .spans ++ b .spans) s (b .next)
 
   unfoldable pub afterPart : (ℕ → Spanned) → ℕ → Spanned → Spanned
-  afterPart p s a = let sign = tokenFrom text (a .next) in operationFrom p s a sign (operatorOf (wordOf sign))
+  afterPart p s a = let sign = tokenFrom text (a .next) in operationFrom p s a sign (operatorOf (tokenIn sign))
 
   -- The expression from a place on.
   unfoldable pub expressionBy : (ℕ → Spanned) → ℕ → Spanned
   expressionBy p at =
       let t = tokenFrom text at in
-      cond (sameBytes (bytesOf "if") (wordOf t)) (conditionalBy p t) (afterPart p (t .start) (p at))
+      cond (sameBytes (bytesOf "if") (tokenIn t)) (conditionalBy p t) (afterPart p (t .start) (p at))
 
   -- The part whose first token is t: "`first`, `next` or `not` before a part", "an expression in brackets", or an integer or a name.
   abbrev pub partBy : (ℕ → Spanned) → Span → Option Prefix → Bool → Spanned
@@ -64,7 +64,7 @@ module _ (text : List ℕ) where
   partBy p t none false = closed [] (t .start) (t .end)
 
   unfoldable pub partFrom : (ℕ → Spanned) → Span → Spanned
-  partFrom p t = cond (eqb (t .start) (t .end)) (spanned [] (t .end)) (partBy p t (prefixOf (wordOf t)) (sameBytes (bytesOf "(") (wordOf t)))
+  partFrom p t = cond (eqb (t .start) (t .end)) (spanned [] (t .end)) (partBy p t (prefixOf (tokenIn t)) (sameBytes (bytesOf "(") (tokenIn t)))
 
   -- The part from a place on, where no part is deeper than a bound.
   unfoldable pub partTo : ℕ → ℕ → Spanned

@@ -38,7 +38,7 @@ pub record PlaceIn (text : List ℕ) (at count : ℕ) : Type 0 where
 
 -- The spans that S gives for every bound that is large enough were stored from the number `count` on, and r is the place behind the phrase from the
 -- place `at` on and the number behind the last. What the table holds where it has no room for them is left open.
-pub record Stores (S : ℕ → Spanned) (text : List ℕ) (at count : ℕ) (old new : List ℕ) (r : Reached) : Type 0 where
+pub record StoresSpans (S : ℕ → Spanned) (text : List ℕ) (at count : ℕ) (old new : List ℕ) (r : Reached) : Type 0 where
   pub spans : List Span
   pub gives : (d : ℕ) → length text < at + d → S d ≡ spanned spans (r .next)
   pub counted : r .count ≡ count + length spans

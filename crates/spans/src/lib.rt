@@ -6,7 +6,7 @@ ghost use Prim.Native.Nat.{suc, _+_, _≤_, _<_};
 ghost use lib.ListN.{length};
 ghost use Rattle.spans.specs.Token.{span};
 ghost use Rattle.spans.specs.Spans.{partTo, branchesBy, expressionBy, constraintFrom, constraintsTo, lineStart};
-ghost use Rattle.spans.specs.Stored.{spanBound, putSpans, spanTable, PlaceIn, Stores};
+ghost use Rattle.spans.specs.Stored.{spanBound, putSpans, spanTable, PlaceIn, StoresSpans};
 
 // The place behind a phrase, and how many spans are stored so far.
 struct Reached {
@@ -34,7 +34,7 @@ fn put(spans: &mut [u16; 2048], count: usize, start: usize, end: usize) -> Reach
 // the same place where an expression begins with a part.
 fn part(text: &[u8], at: usize, spans: &mut [u16; 2048], count: usize) -> Reached
     requires { ⌜ PlaceIn (now text) at count ⌝ }
-    ensures { λ r. ⌜ Stores (λ d. partTo (now (text .entry)) d at) (now (text .entry)) at count (now (spans .entry)) (now (spans .exit)) r ⌝ }
+    ensures { λ r. ⌜ StoresSpans (λ d. partTo (now (text .entry)) d at) (now (text .entry)) at count (now (spans .entry)) (now (spans .exit)) r ⌝ }
 {
     let token = scan::next_token(text, at);
     let start = token.start;
@@ -47,7 +47,7 @@ fn part(text: &[u8], at: usize, spans: &mut [u16; 2048], count: usize) -> Reache
     }
     let word = &text[start..end];
     let kind = scan::prefix_code(word);
-    if kind != 255 {
+    if kind != nodes::NO_CODE {
         let inner = part(text, end, spans, count);
         return put(spans, inner.count, start, inner.next);
     }
@@ -65,7 +65,7 @@ fn part(text: &[u8], at: usize, spans: &mut [u16; 2048], count: usize) -> Reache
 // What stands after an `if`.
 fn branches(text: &[u8], at: usize, spans: &mut [u16; 2048], count: usize) -> Reached
     requires { ⌜ PlaceIn (now text) at count ⌝ }
-    ensures { λ r. ⌜ Stores (λ d. branchesBy (now (text .entry)) (partTo (now (text .entry)) d) at) (now (text .entry)) at count (now (spans .entry)) (now (spans .exit)) r ⌝ }
+    ensures { λ r. ⌜ StoresSpans (λ d. branchesBy (now (text .entry)) (partTo (now (text .entry)) d) at) (now (text .entry)) at count (now (spans .entry)) (now (spans .exit)) r ⌝ }
 {
     let condition = part(text, at, spans, count);
     let then = scan::next_token(text, condition.next);
@@ -77,7 +77,7 @@ fn branches(text: &[u8], at: usize, spans: &mut [u16; 2048], count: usize) -> Re
 // The expression from the place `at` on.
 fn expression(text: &[u8], at: usize, spans: &mut [u16; 2048], count: usize) -> Reached
     requires { ⌜ PlaceIn (now text) at count ⌝ }
-    ensures { λ r. ⌜ Stores (λ d. expressionBy (now (text .entry)) (partTo (now (text .entry)) d) at) (now (text .entry)) at count (now (spans .entry)) (now (spans .exit)) r ⌝ }
+    ensures { λ r. ⌜ StoresSpans (λ d. expressionBy (now (text .entry)) (partTo (now (text .entry)) d) at) (now (text .entry)) at count (now (spans .entry)) (now (spans .exit)) r ⌝ }
 {
     let token = scan::next_token(text, at);
     let start = token.start;
@@ -100,7 +100,7 @@ fn expression(text: &[u8], at: usize, spans: &mut [u16; 2048], count: usize) -> 
 // One constraint line, from its first token on.
 fn constraint(text: &[u8], at: usize, spans: &mut [u16; 2048], count: usize) -> Reached
     requires { ⌜ PlaceIn (now text) at count ⌝ }
-    ensures { λ r. ⌜ Stores (λ d. constraintFrom (now (text .entry)) at) (now (text .entry)) at count (now (spans .entry)) (now (spans .exit)) r ⌝ }
+    ensures { λ r. ⌜ StoresSpans (λ d. constraintFrom (now (text .entry)) at) (now (text .entry)) at count (now (spans .entry)) (now (spans .exit)) r ⌝ }
 {
     let left = expression(text, at, spans, count);
     let sign = scan::next_token(text, left.next);

@@ -9,16 +9,16 @@ use native.Mathlib.Decide.{decLt}
 use native.Mathlib.Omega.{arith}
 use lib.Dec.{eqb}
 use lib.ListN.{length}
-use Rattle.automaton.specs.Table.{no-state}
-use Rattle.step.specs.Step.{rowBytes, rowsOf, mostRows, entryOf, refusedBy, Refusal11, Refusal12, StepAnswer}
+use Rattle.basics.proofs.Reflects.{Reflects, holds, fails, reflects-iff, or-reflects, and-reflects, not-reflects, eqb-reflects, ltb-reflects, leb-reflects}
+use Rattle.automaton.specs.Table.{noState}
+use Rattle.step.specs.Step.{rowBytes, rowCount, mostRows, entryFollowed, refusedStep, Refusal11, Refusal12, StepAnswer}
 use Rattle.step.specs.Step.Refusal11.{noLetters, notWholeRows, tooManyRows, stateOutside, letterOutside, noRow}
-use Rattle.step.specs.Step.Refusal12.{noState}
+use Rattle.step.specs.Step.Refusal12.{missing}
 use Rattle.step.specs.Step.StepAnswer.{refused11, refused12, moves}
 use Rattle.step.specs.RunningPlace.{Refused, stepsAfter, PlaceAfter, PlaceStep}
 use Rattle.step.specs.RunningPlace.PlaceAfter.{unchanged, changed}
-use Rattle.step.specs.Executable.{isRefusal11, isRefusal12, stepOf, placeOf}
+use Rattle.step.specs.Executable.{isRefusal11, isRefusal12, stepOf, placeNext}
 use Rattle.step.specs.declared.Place.{Place}
-use Rattle.step.proofs.Reflects.{Reflects, holds, fails, transfer, either, both, negated, equal, less, atMost}
 use Rattle.step.proofs.Refusals.{rest→notWhole, noRest→whole}
 
 -- the tests reflect the refusals
@@ -29,8 +29,8 @@ NotWhole table letters = (rows : ℕ) → length table ≢ rows * rowBytes lette
 -- the parts of refusal 11, as a sum
 Parts : List ℕ → ℕ → ℕ → ℕ → Type 0
 Parts table letters state letter =
-    ((((letters ≡ 0 ⊎ NotWhole table letters) ⊎ (mostRows < rowsOf table letters)) ⊎ (rowsOf table letters ≤ state)) ⊎ (letters ≤ letter))
-    ⊎ ((rowsOf table letters ≤ entryOf table letters state letter) × (entryOf table letters state letter ≢ no-state))
+    ((((letters ≡ 0 ⊎ NotWhole table letters) ⊎ (mostRows < rowCount table letters)) ⊎ (rowCount table letters ≤ state)) ⊎ (letters ≤ letter))
+    ⊎ ((rowCount table letters ≤ entryFollowed table letters state letter) × (entryFollowed table letters state letter ≢ noState))
 
 of-parts : {table : List ℕ} {letters state letter : ℕ} → Parts table letters state letter → Refusal11 table letters state letter
 unfolding Parts NotWhole
@@ -53,30 +53,30 @@ to-parts (noRow beyond some) = inr (beyond, some)
 notWhole-reflected : (table : List ℕ) (letters : ℕ) → Reflects (NotWhole table letters) (not (eqb (length table % rowBytes letters) 0))
 unfolding NotWhole
 notWhole-reflected table letters =
-    transfer (rest→notWhole (length table) (rowBytes letters))
-    (λ no-length none. no-length (rowsOf table letters) (noRest→whole (length table) (rowBytes letters) none))
-    (negated (equal (length table % rowBytes letters) 0))
+    reflects-iff (rest→notWhole (length table) (rowBytes letters))
+    (λ no-length none. no-length (rowCount table letters) (noRest→whole (length table) (rowBytes letters) none))
+    (not-reflects (eqb-reflects (length table % rowBytes letters) 0))
 
 pub refusal11-reflected : (table : List ℕ) (letters state letter : ℕ) → Reflects (Refusal11 table letters state letter) (isRefusal11 table letters state letter)
 unfolding isRefusal11 Parts
 refusal11-reflected table letters state letter =
-    transfer of-parts to-parts
-    (either
-    (either
-    (either (either (either (equal letters 0) (notWhole-reflected table letters)) (less mostRows (rowsOf table letters)))
-    (atMost (rowsOf table letters) state))
-    (atMost letters letter))
-    (both (atMost (rowsOf table letters) (entryOf table letters state letter)) (negated (equal (entryOf table letters state letter) no-state))))
+    reflects-iff of-parts to-parts
+    (or-reflects
+    (or-reflects
+    (or-reflects (or-reflects (or-reflects (eqb-reflects letters 0) (notWhole-reflected table letters)) (ltb-reflects mostRows (rowCount table letters)))
+    (leb-reflects (rowCount table letters) state))
+    (leb-reflects letters letter))
+    (and-reflects (leb-reflects (rowCount table letters) (entryFollowed table letters state letter)) (not-reflects (eqb-reflects (entryFollowed table letters state letter) noState))))
 
 pub refusal12-reflected : (table : List ℕ) (letters state letter : ℕ) → Reflects (Refusal12 table letters state letter) (isRefusal12 table letters state letter)
 unfolding isRefusal12
 refusal12-reflected table letters state letter =
-    transfer noState (elim [ noState none ↦ none ]) (equal (entryOf table letters state letter) no-state)
+    reflects-iff missing (elim [ missing none ↦ none ]) (eqb-reflects (entryFollowed table letters state letter) noState)
 
 -- the answer
 
 picked : {table : List ℕ} {letters state letter : ℕ} {a b : Bool} → Reflects (Refusal11 table letters state letter) a → Reflects (Refusal12 table letters state letter) b
-    → StepAnswer table letters state letter (cond a (refusedBy 11) (cond b (refusedBy 12) (entryOf table letters state letter)))
+    → StepAnswer table letters state letter (cond a (refusedStep 11) (cond b (refusedStep 12) (entryFollowed table letters state letter)))
 picked (holds eleven) (holds twelve) = refused11 eleven
 picked (holds eleven) (fails no-twelve) = refused11 eleven
 picked (fails no-eleven) (holds twelve) = refused12 no-eleven twelve
@@ -110,18 +110,18 @@ answer↔stepOf table letters state letter r = (
 
 -- a step that moves gives the number of one of at most 4,096 rows
 pub moves-row : (table : List ℕ) (letters state letter : ℕ) → ¬ Refusal11 table letters state letter → ¬ Refusal12 table letters state letter
-    → (entryOf table letters state letter < rowsOf table letters) × (rowsOf table letters ≤ mostRows)
+    → (entryFollowed table letters state letter < rowCount table letters) × (rowCount table letters ≤ mostRows)
 moves-row table letters state letter no-eleven no-twelve = (below, few)
   where
-    below : entryOf table letters state letter < rowsOf table letters
+    below : entryFollowed table letters state letter < rowCount table letters
     below =
-        elim (decLt (entryOf table letters state letter) (rowsOf table letters)) [
+        elim (decLt (entryFollowed table letters state letter) (rowCount table letters)) [
           | yes h ↦ h
-          | no above ↦ absurd (no-eleven (noRow (omega arith) (λ none. no-twelve (noState none))))
+          | no above ↦ absurd (no-eleven (noRow (omega arith) (λ none. no-twelve (missing none))))
         ]
 
-    few : rowsOf table letters ≤ mostRows
-    few = elim (decLt mostRows (rowsOf table letters)) [ yes many ↦ absurd (no-eleven (tooManyRows many)) | no h ↦ omega arith ]
+    few : rowCount table letters ≤ mostRows
+    few = elim (decLt mostRows (rowCount table letters)) [ yes many ↦ absurd (no-eleven (tooManyRows many)) | no h ↦ omega arith ]
 
 -- an answer below 65,536 is no refusal
 pub answer-moves : {table : List ℕ} {letters state letter r : ℕ} → StepAnswer table letters state letter r → r < 65536 → ¬ Refused table letters state letter
@@ -140,7 +140,7 @@ answer-refused {table} {letters} {state} {letter} (moves no-eleven no-twelve) ab
 
 refused-reflected : (table : List ℕ) (letters state letter : ℕ)
     → Reflects (Refused table letters state letter) (isRefusal11 table letters state letter || isRefusal12 table letters state letter)
-refused-reflected table letters state letter = either (refusal11-reflected table letters state letter) (refusal12-reflected table letters state letter)
+refused-reflected table letters state letter = or-reflects (refusal11-reflected table letters state letter) (refusal12-reflected table letters state letter)
 
 place-picked : {table : List ℕ} {letters letter : ℕ} {before : Place} {answer : ℕ} {b : Bool} → Reflects (Refused table letters (before .state) letter) b
     → PlaceAfter table letters letter before answer (cond b before (record { state = answer; steps = stepsAfter (before .steps) }))
@@ -155,8 +155,8 @@ place-changed {table} {letters} {letter} {before} {answer} no-refusal state step
 
 -- every step from a running place has the answer and the place that are computed
 pub placeOf-step : (table : List ℕ) (letters letter : ℕ) (before : Place)
-    → PlaceStep table letters letter before (stepOf table letters (before .state) letter) (placeOf table letters letter before)
-unfolding placeOf
+    → PlaceStep table letters letter before (stepOf table letters (before .state) letter) (placeNext table letters letter before)
+unfolding placeNext
 placeOf-step table letters letter before =
     record {
       answers = stepOf-answers table letters (before .state) letter;
@@ -179,7 +179,7 @@ placeStep-unique {table} {letters} {letter} {before} {after} x y =
 
 -- so the relation is two equations
 pub placeStep↔ : (table : List ℕ) (letters letter : ℕ) (before : Place) (r : ℕ) (after : Place)
-    → ((r ≡ stepOf table letters (before .state) letter) × (after ≡ placeOf table letters letter before)) ↔ PlaceStep table letters letter before r after
+    → ((r ≡ stepOf table letters (before .state) letter) × (after ≡ placeNext table letters letter before)) ↔ PlaceStep table letters letter before r after
 placeStep↔ table letters letter before r after = (
   λ same. subst₂ (PlaceStep table letters letter before) (sym (same .0)) (sym (same .1)) (placeOf-step table letters letter before),
   λ step. placeStep-unique step (placeOf-step table letters letter before),

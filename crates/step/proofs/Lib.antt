@@ -1,4 +1,3 @@
-pub mod Reflects
 pub mod Refusals
 pub mod Answers
 pub mod Places

@@ -10,10 +10,10 @@ use lib.ListN.{length, getD}
 use Rattle.stored.specs.Number.{tableBytes}
 use Rattle.stored.proofs.Table.{length-tableBytes, numberAt-tableBytes}
 use Rattle.automaton.specs.Words.{AllBelow}
-use Rattle.automaton.specs.Table.{no-state, walk, PathFrom, IsPath}
-use Rattle.automaton.specs.Stored.{entry-at}
-use Rattle.step.specs.Step.{entryWidth, rowBytes, rowsOf, entryOf, mostRows, StepAnswer}
-use Rattle.step.specs.Step.Refusal12.{noState}
+use Rattle.automaton.specs.Table.{noState, walk, PathFrom, IsPath}
+use Rattle.automaton.specs.Stored.{entryAt}
+use Rattle.step.specs.Step.{entryWidth, rowBytes, rowCount, entryFollowed, mostRows, StepAnswer}
+use Rattle.step.specs.Step.Refusal12.{missing}
 use Rattle.step.specs.RunningPlace.{Refused}
 use Rattle.step.specs.Followed.{Followed, WholeTable}
 use Rattle.step.specs.Followed.Followed.{stays, steps}
@@ -32,7 +32,7 @@ module _ {k n : ℕ} {entries : List ℕ} (whole : WholeTable k n entries) where
   row-some : 0 < rowBytes k
   row-some = let some : k ≢ 0 = whole .some-letter in omega arith
 
-  rows : rowsOf (entryBytes entries) k ≡ n
+  rows : rowCount (entryBytes entries) k ≡ n
   rows = ap (λ (len : ℕ). len / rowBytes k) bytes-length ∙ mul-div-cancel n row-some
 
   no-rest : length (entryBytes entries) % rowBytes k ≡ 0
@@ -52,72 +52,72 @@ module _ {k n : ℕ} {entries : List ℕ} (whole : WholeTable k n entries) where
       ⊎-elim (λ below. omega arith) (λ none. omega (arith, none)) (whole .state-or-none i inside)
 
   -- the entry that a step reads is the entry that was stored
-  entry-read : (i a : ℕ) → i < n → a < k → entryOf (entryBytes entries) k i a ≡ entry-at k entries i a
+  entry-read : (i a : ℕ) → i < n → a < k → entryFollowed (entryBytes entries) k i a ≡ entryAt k entries i a
   entry-read i a inside is-letter =
       let place : i * k + a < length entries = place-inside i a inside is-letter in
       numberAt-tableBytes entryWidth entries (i * k + a) place (entry-fits (i * k + a) place)
 
-  entry-below : (i a : ℕ) → i < n → a < k → entry-at k entries i a ≢ no-state → entry-at k entries i a < n
+  entry-below : (i a : ℕ) → i < n → a < k → entryAt k entries i a ≢ noState → entryAt k entries i a < n
   entry-below i a inside is-letter some =
       ⊎-elim (λ below. below) (λ none. absurd (some none)) (whole .state-or-none (i * k + a) (place-inside i a inside is-letter))
 
   sound : (i a : ℕ) → i < n → a < k → Sound (entryBytes entries) k i a
   sound i a inside is-letter =
-      let all : rowsOf (entryBytes entries) k ≡ n = rows in
+      let all : rowCount (entryBytes entries) k ≡ n = rows in
       let few : n ≤ mostRows = whole .few-rows in
       record { some-letter = whole .some-letter; whole-rows = no-rest; few-rows = omega arith; is-state = omega arith; is-letter = is-letter }
 
   -- a step from a state is refused where the entry is 65,535, and else gives the entry
-  step-moves : (i a : ℕ) → i < n → a < k → entry-at k entries i a ≢ no-state → StepAnswer (entryBytes entries) k i a (entry-at k entries i a)
+  step-moves : (i a : ℕ) → i < n → a < k → entryAt k entries i a ≢ noState → StepAnswer (entryBytes entries) k i a (entryAt k entries i a)
   step-moves i a inside is-letter some =
-      let all : rowsOf (entryBytes entries) k ≡ n = rows in
-      let below : entry-at k entries i a < n = entry-below i a inside is-letter some in
-      answers-state (sound i a inside is-letter) (entry-at k entries i a) (sym (entry-read i a inside is-letter)) some (omega arith)
+      let all : rowCount (entryBytes entries) k ≡ n = rows in
+      let below : entryAt k entries i a < n = entry-below i a inside is-letter some in
+      answers-state (sound i a inside is-letter) (entryAt k entries i a) (sym (entry-read i a inside is-letter)) some (omega arith)
 
-  step-unrefused : (i a : ℕ) → i < n → a < k → entry-at k entries i a ≢ no-state → ¬ Refused (entryBytes entries) k i a
+  step-unrefused : (i a : ℕ) → i < n → a < k → entryAt k entries i a ≢ noState → ¬ Refused (entryBytes entries) k i a
   step-unrefused i a inside is-letter some =
-      let all : rowsOf (entryBytes entries) k ≡ n = rows in
-      let below : entry-at k entries i a < n = entry-below i a inside is-letter some in
-      let read : entryOf (entryBytes entries) k i a ≡ entry-at k entries i a = entry-read i a inside is-letter in
+      let all : rowCount (entryBytes entries) k ≡ n = rows in
+      let below : entryAt k entries i a < n = entry-below i a inside is-letter some in
+      let read : entryFollowed (entryBytes entries) k i a ≡ entryAt k entries i a = entry-read i a inside is-letter in
       elim [
         | inl eleven ↦ not-refusal11 (sound i a inside is-letter) (λ _. omega arith) eleven
-        | inr twelve ↦ some (sym read ∙ (elim twelve [ noState none ↦ none ]))
+        | inr twelve ↦ some (sym read ∙ (elim twelve [ missing none ↦ none ]))
       ]
 
-  step-refused : (i a : ℕ) → i < n → a < k → entry-at k entries i a ≡ no-state → Refused (entryBytes entries) k i a
-  step-refused i a inside is-letter none = inr (noState (entry-read i a inside is-letter ∙ none))
+  step-refused : (i a : ℕ) → i < n → a < k → entryAt k entries i a ≡ noState → Refused (entryBytes entries) k i a
+  step-refused i a inside is-letter none = inr (missing (entry-read i a inside is-letter ∙ none))
 
   -- from any state, and then from the start
 
-  path-followed : (i : ℕ) (r : List ℕ) → i < n → AllBelow k r → PathFrom (entry-at k entries) i r
-      → Followed (entryBytes entries) k i r (walk (entry-at k entries) i r)
+  path-followed : (i : ℕ) (r : List ℕ) → i < n → AllBelow k r → PathFrom (entryAt k entries) i r
+      → Followed (entryBytes entries) k i r (walk (entryAt k entries) i r)
   path-followed i [] inside letters path = stays
   path-followed i (a ∷ r) inside letters path =
       steps (step-moves i a inside (letters .0) (path .0)) (step-unrefused i a inside (letters .0) (path .0))
-      (path-followed (entry-at k entries i a) r (entry-below i a inside (letters .0) (path .0)) (letters .1) (path .1))
+      (path-followed (entryAt k entries i a) r (entry-below i a inside (letters .0) (path .0)) (letters .1) (path .1))
 
   followed-path : (i last : ℕ) (r : List ℕ) → i < n → AllBelow k r → Followed (entryBytes entries) k i r last
-      → PathFrom (entry-at k entries) i r × (last ≡ walk (entry-at k entries) i r)
+      → PathFrom (entryAt k entries) i r × (last ≡ walk (entryAt k entries) i r)
   followed-path i last r inside letters stays = (tt, refl)
   followed-path i last r inside letters (steps {letter = a} {next = next} {rest = rest} answer unrefused followed) =
-      let some : entry-at k entries i a ≢ no-state = λ none. unrefused (step-refused i a inside (letters .0) none) in
-      let same : next ≡ entry-at k entries i a = answer-unique answer (step-moves i a inside (letters .0) some) in
+      let some : entryAt k entries i a ≢ noState = λ none. unrefused (step-refused i a inside (letters .0) none) in
+      let same : next ≡ entryAt k entries i a = answer-unique answer (step-moves i a inside (letters .0) some) in
       let below : next < n = subst (λ (state : ℕ). state < n) (sym same) (entry-below i a inside (letters .0) some) in
       let later = followed-path next last rest below (letters .1) followed in (
-        (some, subst (λ (state : ℕ). PathFrom (entry-at k entries) state rest) same (later .0)),
-        later .1 ∙ ap (λ (state : ℕ). walk (entry-at k entries) state rest) same,
+        (some, subst (λ (state : ℕ). PathFrom (entryAt k entries) state rest) same (later .0)),
+        later .1 ∙ ap (λ (state : ℕ). walk (entryAt k entries) state rest) same,
       )
 
   pub followed↔path : (r : List ℕ) (last : ℕ) → AllBelow k r
-      → Followed (tableBytes entryWidth entries) k 0 r last ↔ (IsPath (entry-at k entries) r × (last ≡ walk (entry-at k entries) 0 r))
+      → Followed (tableBytes entryWidth entries) k 0 r last ↔ (IsPath (entryAt k entries) r × (last ≡ walk (entryAt k entries) 0 r))
   followed↔path r last letters = (
     followed-path 0 last r (whole .some-row) letters,
     λ path. subst (Followed (entryBytes entries) k 0 r) (sym (path .1)) (path-followed 0 r (whole .some-row) letters (path .0)),
   )
 
   -- so a record can be followed by steps exactly if it is a path
-  pub path↔followed : (r : List ℕ) → AllBelow k r → IsPath (entry-at k entries) r ↔ ((last : ℕ) × Followed (tableBytes entryWidth entries) k 0 r last)
+  pub path↔followed : (r : List ℕ) → AllBelow k r → IsPath (entryAt k entries) r ↔ ((last : ℕ) × Followed (tableBytes entryWidth entries) k 0 r last)
   path↔followed r letters = (
-    λ path. (walk (entry-at k entries) 0 r, path-followed 0 r (whole .some-row) letters path),
+    λ path. (walk (entryAt k entries) 0 r, path-followed 0 r (whole .some-row) letters path),
     λ followed. followed-path 0 (followed .0) r (whole .some-row) letters (followed .1) .0,
   )

@@ -8,7 +8,7 @@ use lib.ListN.{length}
 use Rattle.step.specs.Step.{StepAnswer}
 use Rattle.step.specs.RunningPlace.{Refused, mostSteps, stepsAfter}
 use Rattle.step.specs.RunningPlace.PlaceAfter.{changed}
-use Rattle.step.specs.Executable.{placeOf}
+use Rattle.step.specs.Executable.{placeNext}
 use Rattle.step.specs.Followed.{Followed, placesOf}
 use Rattle.step.specs.Followed.Followed.{stays, steps}
 use Rattle.step.specs.declared.Place.{Place}
@@ -16,7 +16,7 @@ use Rattle.step.proofs.Answers.{placeOf-step, placeStep-unique}
 
 -- the place after a step that moves
 moved-place : {table : List ℕ} {letters letter next : ℕ} (before : Place) → StepAnswer table letters (before .state) letter next → ¬ Refused table letters (before .state) letter
-    → placeOf table letters letter before ≡ record { state = next; steps = stepsAfter (before .steps) }
+    → placeNext table letters letter before ≡ record { state = next; steps = stepsAfter (before .steps) }
 moved-place {table} {letters} {letter} before answer unrefused =
     placeStep-unique (placeOf-step table letters letter before) (record { answers = answer; place = changed unrefused }) .1
 

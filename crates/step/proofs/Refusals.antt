@@ -6,10 +6,10 @@ use mathlib.Core.List.{List}
 use native.Mathlib.Nat.{div-add-mod', div-mul-le-self, mul-mod-left, mul-le-mul-right, suc-mul, mul-assoc}
 use native.Mathlib.Omega.{arith}
 use lib.ListN.{length}
-use Rattle.automaton.specs.Table.{no-state}
-use Rattle.step.specs.Step.{rowBytes, rowsOf, mostRows, entryOf, refusedBy, Refusal11, StepAnswer}
+use Rattle.automaton.specs.Table.{noState}
+use Rattle.step.specs.Step.{rowBytes, rowCount, mostRows, entryFollowed, refusedStep, Refusal11, StepAnswer}
 use Rattle.step.specs.Step.Refusal11.{noLetters, notWholeRows, tooManyRows, stateOutside, letterOutside, noRow}
-use Rattle.step.specs.Step.Refusal12.{noState}
+use Rattle.step.specs.Step.Refusal12.{missing}
 use Rattle.step.specs.Step.StepAnswer.{refused11, refused12, moves}
 
 -- a length that leaves a rest is the length of no number of rows
@@ -24,8 +24,8 @@ noRest→whole len row none = let all : len / row * row + len % row ≡ len = di
 pub record Sound (table : List ℕ) (letters state letter : ℕ) : Type 0 where
   pub some-letter : letters ≢ 0
   pub whole-rows : length table % rowBytes letters ≡ 0
-  pub few-rows : rowsOf table letters ≤ mostRows
-  pub is-state : state < rowsOf table letters
+  pub few-rows : rowCount table letters ≤ mostRows
+  pub is-state : state < rowCount table letters
   pub is-letter : letter < letters
 
 -- the two bytes of the entry then lie within the table
@@ -40,26 +40,26 @@ entry-within table letters state letter sound =
 
 -- and refusal 11 applies only by the entry
 pub not-refusal11 : {table : List ℕ} {letters state letter : ℕ} → Sound table letters state letter
-    → (entryOf table letters state letter ≢ no-state → entryOf table letters state letter < rowsOf table letters)
+    → (entryFollowed table letters state letter ≢ noState → entryFollowed table letters state letter < rowCount table letters)
     → ¬ Refusal11 table letters state letter
 not-refusal11 sound row (noLetters none) = sound .some-letter none
 not-refusal11 {table} {letters} sound row (notWholeRows no-length) =
-    no-length (rowsOf table letters) (noRest→whole (length table) (rowBytes letters) (sound .whole-rows))
+    no-length (rowCount table letters) (noRest→whole (length table) (rowBytes letters) (sound .whole-rows))
 not-refusal11 sound row (tooManyRows many) = omega arith
 not-refusal11 sound row (stateOutside outside) = omega arith
 not-refusal11 sound row (letterOutside outside) = omega arith
 not-refusal11 sound row (noRow beyond some-state) = let below = row some-state in omega arith
 
 -- the three answers, where the entry was read
-module _ {table : List ℕ} {letters state letter : ℕ} (sound : Sound table letters state letter) (entry : ℕ) (read : entry ≡ entryOf table letters state letter) where
-  pub answers-12 : entry ≡ no-state → StepAnswer table letters state letter (refusedBy 12)
+module _ {table : List ℕ} {letters state letter : ℕ} (sound : Sound table letters state letter) (entry : ℕ) (read : entry ≡ entryFollowed table letters state letter) where
+  pub answers-12 : entry ≡ noState → StepAnswer table letters state letter (refusedStep 12)
   answers-12 none =
-      refused12 (not-refusal11 sound (λ some. absurd (some (sym read ∙ none)))) (noState (sym read ∙ none))
+      refused12 (not-refusal11 sound (λ some. absurd (some (sym read ∙ none)))) (missing (sym read ∙ none))
 
-  pub answers-11 : entry ≢ no-state → rowsOf table letters ≤ entry → StepAnswer table letters state letter (refusedBy 11)
+  pub answers-11 : entry ≢ noState → rowCount table letters ≤ entry → StepAnswer table letters state letter (refusedStep 11)
   answers-11 some beyond = refused11 (noRow (omega arith) (λ none. some (read ∙ none)))
 
-  pub answers-state : entry ≢ no-state → entry < rowsOf table letters → StepAnswer table letters state letter entry
+  pub answers-state : entry ≢ noState → entry < rowCount table letters → StepAnswer table letters state letter entry
   answers-state some below =
       subst (StepAnswer table letters state letter) (sym read)
-      (moves (not-refusal11 sound (λ _. omega arith)) (elim [ noState none ↦ some (read ∙ none) ]))
+      (moves (not-refusal11 sound (λ _. omega arith)) (elim [ missing none ↦ some (read ∙ none) ]))

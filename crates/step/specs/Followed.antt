@@ -5,10 +5,10 @@ use mathlib.Core.Path.{_≡_}
 use mathlib.Core.Logic.{_⊎_, _≢_}
 use mathlib.Core.List.{List, [], _∷_}
 use lib.ListN.{length, getD}
-use Rattle.automaton.specs.Table.{no-state}
+use Rattle.automaton.specs.Table.{noState}
 use Rattle.step.specs.Step.{StepAnswer, mostRows}
 use Rattle.step.specs.RunningPlace.{Refused}
-use Rattle.step.specs.Executable.{placeOf}
+use Rattle.step.specs.Executable.{placeNext}
 use Rattle.step.specs.declared.Place.{Place}
 
 -- The record leads by steps from the first state to the second: no step is refused, and each is taken from the state that the
@@ -21,7 +21,7 @@ pub data Followed (table : List ℕ) (letters : ℕ) : ℕ → List ℕ → ℕ 
 -- The running place after a step for each letter of the record, in turn.
 abbrev pub placesOf : List ℕ → ℕ → Place → List ℕ → Place
 placesOf table letters place [] = place
-placesOf table letters place (letter ∷ rest) = placesOf table letters (placeOf table letters letter place) rest
+placesOf table letters place (letter ∷ rest) = placesOf table letters (placeNext table letters letter place) rest
 
 -- The entries of a table with n rows for k letters: "An entry is the next state, or 65,535 for none."
 pub record WholeTable (k n : ℕ) (entries : List ℕ) : Type 0 where
@@ -29,4 +29,4 @@ pub record WholeTable (k n : ℕ) (entries : List ℕ) : Type 0 where
   pub some-row : 0 < n
   pub few-rows : n ≤ mostRows
   pub whole-rows : length entries ≡ n * k
-  pub state-or-none : (i : ℕ) → i < length entries → (getD entries i 0 < n) ⊎ (getD entries i 0 ≡ no-state)
+  pub state-or-none : (i : ℕ) → i < length entries → (getD entries i 0 < n) ⊎ (getD entries i 0 ≡ noState)

@@ -4,21 +4,6 @@ ghost use Prim.Native.Nat.{_<_, _≤_, _+_};
 ghost use lib.ListN.{length};
 use step::Place;
 
-fn wide(b: u8) -> u32
-    ensures { λ r. ⌜ r < 256 ⌝ }
-{
-    b as u32
-}
-
-// The number whose four bytes stand at this place.
-fn number(all: &[u8], at: usize) -> u32
-    requires { ⌜ at + 4 ≤ length (now all) ⌝ }
-{
-    let low = wide(all[at]) + wide(all[at + 1]) * 256;
-    let high = wide(all[at + 2]) + wide(all[at + 3]) * 256;
-    low + high * 65536
-}
-
 fn print(n: u32, end: &[u8]) {
     io::print_decimal(1, n as u64);
     io::write_all(1, end);
@@ -28,11 +13,11 @@ fn print(n: u32, end: &[u8]) {
 fn answer(all: &[u8], at: usize, table: &[u8])
     requires { ⌜ at + 20 ≤ length (now all) ⌝ }
 {
-    let letters = number(all, at + 4);
-    let letter = number(all, at + 8);
+    let letters = cases::number(all, at + 4);
+    let letter = cases::number(all, at + 8);
     let place = Place {
-        state: number(all, at + 12),
-        steps: number(all, at + 16),
+        state: cases::number(all, at + 12),
+        steps: cases::number(all, at + 16),
     };
     let after = step::step_place(place, table, letters, letter);
     let reached = after.place;
@@ -51,7 +36,7 @@ fn one(all: &[u8], at: usize) -> usize
         return end;
     }
     let start = at + 20;
-    let size = number(all, at) as usize;
+    let size = cases::number(all, at) as usize;
     if end - start < size {
         return end;
     }

@@ -6,9 +6,10 @@ use mathlib.Core.List.{List, [], _∷_, _++_, List·Memᴰ, List·Memᴰ·head, 
 use native.Mathlib.Omega.{arith}
 use lib.Dec.{T, eqb}
 use lib.ListN.{length}
+use Rattle.basics.proofs.Reflects.{T-reflects, to-true, to-false}
+use Rattle.basics.proofs.Tests.{and-left, and-right, and-both, not-passed}
 use Rattle.text.specs.Bytes.{Token, ByteClass, bracket, inside, between, isBracket, isInside, classFrom, classOf, startsInside, extendFirst, addToTokens, tokens, addToLines, lines}
 use Rattle.text.specs.Token.{allBytes}
-use Rattle.text.proofs.Reflects.{and-left, and-right, and-both, not-passed, T-reflects, to-true, to-false}
 
 -- What the class of a byte says about it.
 pub data HasClass (b : ℕ) : ByteClass → Type 0 where

@@ -1,4 +1,3 @@
-pub mod Reflects
 pub mod Token
 pub mod Bytes
 mod Examples

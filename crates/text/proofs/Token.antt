@@ -8,9 +8,10 @@ use mathlib.Core.Logic.{_⊎_, inl, inr}
 use native.Mathlib.Omega.{arith}
 use lib.Dec.{T, eqb, leb→le}
 use borrow.Author.Tests.{eqb-true}
+use Rattle.basics.proofs.Tests.{and-left, and-right}
+use Rattle.basics.proofs.Reflects.{Reflects, holds, fails, reflects-iff, or-reflects, and-reflects, eqb-reflects, T-reflects}
 use Rattle.text.specs.Bytes.{Token, bytesOf, tokens}
 use Rattle.text.specs.Token.{allBytes, sameBytes, isOneOf, isName, isNatural, isInteger, naturalFrom, reservedWords}
-use Rattle.text.proofs.Reflects.{Reflects, holds, fails, reflects-iff, or-reflects, and-reflects, eqb-reflects, T-reflects, and-left, and-right}
 
 -- `sameBytes` decides equality.
 pub sameBytes-reflects : (s t : List ℕ) → Reflects (s ≡ t) (sameBytes s t)

@@ -1,7 +1,7 @@
 -- Bytes, lines and tokens (document 01, "The sheet"). No bound of the sheet stands here: records are read with it too.
 use Prim.Native.Nat.{ℕ}
 use Prim.Native.String.{String}
-use Prim.Native.Char.{Char, code}
+use Prim.Native.Char.{code}
 use mathlib.Core.Bool.{Bool, true, false, not, _&&_, _||_}
 use mathlib.Core.List.{List, [], _∷_}
 use lib.Dec.{leb, eqb}

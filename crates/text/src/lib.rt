@@ -1,5 +1,4 @@
 ghost use mathlib.Core.Path.{_≡_};
-ghost use lib.Dec.{ltb};
 ghost use Rattle.text.specs.Bytes.{isBracket};
 
 // A byte that is a token by itself.

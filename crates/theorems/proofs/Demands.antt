@@ -14,31 +14,29 @@ use mathlib.Core.List.{List, [], _∷_, map}
 use lib.Dec.{T, eqb, eqb→eq}
 use lib.ListN.{length, take, replicate}
 use Rattle.automaton.specs.Table.{IsPath}
-use Rattle.automaton.specs.Stored.{StoredTable, SameUsedRows, entry-at}
+use Rattle.automaton.specs.Stored.{StoredTable, SameUsedRows, entryAt}
 use Rattle.automaton.proofs.Paths.{has-solution}
 use Rattle.meaning.specs.Value.{Streams}
-use Rattle.meaning.specs.Arithmetic.{cutTowardZero}
 use Rattle.meaning.specs.Expression.{Sheet, Solution}
 use Rattle.meaning.specs.Letter.{Record, OfLetters, letterCount, letterNumber, SolutionWord}
 use Rattle.meaning.specs.Situation.{SituationCount}
-use Rattle.meaning.specs.NormalForm.{normalForm, ExtendsUniquely}
+use Rattle.meaning.specs.NormalForm.{NormalSolution, ExtendsUniquely}
 use Rattle.meaning.specs.Scope.{AgreeBelow, NamesKnown}
-use Rattle.meaning.proofs.Arithmetic.{cutTowardZero-lawful}
 use Rattle.meaning.proofs.NormalForm.{extends-uniquely, cut-back}
-use Rattle.sheet.specs.Form.{threeHeaderLines, HasForm}
+use Rattle.sheet.specs.Form.{HasForm}
 use Rattle.sheet.specs.Refusal.{sheet, AnswerTo, accepted}
 use Rattle.sheet.proofs.Form.{form-unique, form-decided}
 use Rattle.sheet.proofs.Accepted.{accepted-facts}
 use Rattle.outcome.specs.Room.{zeroTables}
-use Rattle.outcome.specs.Compile.{CompileAnswer, refusedBy, situationBound, Room, Tables, allZero, HoldsTable, tooManySituations, tooFewRows, noSolution, compiled, CompileCall, unread, read}
-use Rattle.outcome.specs.NormalForm.{NormalAnswer, notGiven, NormalOutcome, unread, tooShort, given}
+use Rattle.outcome.specs.Compile.{CompileAnswer, refusedAnswer, situationBound, Room, Tables, allZero, HoldsSheetTable, tooManySituations, tooFewRows, noSolution, compiled, CompileCall, unread, read}
+use Rattle.outcome.specs.NormalForm.{NormalAnswer, refusedNormalAnswer, NormalOutcome, unread, tooShort, given}
 use Rattle.outcome.proofs.Answers.{one-sheet}
 use Rattle.outcome.proofs.AcceptedCompile.{accepted-compile, refusal-in-range}
 use Rattle.outcome.proofs.CompileUnique.{compile-unique}
 use Rattle.outcome.proofs.StateCount.{states-at-most-situations}
 use Rattle.stored.specs.Number.{tableBytes}
 use Rattle.step.specs.declared.Place.{Place}
-use Rattle.step.specs.Step.{StepAnswer, refused11, refused12, moves, refusedBy as stepRefused, entryWidth}
+use Rattle.step.specs.Step.{StepAnswer, refused11, refused12, moves, refusedStep, entryWidth}
 use Rattle.step.specs.RunningPlace.{PlaceAfter, unchanged, changed, PlaceStep}
 use Rattle.step.specs.Followed.{Followed}
 use Rattle.step.proofs.Answers.{answer-refused}
@@ -50,19 +48,19 @@ use Rattle.theorems.proofs.Refusals.{given-unique, given-rest, of-form,
 
 -- The text is this sheet, and none of refusals 1 to 7 applies.
 abbrev pub ReadAs : List ℕ → Sheet → Type 0
-ReadAs text s = AnswerTo cutTowardZero threeHeaderLines text (sheet s)
+ReadAs text s = AnswerTo text (sheet s)
 
 abbrev pub Solves : Sheet → Streams → Type 0
-Solves s w = Solution cutTowardZero s w
+Solves s w = Solution s w
 
 abbrev pub Unsolved : Sheet → Type 0
 Unsolved s = (w : Streams) → Solves s w → ⊥
 
 -- No refusal, the number of the sheet's situations, and its table.
 abbrev pub GivesTable : Sheet → Room → CompileAnswer → Tables → Type 0
-GivesTable s room a t = (a .refusal ≡ 0) × SituationCount cutTowardZero s (a .situations) × HoldsTable cutTowardZero s room (a .states) t
+GivesTable s room a t = (a .refusal ≡ 0) × SituationCount s (a .situations) × HoldsSheetTable s room (a .states) t
 
-read-form : {text : List ℕ} {s : Sheet} → ReadAs text s → HasForm threeHeaderLines text s
+read-form : {text : List ℕ} {s : Sheet} → ReadAs text s → HasForm text s
 read-form (accepted a b c d e f g h) = h
 
 read-known : {text : List ℕ} {s : Sheet} → ReadAs text s → NamesKnown s
@@ -83,10 +81,10 @@ module _ {text : List ℕ} {room : Room} {a : CompileAnswer} {t : Tables} (call 
       go (read r (compiled e x)) = omega arith
 
   -- "A refusal returns its number with states and situations 0." "After a refused compile every lent table is zero" (demand 1).
-  pub refused-zero : 0 < a .refusal → (a ≡ refusedBy (a .refusal)) × (t ≡ allZero room)
+  pub refused-zero : 0 < a .refusal → (a ≡ refusedAnswer (a .refusal)) × (t ≡ allZero room)
   refused-zero h = go call h
     where
-      go : {b : CompileAnswer} {u : Tables} → CompileCall text room b u → 0 < b .refusal → (b ≡ refusedBy (b .refusal)) × (u ≡ allZero room)
+      go : {b : CompileAnswer} {u : Tables} → CompileCall text room b u → 0 < b .refusal → (b ≡ refusedAnswer (b .refusal)) × (u ≡ allZero room)
       go (unread r) h = (refl, refl)
       go (read r (tooManySituations x y)) h = (refl, refl)
       go (read r (tooFewRows x y)) h = (refl, refl)
@@ -110,49 +108,49 @@ module _ {text : List ℕ} {room : Room} {a : CompileAnswer} {t : Tables} (call 
     abbrev k : ℕ
     k = letterCount (s .streams)
 
-    held : HoldsTable cutTowardZero s room (a .states) t
+    held : HoldsSheetTable s room (a .states) t
     held =
         let c = accepted-compile call accepted in
-        subst (λ q. HoldsTable cutTowardZero q room (a .states) t) (one-sheet (c .read) read) (c .held)
+        subst (λ q. HoldsSheetTable q room (a .states) t) (one-sheet (c .read) read) (c .held)
 
     -- Streams are a solution exactly if the table can be followed along them from its start without a missing entry and meets final states again
     -- and again.
     pub solution↔table : (w : Streams) → Solves s w ↔ FollowedAlong (s .streams) (t .entries) (t .finals) w
-    solution↔table w = solution↔followed cutTowardZero s (read-known read) (held .table) w
+    solution↔table w = solution↔followed s (read-known read) (held .table) w
 
     -- ---- demand 3, the paths
 
     -- A record of letters, the empty one too, is a path from the start exactly if it begins a solution.
     pub path↔solution : (r : Record) → OfLetters (s .streams) r
-        → IsPath (entry-at k (t .entries)) (map (letterNumber (s .streams)) r) ↔ BeginsSolution cutTowardZero s r
-    path↔solution r h = path↔begins-solution cutTowardZero s (read-known read) (held .table) r h
+        → IsPath (entryAt k (t .entries)) (map (letterNumber (s .streams)) r) ↔ BeginsSolution s r
+    path↔solution r h = path↔begins-solution s (read-known read) (held .table) r h
 
     few-states : a .states ≤ situationBound
     few-states =
         let c = accepted-compile call accepted in
-        omega (arith, states-at-most-situations cutTowardZero (c .source) (c .held .table .table) (c .fit .counted), c .fit .withinBound)
+        omega (arith, states-at-most-situations (c .source) (c .held .table .table) (c .fit .counted), c .fit .withinBound)
 
     -- The same for steps along the bytes of the used rows, from state 0: no step is refused exactly if the record begins a solution.
     pub steps↔solution : (r : Record) → OfLetters (s .streams) r
-        → ((last : ℕ) × Followed (tableBytes entryWidth (take (a .states * k) (t .entries))) k 0 (map (letterNumber (s .streams)) r) last) ↔ BeginsSolution cutTowardZero s r
+        → ((last : ℕ) × Followed (tableBytes entryWidth (take (a .states * k) (t .entries))) k 0 (map (letterNumber (s .streams)) r) last) ↔ BeginsSolution s r
     steps↔solution r h =
         let steps = path↔steps (held .table) few-states (map (letterNumber (s .streams)) r) (all-below r h) in
         (λ f. path↔solution r h .0 (steps .1 f), λ b. steps .0 (path↔solution r h .1 b))
 
     -- The numbers reported are the numbers of states of the sheet's table and of its distinct situations.
-    pub situations-counted : SituationCount cutTowardZero s (a .situations)
+    pub situations-counted : SituationCount s (a .situations)
     situations-counted =
         let c = accepted-compile call accepted in
-        subst (λ q. SituationCount cutTowardZero q (a .situations)) (one-sheet (c .read) read) (c .fit .counted)
+        subst (λ q. SituationCount q (a .situations)) (one-sheet (c .read) read) (c .fit .counted)
 
-    pub table-stored : StoredTable (SolutionWord cutTowardZero s) k (a .states) (t .entries) (t .finals)
+    pub table-stored : StoredTable (SolutionWord s) k (a .states) (t .entries) (t .finals)
     table-stored = held .table
 
   -- ---- demand 3, which answer is given
 
   -- Answer and tables are settled: a call with the same bytes and the same room gives the same.
   pub one-outcome : {b : CompileAnswer} {u : Tables} → CompileCall text room b u → (a ≡ b) × (t ≡ u)
-  one-outcome c = compile-unique cutTowardZero threeHeaderLines text room call c
+  one-outcome c = compile-unique text room call c
 
   -- Each of 1 to 10 is given exactly if its condition holds and that of none before it, and none is given exactly if no condition holds. At a
   -- numeral the right side is those conditions (`Refusals.three-is`).
@@ -163,7 +161,7 @@ module _ {text : List ℕ} {room : Room} {a : CompileAnswer} {t : Tables} (call 
 
   -- ---- demand 3, where none of refusals 1 to 8 and 10 applies, "by their conditions as written"
 
-  module _ (none : NoneApplies text room) {s : Sheet} (form : HasForm threeHeaderLines text s) where
+  module _ (none : NoneApplies text room) {s : Sheet} (form : HasForm text s) where
     -- The compile gives 9 and there is no solution; or it gives no refusal, the number of situations and the table.
     pub nine-or-table : ((a .refusal ≡ 9) × Unsolved s) ⊎ GivesTable s room a t
     nine-or-table = go (eqb (a .refusal) 9) refl (given-rest (othersThanNine text room) (nine text ∷ []) (a .refusal) none (call-given text room call))
@@ -183,10 +181,10 @@ module _ {text : List ℕ} {room : Room} {a : CompileAnswer} {t : Tables} (call 
         go (inr x) = (λ e. absurd (omega (arith, x .0)), λ f. absurd (has-solution (x .2 .table .table) (λ w b h. f _ (h .solves))))
 
 -- There is one sheet that the text has the form of, and only one.
-pub one-form : {text : List ℕ} {room : Room} → NoneApplies text room → (s : Sheet) × HasForm threeHeaderLines text s × ((q : Sheet) → HasForm threeHeaderLines text q → q ≡ s)
-one-form {text} none = go (form-decided threeHeaderLines text)
+pub one-form : {text : List ℕ} {room : Room} → NoneApplies text room → (s : Sheet) × HasForm text s × ((q : Sheet) → HasForm text q → q ≡ s)
+one-form {text} none = go (form-decided text)
   where
-    go : Dec ((s : Sheet) × HasForm threeHeaderLines text s) → (s : Sheet) × HasForm threeHeaderLines text s × ((q : Sheet) → HasForm threeHeaderLines text q → q ≡ s)
+    go : Dec ((s : Sheet) × HasForm text s) → (s : Sheet) × HasForm text s × ((q : Sheet) → HasForm text q → q ≡ s)
     go (yes x) = (x .0, x .1, λ q f. form-unique f (x .1))
     go (no f) = absurd (none .1 .1 .0 (record { formless = λ s h. f (s, h) }))
 
@@ -194,7 +192,7 @@ one-form {text} none = go (form-decided threeHeaderLines text)
 
 -- "The normal form can meet 1 to 7 and 10, and leaves its list zero."
 pub refused-list-zero : {E : Type 0} {blank : E} {encoded : Sheet → List E} {text : List ℕ} {room : ℕ} {b : NormalAnswer} {l : List E}
-    → NormalOutcome blank encoded cutTowardZero threeHeaderLines text room b l → 0 < b .refusal → (b ≡ notGiven (b .refusal)) × (l ≡ replicate room blank)
+    → NormalOutcome blank encoded text room b l → 0 < b .refusal → (b ≡ refusedNormalAnswer (b .refusal)) × (l ≡ replicate room blank)
 refused-list-zero (unread r) h = (refl, refl)
 refused-list-zero (tooShort r x) h = (refl, refl)
 refused-list-zero (given r x) h = absurd (omega arith)
@@ -208,10 +206,10 @@ module _ {table : List ℕ} {letters letter : ℕ} {before after : Place} {r : �
       go (unchanged x) = refl
       go (changed x) = absurd (x (answer-refused (step .answers) refused))
 
-  pub refused-step-numbered : (r ≡ stepRefused 11) ⊎ (r ≡ stepRefused 12)
+  pub refused-step-numbered : (r ≡ refusedStep 11) ⊎ (r ≡ refusedStep 12)
   refused-step-numbered = go (step .answers) refused
     where
-      go : {q : ℕ} → StepAnswer table letters (before .state) letter q → 65536 ≤ q → (q ≡ stepRefused 11) ⊎ (q ≡ stepRefused 12)
+      go : {q : ℕ} → StepAnswer table letters (before .state) letter q → 65536 ≤ q → (q ≡ refusedStep 11) ⊎ (q ≡ refusedStep 12)
       go (refused11 x) h = inl refl
       go (refused12 x y) h = inr refl
       go (moves x y) h = elim (answer-refused (moves x y) h) [ inl z ↦ absurd (x z) | inr z ↦ absurd (y z) ]
@@ -220,12 +218,12 @@ module _ {table : List ℕ} {letters letter : ℕ} {before after : Place} {r : �
 
 module _ {text : List ℕ} {s : Sheet} (read : ReadAs text s) where
   -- Each solution extends to the normal form in one way only;
-  pub extends-in-one-way : {w : Streams} → Solves s w → ExtendsUniquely cutTowardZero s w
-  extends-in-one-way h = extends-uniquely cutTowardZero s cutTowardZero-lawful (read-known read) h
+  pub extends-in-one-way : {w : Streams} → Solves s w → ExtendsUniquely s w
+  extends-in-one-way h = extends-uniquely s (read-known read) h
 
   -- each solution of the normal form, cut back, solves the sheet.
-  pub cut-back-solves : {v w : Streams} → Solves (normalForm cutTowardZero s) v → AgreeBelow (length (s .streams)) v w → Solves s w
-  cut-back-solves h g = cut-back cutTowardZero s (read-known read) h g
+  pub cut-back-solves : {v w : Streams} → NormalSolution s v → AgreeBelow (length (s .streams)) v w → Solves s w
+  cut-back-solves h g = cut-back s (read-known read) h g
 
 -- ---- demand 3, two accepted sheets over the same streams, whatever room was lent
 
@@ -235,9 +233,9 @@ over s q e = λ i. record { streams = e i; constraints = q .constraints }
 
 pub equal-rows↔same-solutions : {text text′ : List ℕ} {room room′ : Room} {a a′ : CompileAnswer} {t t′ : Tables} → CompileCall text room a t → CompileCall text′ room′ a′ t′
     → {s s′ : Sheet} → ReadAs text s → ReadAs text′ s′ → a .refusal ≡ 0 → a′ .refusal ≡ 0 → s′ .streams ≡ s .streams
-    → SameUsedRows (letterCount (s .streams)) (a .states) (t .entries) (t .finals) (a′ .states) (t′ .entries) (t′ .finals) ↔ HaveSameSolutions cutTowardZero s s′
+    → SameUsedRows (letterCount (s .streams)) (a .states) (t .entries) (t .finals) (a′ .states) (t′ .entries) (t′ .finals) ↔ HaveSameSolutions s s′
 equal-rows↔same-solutions {a = a} {a′ = a′} {t = t} {t′ = t′} call call′ {s} {s′} r r′ e e′ same =
     let p = over s s′ same in
-    subst (λ q. SameUsedRows (letterCount (s .streams)) (a .states) (t .entries) (t .finals) (a′ .states) (t′ .entries) (t′ .finals) ↔ HaveSameSolutions cutTowardZero s q) (sym p)
-    (used-rows↔same-solutions cutTowardZero (s .streams) (s .constraints) (s′ .constraints) (read-known r) (subst NamesKnown p (read-known r′)) (table-stored call r e)
-    (subst (λ q. StoredTable (SolutionWord cutTowardZero q) (letterCount (q .streams)) (a′ .states) (t′ .entries) (t′ .finals)) p (table-stored call′ r′ e′)))
+    subst (λ q. SameUsedRows (letterCount (s .streams)) (a .states) (t .entries) (t .finals) (a′ .states) (t′ .entries) (t′ .finals) ↔ HaveSameSolutions s q) (sym p)
+    (used-rows↔same-solutions (s .streams) (s .constraints) (s′ .constraints) (read-known r) (subst NamesKnown p (read-known r′)) (table-stored call r e)
+    (subst (λ q. StoredTable (SolutionWord q) (letterCount (q .streams)) (a′ .states) (t′ .entries) (t′ .finals)) p (table-stored call′ r′ e′)))

@@ -1,30 +1,28 @@
 -- Streams in their ranges, the words of their letter numbers, and records: a table of the sheet's solution words is followed along exactly the
 -- solutions, its paths are the records that begin one, and two tables agree exactly if the sheets have the same solutions. From the laws of tables
 -- (automaton) and of letters and words (meaning).
-use Prim.Native.Nat.{ℕ, zero, suc, _≤_, _<_}
+use Prim.Native.Nat.{ℕ, zero, suc, _<_}
 use native.Mathlib.Omega.{arith}
 use mathlib.Core.Path.{_≡_, refl, sym, _∙_, ap, subst}
 use mathlib.Core.Logic.{_↔_}
 use mathlib.Core.List.{List, [], _∷_, map, List·Memᴰ·head, List·Memᴰ·tail}
 use lib.IntN.{pos}
 use lib.ListN.{length, getD, length-map}
-use lib.Seq.{ext-getD}
-use Rattle.automaton.specs.Words.{Word, tail, prefix, suffix, append, InRange, AllBelow}
-use Rattle.automaton.specs.Solutions.{SameSolutions, Begins, Continuation}
-use Rattle.automaton.specs.Table.{run, IsPath, Accepted}
-use Rattle.automaton.specs.Stored.{StoredTable, SameUsedRows, entry-at, final-at}
+use Rattle.basics.proofs.Lists.{getD-map}
+use Rattle.automaton.specs.Words.{Word, tail, prefix, suffix, append, AllBelow}
+use Rattle.automaton.specs.Solutions.{SameSolutions, Begins}
+use Rattle.automaton.specs.Table.{IsPath, AcceptedWord}
+use Rattle.automaton.specs.Stored.{StoredTable, SameUsedRows, entryAt, finalAt}
 use Rattle.automaton.proofs.Words.{append-prefix-suffix, in-range-suffix}
 use Rattle.automaton.proofs.Acceptance.{solution↔accepted}
 use Rattle.automaton.proofs.Equality.{used-rows↔solutions}
 use Rattle.automaton.proofs.Paths.{run-walk, path↔begins, follows↔paths}
 use Rattle.meaning.specs.Value.{Streams}
-use Rattle.meaning.specs.Arithmetic.{Arithmetic}
 use Rattle.meaning.specs.Expression.{Stream, Constraint, Sheet, Solution}
-use Rattle.meaning.specs.Letter.{Letter, Record, IsLetter, none, more, OfLetters, letterCount, letterNumber, letterOf, spell, streamsOf, letterWith, wordOf, SolutionWord}
-use Rattle.meaning.proofs.Lists.{getD-map}
+use Rattle.meaning.specs.Letter.{Letter, Record, IsLetter, none, more, OfLetters, letterCount, letterNumber, letterOf, spell, letterWith, wordOf, SolutionWord}
 use Rattle.meaning.specs.Scope.{NamesKnown}
 use Rattle.meaning.proofs.Letter.{letterNumber-bound, letterOf-letterNumber}
-use Rattle.meaning.proofs.Word.{wordOf-spells, spell-ranged, solution-word}
+use Rattle.meaning.proofs.Word.{wordOf-spells, solution-word}
 use Rattle.outcome.proofs.SheetWords.{solutions-settle}
 use Rattle.theorems.specs.Following.{FollowedAlong, BeginsSolution, HaveSameSolutions}
 
@@ -58,7 +56,7 @@ pub all-below : {ss : List Stream} (r : Record) → OfLetters ss r → AllBelow 
 all-below [] h = tt
 all-below (l ∷ r) h = (letterNumber-bound (h l (List·Memᴰ·head refl)), all-below r (λ m p. h m (List·Memᴰ·tail p)))
 
-module _ (A : Arithmetic) (s : Sheet) (known : NamesKnown s) where
+module _ (s : Sheet) (known : NamesKnown s) where
   abbrev ss : List Stream
   ss = s .streams
 
@@ -66,42 +64,42 @@ module _ (A : Arithmetic) (s : Sheet) (known : NamesKnown s) where
   k = letterCount ss
 
   -- Streams are a solution exactly if they are in their ranges and the word of their letter numbers is a solution word.
-  solution-numbers : (w : Streams) → Solution A s w → SolutionWord A s (wordOf ss w)
-  solution-numbers w h = solution-word A known (wordOf-spells ss w (h .ranged)) .1 h
+  solution-numbers : (w : Streams) → Solution s w → SolutionWord s (wordOf ss w)
+  solution-numbers w h = solution-word known (wordOf-spells ss w (h .ranged)) .1 h
 
-  module _ {n : ℕ} {entries finals : List ℕ} (stored : StoredTable (SolutionWord A s) k n entries finals) where
+  module _ {n : ℕ} {entries finals : List ℕ} (stored : StoredTable (SolutionWord s) k n entries finals) where
     abbrev entry : ℕ → ℕ → ℕ
-    entry = entry-at k entries
+    entry = entryAt k entries
 
-    pub solution↔followed : (w : Streams) → Solution A s w ↔ FollowedAlong ss entries finals w
+    pub solution↔followed : (w : Streams) → Solution s w ↔ FollowedAlong ss entries finals w
     solution↔followed w = (to, from)
       where
-        to : Solution A s w → FollowedAlong ss entries finals w
+        to : Solution s w → FollowedAlong ss entries finals w
         to h =
             let x = wordOf ss w in
             let b = wordOf-spells ss w (h .ranged) .letters in
-            let a = solution↔accepted (stored .table) (solutions-settle A s) x b .0 (solution-numbers w h) in
+            let a = solution↔accepted (stored .table) (solutions-settle s) x b .0 (solution-numbers w h) in
             record {
               ranged = h .ranged;
               path = follows↔paths (stored .table) 0 x (stored .table .some-state) b .0 (a .follows);
-              again = λ m. let g = a .again m in (g .0, g .1, ap (final-at finals) (sym (run-walk entry (g .0) 0 x)) ∙ g .2);
+              again = λ m. let g = a .again m in (g .0, g .1, ap (finalAt finals) (sym (run-walk entry (g .0) 0 x)) ∙ g .2);
             }
 
-        from : FollowedAlong ss entries finals w → Solution A s w
+        from : FollowedAlong ss entries finals w → Solution s w
         from f =
             let x = wordOf ss w in
             let p = wordOf-spells ss w (f .ranged) in
-            let a : Accepted n entry (final-at finals) x = record {
+            let a : AcceptedWord n entry (finalAt finals) x = record {
               follows = follows↔paths (stored .table) 0 x (stored .table .some-state) (p .letters) .1 (f .path);
-              again = λ m. let g = f .again m in (g .0, g .1, ap (final-at finals) (run-walk entry (g .0) 0 x) ∙ g .2);
+              again = λ m. let g = f .again m in (g .0, g .1, ap (finalAt finals) (run-walk entry (g .0) 0 x) ∙ g .2);
             } in
-            solution-word A known p .0 (solution↔accepted (stored .table) (solutions-settle A s) x (p .letters) .1 a)
+            solution-word known p .0 (solution↔accepted (stored .table) (solutions-settle s) x (p .letters) .1 a)
 
     -- a record, the empty one too
-    pub path↔begins-solution : (r : Record) → OfLetters ss r → IsPath entry (map (letterNumber ss) r) ↔ BeginsSolution A s r
+    pub path↔begins-solution : (r : Record) → OfLetters ss r → IsPath entry (map (letterNumber ss) r) ↔ BeginsSolution s r
     path↔begins-solution r h = (to, from)
       where
-        to : IsPath entry (map (letterNumber ss) r) → BeginsSolution A s r
+        to : IsPath entry (map (letterNumber ss) r) → BeginsSolution s r
         to p =
             let g = path↔begins (stored .table) (map (letterNumber ss) r) (all-below r h) .0 p in
             record {
@@ -113,7 +111,7 @@ module _ (A : Arithmetic) (s : Sheet) (known : NamesKnown s) where
                   ap (λ a. getD (letterOf ss a) j (pos 0)) e ∙ ap (λ m. getD m j (pos 0)) (letterOf-letterNumber (getD-letter r i h l));
             }
 
-        from : BeginsSolution A s r → IsPath entry (map (letterNumber ss) r)
+        from : BeginsSolution s r → IsPath entry (map (letterNumber ss) r)
         from g =
             let w = g .solution in
             let x = wordOf ss w in
@@ -122,16 +120,16 @@ module _ (A : Arithmetic) (s : Sheet) (known : NamesKnown s) where
             ap (letterNumber ss) (letterWith-same ss (λ j. w j i) (λ j. getD (getD r i []) j (pos 0)) (λ j c. g .letters j i c l) ∙ letterWith-values (getD-letter r i h l)) in
             let e : prefix x (length (map (letterNumber ss) r)) ≡ map (letterNumber ss) r =
             prefix-list x (map (letterNumber ss) r) (λ i l. let l′ : i < length r = rw length-map at l in same i l′ ∙ sym (getD-map (letterNumber ss) r i [] 0 l′)) in
-            let c : Begins (SolutionWord A s) k (prefix x (length (map (letterNumber ss) r))) = record {
+            let c : Begins (SolutionWord s) k (prefix x (length (map (letterNumber ss) r))) = record {
               word = suffix x (length (map (letterNumber ss) r));
               in-range = in-range-suffix (length (map (letterNumber ss) r)) x b;
               continues = record { solves = rw (append-prefix-suffix x (length (map (letterNumber ss) r))) (solution-numbers w (g .solves)) };
             } in
-            path↔begins (stored .table) (map (letterNumber ss) r) (all-below r h) .1 (subst (Begins (SolutionWord A s) k) e c)
+            path↔begins (stored .table) (map (letterNumber ss) r) (all-below r h) .1 (subst (Begins (SolutionWord s) k) e c)
 
 -- ---- two sheets over the same streams
 
-module _ (A : Arithmetic) (ss : List Stream) (cs cs′ : List Constraint) where
+module _ (ss : List Stream) (cs cs′ : List Constraint) where
   abbrev S : Sheet
   S = record { streams = ss; constraints = cs }
 
@@ -139,18 +137,18 @@ module _ (A : Arithmetic) (ss : List Stream) (cs cs′ : List Constraint) where
   S′ = record { streams = ss; constraints = cs′ }
 
   module _ (known : NamesKnown S) (known′ : NamesKnown S′) where
-    words↔streams : SameSolutions (letterCount ss) (SolutionWord A S) (SolutionWord A S′) ↔ HaveSameSolutions A S S′
+    words↔streams : SameSolutions (letterCount ss) (SolutionWord S) (SolutionWord S′) ↔ HaveSameSolutions S S′
     words↔streams = (
       (λ e. record {
-        to = λ w h. let p = wordOf-spells ss w (h .ranged) in solution-word A known′ p .0 (e .to (wordOf ss w) (p .letters) (solution-word A known p .1 h));
-        from = λ w h. let p = wordOf-spells ss w (h .ranged) in solution-word A known p .0 (e .from (wordOf ss w) (p .letters) (solution-word A known′ p .1 h));
+        to = λ w h. let p = wordOf-spells ss w (h .ranged) in solution-word known′ p .0 (e .to (wordOf ss w) (p .letters) (solution-word known p .1 h));
+        from = λ w h. let p = wordOf-spells ss w (h .ranged) in solution-word known p .0 (e .from (wordOf ss w) (p .letters) (solution-word known′ p .1 h));
       }),
       λ e. record { to = λ x b h. record { solves = e .to (spell ss x) (h .solves) }; from = λ x b h. record { solves = e .from (spell ss x) (h .solves) } },
     )
 
     pub used-rows↔same-solutions : {n n′ : ℕ} {entries finals entries′ finals′ : List ℕ}
-        → StoredTable (SolutionWord A S) (letterCount ss) n entries finals → StoredTable (SolutionWord A S′) (letterCount ss) n′ entries′ finals′
-        → SameUsedRows (letterCount ss) n entries finals n′ entries′ finals′ ↔ HaveSameSolutions A S S′
+        → StoredTable (SolutionWord S) (letterCount ss) n entries finals → StoredTable (SolutionWord S′) (letterCount ss) n′ entries′ finals′
+        → SameUsedRows (letterCount ss) n entries finals n′ entries′ finals′ ↔ HaveSameSolutions S S′
     used-rows↔same-solutions a b =
-        let e = used-rows↔solutions (solutions-settle A S) (solutions-settle A S′) a b in
+        let e = used-rows↔solutions (solutions-settle S) (solutions-settle S′) a b in
         (λ r. words↔streams .0 (e .0 r), λ h. e .1 (words↔streams .1 h))

@@ -6,17 +6,18 @@ use mathlib.Core.Path.{_≡_, refl, sym, _∙_, subst}
 use mathlib.Core.Bool.{Bool, true, false, cond}
 use mathlib.Core.List.{List, [], _∷_, _++_}
 use lib.Dec.{T, eqb, eqb→eq}
+use Rattle.basics.proofs.Count.{count-excludes-more}
 use Rattle.automaton.proofs.Paths.{has-solution}
 use Rattle.meaning.specs.Value.{Streams}
-use Rattle.meaning.specs.Arithmetic.{cutTowardZero}
 use Rattle.meaning.specs.Expression.{Sheet, Solution}
 use Rattle.meaning.specs.Letter.{letterCount}
 use Rattle.meaning.specs.Situation.{MoreSituations}
-use Rattle.meaning.proofs.Count.{count-excludes-more}
-use Rattle.sheet.specs.Form.{threeHeaderLines, HasForm}
+use Rattle.sheet.proofs.Accepted.{accepted-facts}
+use Rattle.outcome.proofs.CompileTotal.{no-streams}
+use Rattle.sheet.specs.Form.{HasForm}
 use Rattle.sheet.specs.Refusal.{Answer, refused, sheet, AnswerTo, refused1, refused2, refused3, refused4, refused5, refused6, refused7, accepted, Refusal1, Refusal2, Refusal3}
 use Rattle.sheet.proofs.Form.{form-unique}
-use Rattle.outcome.specs.Compile.{CompileAnswer, situationBound, Room, roomRows, Tables, HoldsTable, SituationsFit, SheetOutcome, tooManySituations, tooFewRows, noSolution, compiled, CompileCall, unread, read}
+use Rattle.outcome.specs.Compile.{CompileAnswer, situationBound, Room, roomRows, Tables, HoldsSheetTable, SituationsFit, SheetOutcome, tooManySituations, tooFewRows, noSolution, compiled, CompileCall, unread, read}
 use Rattle.theorems.specs.Refusals.{Refusal8, Refusal9, Refusal10, Refusal, inOrder, NoneOf, IsGiven}
 
 -- ---- any list of refusals
@@ -42,12 +43,12 @@ given-rest (r ∷ rs) rest n f g = go (eqb n (r .number)) (given-rest rs rest n 
     go true later g = absurd (f .0 g)
     go false later g = later (g .1)
 
-pub of-form : {text : List ℕ} {s q : Sheet} → HasForm threeHeaderLines text s → (P : Sheet → Type 0) → HasForm threeHeaderLines text q → P q → P s
+pub of-form : {text : List ℕ} {s q : Sheet} → HasForm text s → (P : Sheet → Type 0) → HasForm text q → P q → P s
 of-form form P f x = subst P (form-unique f form) x
 
 module _ (text : List ℕ) (room : Room) where
   -- At a numeral `IsGiven` is the conditions themselves: that 3 is given says that 1 and 2 do not apply and 3 does.
-  pub three-is : IsGiven (inOrder text room) 3 ≡ ((Refusal1 text → ⊥) × ((Refusal2 threeHeaderLines text → ⊥) × Refusal3 threeHeaderLines text))
+  pub three-is : IsGiven (inOrder text room) 3 ≡ ((Refusal1 text → ⊥) × ((Refusal2 text → ⊥) × Refusal3 text))
   three-is = refl
 
   -- ---- refusals 1 to 7
@@ -56,7 +57,7 @@ module _ (text : List ℕ) (room : Room) where
   GivenBy (refused n) = IsGiven (inOrder text room) n
   GivenBy (sheet s) = Unit
 
-  answer-given : {a : Answer} → AnswerTo cutTowardZero threeHeaderLines text a → GivenBy a
+  answer-given : {a : Answer} → AnswerTo text a → GivenBy a
   unfolding GivenBy
   answer-given (refused1 r) = r
   answer-given (refused2 a r) = (a, r)
@@ -69,30 +70,30 @@ module _ (text : List ℕ) (room : Room) where
 
   -- ---- refusals 8 to 10, of the sheet that the text has the form of
 
-  module _ {s : Sheet} (form : HasForm threeHeaderLines text s) where
-    not-eight : {m : ℕ} → SituationsFit cutTowardZero s room m → Refusal8 text room → ⊥
+  module _ {s : Sheet} (form : HasForm text s) where
+    not-eight : {m : ℕ} → SituationsFit s room m → Refusal8 text room → ⊥
     not-eight fit r =
-        count-excludes-more cutTowardZero s (fit .counted) situationBound (fit .withinBound) (of-form form (λ q. MoreSituations cutTowardZero q situationBound) (r .form) (r .more))
+        count-excludes-more (fit .counted) situationBound (fit .withinBound) (of-form form (λ q. MoreSituations q situationBound) (r .form) (r .more))
 
-    not-ten : {m : ℕ} → SituationsFit cutTowardZero s room m → Refusal10 text room → ⊥
+    not-ten : {m : ℕ} → SituationsFit s room m → Refusal10 text room → ⊥
     not-ten fit r =
-        count-excludes-more cutTowardZero s (fit .counted) (roomRows room (letterCount (s .streams))) (fit .withinRoom)
-        (of-form form (λ q. MoreSituations cutTowardZero q (roomRows room (letterCount (q .streams)))) (r .form) (r .more))
+        count-excludes-more (fit .counted) (roomRows room (letterCount (s .streams))) (fit .withinRoom)
+        (of-form form (λ q. MoreSituations q (roomRows room (letterCount (q .streams)))) (r .form) (r .more))
 
     not-eight-few : roomRows room (letterCount (s .streams)) < situationBound → Refusal8 text room → ⊥
     not-eight-few few r =
         let h = of-form (r .form) (λ q. roomRows room (letterCount (q .streams)) < situationBound) form few in
         omega (arith, h, r .enoughRows)
 
-    not-nine : {n : ℕ} {t : Tables} → HoldsTable cutTowardZero s room n t → Refusal9 text → ⊥
-    not-nine held r = has-solution (held .table .table) (λ w b h. of-form form (λ q. (w : Streams) → Solution cutTowardZero q w → ⊥) (r .form) (r .unsolved) _ (h .solves))
+    not-nine : {n : ℕ} {t : Tables} → HoldsSheetTable s room n t → Refusal9 text → ⊥
+    not-nine held r = has-solution (held .table .table) (λ w b h. of-form form (λ q. (w : Streams) → Solution q w → ⊥) (r .form) (r .unsolved) _ (h .solves))
 
-  sheet-given : {s : Sheet} {b : CompileAnswer} {u : Tables} → AnswerTo cutTowardZero threeHeaderLines text (sheet s) → SheetOutcome cutTowardZero s room b u
+  sheet-given : {s : Sheet} {b : CompileAnswer} {u : Tables} → AnswerTo text (sheet s) → SheetOutcome s room b u
       → IsGiven (inOrder text room) (b .refusal)
   sheet-given (accepted a b c d e f g h) (tooManySituations x y) = (a, (b, (c, (d, (e, (f, (g, record { source = _; form = h; enoughRows = x; more = y })))))))
   sheet-given (accepted a b c d e f g h) (tooFewRows x y) =
       (a, (b, (c, (d, (e, (f, (g, (not-eight-few h x, record { source = _; form = h; fewRows = x; more = y }))))))))
-  sheet-given (accepted a b c d e f g h) (noSolution x y) = (a, (b, (c, (d, (e, (f, (g, (not-eight h x, (not-ten h x, record { source = _; form = h; unsolved = y })))))))))
+  sheet-given (accepted a b c d e f g h) (noSolution x y) = (a, (b, (c, (d, (e, (f, (g, (not-eight h x, (not-ten h x, record { source = _; form = h; unsolved = no-streams (record { sides = accepted-facts (accepted a b c d e f g h) .namesKnown }) y })))))))))
   sheet-given (accepted a b c d e f g h) (compiled x y) = (a, (b, (c, (d, (e, (f, (g, (not-eight h x, (not-ten h x, (not-nine h y, refl))))))))))
 
   -- The refusal of a call is the one given.

@@ -5,9 +5,9 @@ use mathlib.Core.List.{List}
 use lib.ListN.{length}
 use Rattle.automaton.specs.Words.{prefix}
 use Rattle.automaton.specs.Table.{walk, IsPath}
-use Rattle.automaton.specs.Stored.{entry-at, final-at}
+use Rattle.automaton.specs.Stored.{entryAt, finalAt}
 use Rattle.meaning.specs.Value.{Streams}
-use Rattle.meaning.specs.Arithmetic.{Arithmetic, Within}
+use Rattle.meaning.specs.Arithmetic.{Within}
 use Rattle.meaning.specs.Expression.{Stream, Sheet, rangeOf, Solution}
 use Rattle.meaning.specs.Letter.{Record, letterCount, streamsOf, wordOf}
 
@@ -15,16 +15,16 @@ use Rattle.meaning.specs.Letter.{Record, letterCount, streamsOf, wordOf}
 -- their ranges, since other values have no letter.
 pub record FollowedAlong (ss : List Stream) (entries finals : List ℕ) (w : Streams) : Type 0 where
   pub ranged : (k i : ℕ) → k < length ss → Within (rangeOf ss k) (w k i)
-  pub path : (n : ℕ) → IsPath (entry-at (letterCount ss) entries) (prefix (wordOf ss w) n)
-  pub again : (n : ℕ) → (u : ℕ) × (n ≤ u) × (final-at finals (walk (entry-at (letterCount ss) entries) 0 (prefix (wordOf ss w) u)) ≡ 1)
+  pub path : (n : ℕ) → IsPath (entryAt (letterCount ss) entries) (prefix (wordOf ss w) n)
+  pub again : (n : ℕ) → (u : ℕ) × (n ≤ u) × (finalAt finals (walk (entryAt (letterCount ss) entries) 0 (prefix (wordOf ss w) u)) ≡ 1)
 
 -- "It begins a solution if the solution's letters at times 0 to n−1 are its own."
-pub record BeginsSolution (A : Arithmetic) (s : Sheet) (r : Record) : Type 0 where
+pub record BeginsSolution (s : Sheet) (r : Record) : Type 0 where
   pub solution : Streams
-  pub solves : Solution A s solution
+  pub solves : Solution s solution
   pub letters : (k i : ℕ) → k < length (s .streams) → i < length r → solution k i ≡ streamsOf r k i
 
 -- "Two sheets over the same streams have the same solutions if each solution of either is a solution of the other."
-pub record HaveSameSolutions (A : Arithmetic) (s t : Sheet) : Type 0 where
-  pub to : (w : Streams) → Solution A s w → Solution A t w
-  pub from : (w : Streams) → Solution A t w → Solution A s w
+pub record HaveSameSolutions (s t : Sheet) : Type 0 where
+  pub to : (w : Streams) → Solution s w → Solution t w
+  pub from : (w : Streams) → Solution t w → Solution s w

@@ -6,33 +6,32 @@ use mathlib.Core.Bool.{cond}
 use mathlib.Core.List.{List, [], _∷_, _++_}
 use lib.Dec.{eqb}
 use Rattle.meaning.specs.Value.{Streams}
-use Rattle.meaning.specs.Arithmetic.{cutTowardZero}
 use Rattle.meaning.specs.Expression.{Sheet, Solution}
 use Rattle.meaning.specs.Letter.{letterCount}
 use Rattle.meaning.specs.Situation.{MoreSituations}
-use Rattle.sheet.specs.Form.{threeHeaderLines, HasForm}
+use Rattle.sheet.specs.Form.{HasForm}
 use Rattle.sheet.specs.Refusal.{Refusal1, Refusal2, Refusal3, Refusal4, Refusal5, Refusal6, Refusal7}
 use Rattle.outcome.specs.Compile.{situationBound, Room, roomRows}
 
 -- "8: all lent tables hold 4,096 rows or more, and there are more situations."
 pub record Refusal8 (text : List ℕ) (room : Room) : Type 0 where
   pub source : Sheet
-  pub form : HasForm threeHeaderLines text source
+  pub form : HasForm text source
   pub enoughRows : situationBound ≤ roomRows room (letterCount (source .streams))
-  pub more : MoreSituations cutTowardZero source situationBound
+  pub more : MoreSituations source situationBound
 
 -- "9: no solution."
 pub record Refusal9 (text : List ℕ) : Type 0 where
   pub source : Sheet
-  pub form : HasForm threeHeaderLines text source
-  pub unsolved : (w : Streams) → Solution cutTowardZero source w → ⊥
+  pub form : HasForm text source
+  pub unsolved : (w : Streams) → Solution source w → ⊥
 
 -- "10: the fewest rows any lent table holds, R, is below 4,096, and the situations exceed R"
 pub record Refusal10 (text : List ℕ) (room : Room) : Type 0 where
   pub source : Sheet
-  pub form : HasForm threeHeaderLines text source
+  pub form : HasForm text source
   pub fewRows : roomRows room (letterCount (source .streams)) < situationBound
-  pub more : MoreSituations cutTowardZero source (roomRows room (letterCount (source .streams)))
+  pub more : MoreSituations source (roomRows room (letterCount (source .streams)))
 
 pub record Refusal : Type 1 where
   pub number : ℕ
@@ -42,12 +41,12 @@ pub record Refusal : Type 1 where
 abbrev pub othersThanNine : List ℕ → Room → List Refusal
 othersThanNine text room =
     record { number = 1; condition = Refusal1 text }
-    ∷ record { number = 2; condition = Refusal2 threeHeaderLines text }
-    ∷ record { number = 3; condition = Refusal3 threeHeaderLines text }
-    ∷ record { number = 4; condition = Refusal4 threeHeaderLines text }
-    ∷ record { number = 5; condition = Refusal5 threeHeaderLines text }
-    ∷ record { number = 6; condition = Refusal6 cutTowardZero threeHeaderLines text }
-    ∷ record { number = 7; condition = Refusal7 threeHeaderLines text }
+    ∷ record { number = 2; condition = Refusal2 text }
+    ∷ record { number = 3; condition = Refusal3 text }
+    ∷ record { number = 4; condition = Refusal4 text }
+    ∷ record { number = 5; condition = Refusal5 text }
+    ∷ record { number = 6; condition = Refusal6 text }
+    ∷ record { number = 7; condition = Refusal7 text }
     ∷ record { number = 8; condition = Refusal8 text room }
     ∷ record { number = 10; condition = Refusal10 text room }
     ∷ []

@@ -5,12 +5,11 @@ use mathlib.Core.Bool.{Bool, true, false, not, cond, _&&_, _||_}
 use mathlib.Core.List.{List, [], _∷_, _++_, map, List·Memᴰ, List·Memᴰ·head, List·Memᴰ·tail, Memᴰ·cast}
 use mathlib.Core.Option.{none, some}
 use lib.Dec.{T, ltb, ltb→lt}
-use lib.ListN.{length, length-map}
+use lib.ListN.{length}
 use native.Mathlib.Omega.{arith}
 use native.Mathlib.Nat.{not-suc-le-zero}
-use Rattle.meaning.specs.Arithmetic.{Arithmetic}
-use Rattle.meaning.specs.Expression.{Stream, Constraint, Sheet}
-use Rattle.meaning.specs.Letter.{Record, letterCount, letterOf, recordOf}
+use Rattle.meaning.specs.Expression.{Sheet}
+use Rattle.meaning.specs.Letter.{letterCount, letterOf, recordOf}
 use Rattle.meaning.specs.Situation.{Situation, all, lawful, situation, IsSituation, SituationCount}
 use Rattle.meaning.specs.Evaluation.{successor}
 use Rattle.meaning.proofs.Continuation.{recordOf-letters}
@@ -40,12 +39,12 @@ everyBelow-sound (suc k) p t a h = go (ltb a k) refl (everyBelow-sound k p (both
     go true e rest = rest (ltb→lt a k (subst T (sym e) tt))
     go false e rest = let q : a ≡ k = omega (arith, lib.Dec.nltb→le a k (subst (λ b. T (not b)) (sym e) tt)) in subst (λ z. T (p z)) (sym q) (both (p k) (everyBelow k p) t .0)
 
-module _ (A : Arithmetic) (s : Sheet) where
+module _ (s : Sheet) where
   abbrev pub situationOf : List ℕ → Situation
-  situationOf r = situation A (s .constraints) (recordOf (s .streams) r)
+  situationOf r = situation (s .constraints) (recordOf (s .streams) r)
 
   abbrev pub isLawful : List ℕ → Bool
-  isLawful r = lawful A (s .constraints) (recordOf (s .streams) r)
+  isLawful r = lawful (s .constraints) (recordOf (s .streams) r)
 
   -- the lawful records that are r with one of the last letters, from a on, and whose situation is not among those seen
   abbrev pub extended : ℕ → ℕ → List ℕ → List Situation → List (List ℕ)
@@ -92,7 +91,7 @@ module _ (A : Arithmetic) (s : Sheet) where
         let u = both (isMember (situationOf []) l) covered (r .1) in
         (p .0, q .0, r .0, u .0, u .1)
 
-    pub found : (x : Situation) → List·Memᴰ x l → IsSituation A s x
+    pub found : (x : Situation) → List·Memᴰ x l → IsSituation s x
     found x m =
         let r = map-member situationOf rs x m in
         record {
@@ -102,20 +101,20 @@ module _ (A : Arithmetic) (s : Sheet) where
           same = sym (r .2);
         }
 
-    pub closed : Closed A s l
+    pub closed : Closed s l
     closed = record { holds = λ x m a ha u e. step x (map-member situationOf rs x m) a ha u e }
       where
         step : (x : Situation) → ((r : List ℕ) × List·Memᴰ r rs × (x ≡ situationOf r)) → (a : ℕ) → a < letterCount (s .streams) → (u : Situation)
-            → successor A (s .constraints) x (letterOf (s .streams) a) ≡ some u → List·Memᴰ u l
+            → successor (s .constraints) x (letterOf (s .streams) a) ≡ some u → List·Memᴰ u l
         step x r a ha u e = go (isLawful longer) refl
           where
             longer : List ℕ
             longer = r .0 ++ (a ∷ [])
 
-            is : successor A (s .constraints) x (letterOf (s .streams) a) ≡ cond (isLawful longer) (some (situationOf longer)) none
+            is : successor (s .constraints) x (letterOf (s .streams) a) ≡ cond (isLawful longer) (some (situationOf longer)) none
             is =
-                rw (recordOf-extend A s (r .0) a, r .2)
-                (successor-situation A (s .constraints) (recordOf (s .streams) (r .0)) (letterOf (s .streams) a) (all-member isLawful rs (parts .1) (r .0) (r .1)))
+                rw (recordOf-extend s (r .0) a, r .2)
+                (successor-situation (s .constraints) (recordOf (s .streams) (r .0)) (letterOf (s .streams) a) (all-member isLawful rs (parts .1) (r .0) (r .1)))
 
             go : (b : Bool) → isLawful longer ≡ b → List·Memᴰ u l
             go true q =
@@ -130,12 +129,12 @@ module _ (A : Arithmetic) (s : Sheet) where
                 apart : none ≡ some u → ⊥
                 apart w = let z : _≡_ {A = ℕ} 0 1 = cc in omega arith
 
-    abbrev pub counted : SituationCount A s (length l)
+    abbrev pub counted : SituationCount s (length l)
     counted =
         record {
           list = l;
           distinct = hasNoRepeats-sound l (parts .2);
           found = found;
-          every = closed-every A s l closed (isMember-sound (situationOf []) l (parts .3));
+          every = closed-every s l closed (isMember-sound (situationOf []) l (parts .3));
           count = refl;
         }

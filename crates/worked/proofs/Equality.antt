@@ -1,12 +1,12 @@
 -- Tests that two values, letters or situations are equal, that compute, and that decide equality. The library's own decisions do not compute outside.
-use Prim.Native.Nat.{ℕ, suc}
 use mathlib.Core.Path.{_≡_, refl, ap, ap₂, subst, sym}
 use mathlib.Core.Bool.{Bool, true, false, not, _&&_, _||_}
 use mathlib.Core.HLevel.{Discrete}
 use mathlib.Core.List.{List, [], _∷_, List·Memᴰ, List·Memᴰ·head, List·Memᴰ·tail}
-use lib.Dec.{T, eqb, eqb→eq, eqb-refl, not-T, T-not}
+use lib.Dec.{T, eqb, eqb→eq, eqb-refl, T-not}
 use lib.IntN.{ℤ, pos, negsuc}
-use Rattle.meaning.specs.Situation.{Situation, whole, cut, NoRepeats}
+use Rattle.basics.specs.Count.{NoRepeats}
+use Rattle.meaning.specs.Situation.{Situation, whole, cut}
 
 abbrev pub sameInteger : ℤ → ℤ → Bool
 sameInteger (pos m) (pos n) = eqb m n

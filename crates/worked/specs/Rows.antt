@@ -7,15 +7,13 @@ use lib.ListN.{length}
 use Rattle.automaton.specs.Stored.{StoredTable}
 use Rattle.text.specs.Bytes.{bytesOf}
 use Rattle.meaning.specs.Value.{Streams}
-use Rattle.meaning.specs.Arithmetic.{cutTowardZero}
 use Rattle.meaning.specs.Expression.{Sheet, Solution}
 use Rattle.meaning.specs.Letter.{letterCount, SolutionWord}
 use Rattle.meaning.specs.Situation.{SituationCount}
-use Rattle.sheet.specs.Form.{threeHeaderLines}
 use Rattle.sheet.specs.Refusal.{sheet, AnswerTo}
 
 -- A sheet's text, its refusal or 0, its numbers of states and of situations, and its used rows.
-pub record Row : Type 0 where
+pub record WorkedSheet : Type 0 where
   pub text : String
   pub refusal : ℕ
   pub states : ℕ
@@ -26,7 +24,7 @@ pub record Row : Type 0 where
 abbrev pub none : ℕ
 none = 65535
 
-unfoldable pub rows : List Row
+unfoldable pub rows : List WorkedSheet
 rows =
     -- P1, "one state"
     record { text = "level gate\n0 0\n2 1\n( level ge 2 ) -> gate"; refusal = 0; states = 1; situations = 2; entries = 0 ∷ 0 ∷ 0 ∷ 0 ∷ none ∷ 0 ∷ []; finals = 1 ∷ [] }
@@ -49,9 +47,9 @@ rows =
 
 -- What a row says, about the definitions: none of refusals 1 to 7 applies to the text, its sheet has this number of situations, and the used
 -- rows, no more than these, are its table; or no solution exists, and there are no states and no rows.
-pub data Holds (r : Row) : Type 0 where
-  compiles : {s : Sheet} → AnswerTo cutTowardZero threeHeaderLines (bytesOf (r .text)) (sheet s) → SituationCount cutTowardZero s (r .situations) → r .refusal ≡ 0
-      → StoredTable (SolutionWord cutTowardZero s) (letterCount (s .streams)) (r .states) (r .entries) (r .finals) → length (r .entries) ≡ r .states * letterCount (s .streams)
+pub data Holds (r : WorkedSheet) : Type 0 where
+  compiles : {s : Sheet} → AnswerTo (bytesOf (r .text)) (sheet s) → SituationCount s (r .situations) → r .refusal ≡ 0
+      → StoredTable (SolutionWord s) (letterCount (s .streams)) (r .states) (r .entries) (r .finals) → length (r .entries) ≡ r .states * letterCount (s .streams)
       → length (r .finals) ≡ r .states → Holds r
-  refuses : {s : Sheet} → AnswerTo cutTowardZero threeHeaderLines (bytesOf (r .text)) (sheet s) → SituationCount cutTowardZero s (r .situations) → r .refusal ≡ 9
-      → ((w : Streams) → Solution cutTowardZero s w → ⊥) → r .states ≡ 0 → r .entries ≡ [] → r .finals ≡ [] → Holds r
+  refuses : {s : Sheet} → AnswerTo (bytesOf (r .text)) (sheet s) → SituationCount s (r .situations) → r .refusal ≡ 9
+      → ((w : Streams) → Solution s w → ⊥) → r .states ≡ 0 → r .entries ≡ [] → r .finals ≡ [] → Holds r

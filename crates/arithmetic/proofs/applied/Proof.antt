@@ -2,9 +2,9 @@
 use mathlib.Core.Path.{_∙_, ap, ap₂}
 use mathlib.Core.Bool.{not, _&&_, _||_}
 use borrow.Author.Needs.{needs}
-use Rattle.meaning.specs.Value.{truth, bit, less, atMost, equal, atLeast, greater, different, compares}
+use Rattle.meaning.specs.Value.{nonzero, bit, less, atMost, equal, atLeast, greater, different, compares}
 use Rattle.arithmetic.proofs.Operators.{later}
-use Rattle.arithmetic.proofs.Coded.{bit-within, quotient-within, modulus-within, tested-kind, within-kind, within-last}
+use Rattle.arithmetic.proofs.Coded.{bit-within, quotient-within, remainder-within, tested-kind, within-kind, within-last}
 use Rattle.arithmetic.proofs.applied.Statement.{statement}
 use Rattle.arithmetic.proofs.applied.Tie as tie
 
@@ -29,8 +29,8 @@ product-requires c κs = search needs
 quotient-requires : tie.Need-quotient-requires
 quotient-requires c κs = search needs
 
-modulus-requires : tie.Need-modulus-requires
-modulus-requires c κs = search needs
+remainder-requires : tie.Need-remainder-requires
+remainder-requires c κs = search needs
 
 less-requires : tie.Need-less-requires
 less-requires c κs = search needs
@@ -68,11 +68,11 @@ same-requires-2 c κs = search needs
 bit-requires-6 : tie.Need-bit-requires-6
 bit-requires-6 c κs = search needs
 
-truth-requires : tie.Need-truth-requires
-truth-requires c κs = search needs
+nonzero-requires : tie.Need-nonzero-requires
+nonzero-requires c κs = search needs
 
-truth-requires-2 : tie.Need-truth-requires-2
-truth-requires-2 c κs = search needs
+nonzero-requires-2 : tie.Need-nonzero-requires-2
+nonzero-requires-2 c κs = search needs
 
 both-requires : tie.Need-both-requires
 both-requires c κs = search needs
@@ -80,11 +80,11 @@ both-requires c κs = search needs
 bit-requires-7 : tie.Need-bit-requires-7
 bit-requires-7 c κs = search needs
 
-truth-requires-3 : tie.Need-truth-requires-3
-truth-requires-3 c κs = search needs
+nonzero-requires-3 : tie.Need-nonzero-requires-3
+nonzero-requires-3 c κs = search needs
 
-truth-requires-4 : tie.Need-truth-requires-4
-truth-requires-4 c κs = search needs
+nonzero-requires-4 : tie.Need-nonzero-requires-4
+nonzero-requires-4 c κs = search needs
 
 either-requires : tie.Need-either-requires
 either-requires c κs = search needs
@@ -115,7 +115,7 @@ returns-4 c =
 returns-5 : tie.Need-returns-5
 returns-5 c =
     let s = c .before .before in
-    within-kind {k = s .args .kind} (s .fits .a) (s .fits .b) (record { sfits = c .modulus .ok }) 11 (c .before .match .keys5) (modulus-within (s .args .a) (s .args .b) (s .pre .1)) (c .modulus .ensures)
+    within-kind {k = s .args .kind} (s .fits .a) (s .fits .b) (record { sfits = c .remainder .ok }) 11 (c .before .match .keys5) (remainder-within (s .args .a) (s .args .b) (s .pre .1)) (c .remainder .ensures)
 
 returns-6 : tie.Need-returns-6
 returns-6 c =
@@ -150,7 +150,7 @@ returns-11 c =
 returns-12 : tie.Need-returns-12
 returns-12 c =
     let s = c .before .before .before .before .before in
-    within-kind {k = s .args .kind} (s .fits .a) (s .fits .b) (record { sfits = c .bit7 .ok }) 18 (c .before .before .before .before .match .keys12) (bit-within (truth (s .args .a) && truth (s .args .b))) (c .bit7 .ensures ∙ ap bit (c .before .both .ensures ∙ ap₂ _&&_ (c .before .before .before .truth .ensures) (c .before .before .truth2 .ensures)))
+    within-kind {k = s .args .kind} (s .fits .a) (s .fits .b) (record { sfits = c .bit7 .ok }) 18 (c .before .before .before .before .match .keys12) (bit-within (nonzero (s .args .a) && nonzero (s .args .b))) (c .bit7 .ensures ∙ ap bit (c .before .both .ensures ∙ ap₂ _&&_ (c .before .before .before .nonzero .ensures) (c .before .before .nonzero2 .ensures)))
 
 -- The kind is none of 7 to 18.
 returns-13 : tie.Need-returns-13
@@ -159,7 +159,7 @@ returns-13 c =
     let s = c .before .before .before .before .before in
     within-last {k = s .args .kind} (s .fits .a) (s .fits .b) (record { sfits = c .bit8 .ok })
     (later (later (later (later (later (later (later (later (later (later (later (later (s .pre .0) (rest .0 .0 .0 .0 .0 .0 .0 .0 .0 .0 .0 .1)) (rest .0 .0 .0 .0 .0 .0 .0 .0 .0 .0 .1)) (rest .0 .0 .0 .0 .0 .0 .0 .0 .0 .1)) (rest .0 .0 .0 .0 .0 .0 .0 .0 .1)) (rest .0 .0 .0 .0 .0 .0 .0 .1)) (rest .0 .0 .0 .0 .0 .0 .1)) (rest .0 .0 .0 .0 .0 .1)) (rest .0 .0 .0 .0 .1)) (rest .0 .0 .0 .1)) (rest .0 .0 .1)) (rest .0 .1)) (rest .1))
-    (c .bit8 .ensures ∙ ap bit (c .before .either .ensures ∙ ap₂ _||_ (c .before .before .before .truth3 .ensures) (c .before .before .truth4 .ensures)))
+    (c .bit8 .ensures ∙ ap bit (c .before .either .ensures ∙ ap₂ _||_ (c .before .before .before .nonzero3 .ensures) (c .before .before .nonzero4 .ensures)))
 
 pub applied-spec : {M : Type 1} → statement M
 applied-spec =
@@ -172,7 +172,7 @@ applied-spec =
     product-requires
     bounded-coded-requires-3
     quotient-requires
-    modulus-requires
+    remainder-requires
     less-requires
     bit-requires
     at-most-requires
@@ -185,12 +185,12 @@ applied-spec =
     bit-requires-5
     same-requires-2
     bit-requires-6
-    truth-requires
-    truth-requires-2
+    nonzero-requires
+    nonzero-requires-2
     both-requires
     bit-requires-7
-    truth-requires-3
-    truth-requires-4
+    nonzero-requires-3
+    nonzero-requires-4
     either-requires
     bit-requires-8
     returns

@@ -1,7 +1,6 @@
 -- `arithmetic::apply` meets its contract: what an operator gives can be read back from its number.
 use mathlib.Core.Path.{_∙_, ap}
 use borrow.Author.Needs.{needs}
-use Rattle.meaning.specs.Arithmetic.{cutTowardZero}
 use Rattle.nodes.specs.Bounded.{appliedByKind}
 use Rattle.arithmetic.specs.Coded.{coded}
 use Rattle.arithmetic.proofs.Machine.{held-both}
@@ -20,8 +19,8 @@ returns c =
     let s = c .before .before in
     let a = s .args in
     c .bounded .ensures
-    ∙ held-decoded (appliedByKind cutTowardZero (a .kind) (a .a) (a .b)) (record { sfits = c .before .apply-coded .ok })
-    (c .before .apply-coded .ensures ∙ ap coded (held-both (appliedByKind cutTowardZero (a .kind)) (a .a) (a .b) (s .fits .a) (s .fits .b)))
+    ∙ held-decoded (appliedByKind (a .kind) (a .a) (a .b)) (record { sfits = c .before .apply-coded .ok })
+    (c .before .apply-coded .ensures ∙ ap coded (held-both (appliedByKind (a .kind)) (a .a) (a .b) (s .fits .a) (s .fits .b)))
     (decodes-applied (a .kind) (a .a) (a .b))
 
 pub apply-spec : {M : Type 1} → statement M

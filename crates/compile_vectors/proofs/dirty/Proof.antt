@@ -1,15 +1,18 @@
--- `compile_vectors::dirty` is safe and ends.
-use Prim.Native.Nat.{_-_}
+-- `compile_vectors::dirty` is safe and ends: it reads as many numbers as the table has at most.
+use Prim.Native.Nat.{_-_, _≤_}
 use lib.ListN.{length}
 use borrow.Author.Needs.{needs}
 use Rattle.compile_vectors.proofs.dirty.Statement.{statement}
 use Rattle.compile_vectors.proofs.dirty.Tie as tie
 
 abbrev Inv-loop : tie.InvT-loop
-Inv-loop n list sum₀ i₀ sum i = Unit {0}
+Inv-loop n header at list size sum₀ i₀ sum i = size ≤ length list
 
 abbrev μ-loop : tie.MeasureT-loop
-μ-loop n list sum₀ i₀ sum i = length list - i
+μ-loop n header at list size sum₀ i₀ sum i = size - i
+
+length-at-requires : tie.Need-length-at-requires Inv-loop μ-loop
+length-at-requires c κs = search needs
 
 loop-holds : tie.Need-loop-holds Inv-loop μ-loop
 loop-holds c = search needs
@@ -41,6 +44,7 @@ dirty-spec =
     (tie.spec
     Inv-loop
     μ-loop
+    length-at-requires
     loop-holds
     mul-if1
     shared-slice-read-if1

@@ -1,4 +1,4 @@
--- `compile_vectors::read_case` is safe and ends: the sheet's bytes fit the space.
+-- `compile_vectors::read_case` is safe: the sheet's bytes are within the space.
 use mathlib.Core.Path.{sym}
 use lib.Seq.{length-take-le}
 use borrow.Author.Needs.{needs}
@@ -33,7 +33,7 @@ slice-relend-prefix-read-full : tie.Need-slice-relend-prefix-read-full
 slice-relend-prefix-read-full c = search needs
 
 slice-aggregate-read-full : tie.Need-slice-aggregate-read-full
-slice-aggregate-read-full c = sym (length-take-le (c .before .before .number .result) (c .before .before .before .before .before .before .before .before .before .before .before .args .space .now) (c .before .if2 .left))
+slice-aggregate-read-full c = sym (length-take-le _ _ (c .before .if2 .left))
 
 read-full-requires-2 : tie.Need-read-full-requires-2
 read-full-requires-2 c κs = search needs

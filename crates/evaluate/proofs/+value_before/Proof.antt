@@ -10,7 +10,6 @@ use mir.Syntax.{w64}
 use mir.Val.{toZ}
 use borrow.Fn.Kinds.{In, Out}
 use borrow.Fn.PlainCycle.{Measures, is, falls, and}
-use Rattle.meaning.specs.Arithmetic.{cutTowardZero}
 use Rattle.nodes.specs.Evaluate.{Nodes, View, stored, view, valueBefore}
 use Rattle.nodes.proofs.Parts.{left-before}
 use Rattle.nodes.proofs.left_end.Reads as left-end-reads
@@ -18,7 +17,7 @@ use Rattle.arithmetic.specs.Coded.{coded}
 use Rattle.arithmetic.proofs.absent.Reads as absent-reads
 use Rattle.arithmetic.proofs.apply_coded.Reads as apply-coded-reads
 use Rattle.arithmetic.proofs.in_bound.Reads as in-bound-reads
-use Rattle.arithmetic.proofs.truth.Reads as truth-reads
+use Rattle.arithmetic.proofs.nonzero.Reads as nonzero-reads
 use Rattle.arithmetic.proofs.Operators.{later}
 use Rattle.arithmetic.proofs.Coded.{held-result}
 use Rattle.evaluate.specs.Negation.{negatedBy}
@@ -70,8 +69,8 @@ claims t = (
   left-end-reads.Learnt,
   in-bound-reads.Asked,
   in-bound-reads.Learnt,
-  truth-reads.Asked,
-  truth-reads.Learnt,
+  nonzero-reads.Asked,
+  nonzero-reads.Learnt,
   apply-coded-reads.Asked,
   apply-coded-reads.Learnt,
 )
@@ -248,8 +247,8 @@ value-before-requires-3 t c κs =
 in-bound-requires : Each lts.Need-in-bound-requires
 in-bound-requires t c κs = search needs
 
-truth-requires : Each lts.Need-truth-requires
-truth-requires t c κs = search needs
+nonzero-requires : Each lts.Need-nonzero-requires
+nonzero-requires t c κs = search needs
 
 is-leaf-requires-4 : Each lts.Need-is-leaf-requires-4
 is-leaf-requires-4 t c κs =
@@ -438,8 +437,8 @@ returns-7 t c =
     (λ w. leaf-operand (nodes t s) (seen t s) q (c .before .before .before .before .before .before .before .before .before .left-end2 .result) (record { sfits = w .1 .ok }) (w .2) (c .before .before .before .before .before .before .before .before .is-leaf3 .ensures) (w .0 .taken) (w .1 .ensures))
     (λ w. part-operand (nodes t s) (seen t s) q (c .before .before .before .before .before .before .before .before .before .left-end2 .result) (record { sfits = w .1 .ok }) (w .2) (w .1 .ensures)) (c .before .before .before .before .before .before .before .if4 .came)) in
     let branch = ⊎-elim
-    (λ w. ap (λ e. valueBefore cutTowardZero (nodes t s) (seen t s) e q) (w .1) ∙ then-arm (nodes t s) (seen t s) q d (n .0) (c .before .before .before .before .before .before .before .before .before .before .before .before .before .match .keys4) (c .before .before .before .before .before .before .before .before .before .before .before .left-end .ensures) (c .before .before .before .before .before .before .before .before .before .left-end2 .ensures) (value-there (toZ w64 (c .before .before .before .before .before .before .before .if4 .test)) test (sym (c .before .before .before .before .before .before .in-bound .ensures) ∙ c .before .before .before .before .before .if5 .taken)) refl (sym (c .before .before .before .before .truth .ensures) ∙ w .0 .taken))
-    (λ w. ap (λ e. valueBefore cutTowardZero (nodes t s) (seen t s) e q) (w .1) ∙ else-arm (nodes t s) (seen t s) q d (n .0) (c .before .before .before .before .before .before .before .before .before .before .before .before .before .match .keys4) (c .before .before .before .before .before .before .before .before .before .before .before .left-end .ensures) (c .before .before .before .before .before .before .before .before .before .left-end2 .ensures) (value-there (toZ w64 (c .before .before .before .before .before .before .before .if4 .test)) test (sym (c .before .before .before .before .before .before .in-bound .ensures) ∙ c .before .before .before .before .before .if5 .taken)) refl (sym (c .before .before .before .before .truth .ensures) ∙ w .0 .left))
+    (λ w. ap (λ e. valueBefore (nodes t s) (seen t s) e q) (w .1) ∙ then-arm (nodes t s) (seen t s) q d (n .0) (c .before .before .before .before .before .before .before .before .before .before .before .before .before .match .keys4) (c .before .before .before .before .before .before .before .before .before .before .before .left-end .ensures) (c .before .before .before .before .before .before .before .before .before .left-end2 .ensures) (value-there (toZ w64 (c .before .before .before .before .before .before .before .if4 .test)) test (sym (c .before .before .before .before .before .before .in-bound .ensures) ∙ c .before .before .before .before .before .if5 .taken)) refl (sym (c .before .before .before .before .nonzero .ensures) ∙ w .0 .taken))
+    (λ w. ap (λ e. valueBefore (nodes t s) (seen t s) e q) (w .1) ∙ else-arm (nodes t s) (seen t s) q d (n .0) (c .before .before .before .before .before .before .before .before .before .before .before .before .before .match .keys4) (c .before .before .before .before .before .before .before .before .before .before .before .left-end .ensures) (c .before .before .before .before .before .before .before .before .before .left-end2 .ensures) (value-there (toZ w64 (c .before .before .before .before .before .before .before .if4 .test)) test (sym (c .before .before .before .before .before .before .in-bound .ensures) ∙ c .before .before .before .before .before .if5 .taken)) refl (sym (c .before .before .before .before .nonzero .ensures) ∙ w .0 .left))
     (c .before .before .before .if6 .came) in
     held-result (record { sfits = c .leaf4 .ok })
     (c .leaf4 .ensures ∙ ap coded (leaf-before (nodes t s) (seen t s) q (c .before .before .before .if6 .branch) (sym (c .before .before .is-leaf4 .ensures) ∙ c .before .if7 .taken) ∙ branch ∙ m .moved .same-value (nodes t s) (seen t s) refl (s .pre .1 .count-places)))
@@ -456,8 +455,8 @@ returns-8 t c =
     (λ w. leaf-operand (nodes t s) (seen t s) q (c .before .before .before .before .before .before .before .before .before .left-end2 .result) (record { sfits = w .1 .ok }) (w .2) (c .before .before .before .before .before .before .before .before .is-leaf3 .ensures) (w .0 .taken) (w .1 .ensures))
     (λ w. part-operand (nodes t s) (seen t s) q (c .before .before .before .before .before .before .before .before .before .left-end2 .result) (record { sfits = w .1 .ok }) (w .2) (w .1 .ensures)) (c .before .before .before .before .before .before .before .if4 .came)) in
     let branch = ⊎-elim
-    (λ w. ap (λ e. valueBefore cutTowardZero (nodes t s) (seen t s) e q) (w .1) ∙ then-arm (nodes t s) (seen t s) q d (n .0) (c .before .before .before .before .before .before .before .before .before .before .before .before .before .match .keys4) (c .before .before .before .before .before .before .before .before .before .before .before .left-end .ensures) (c .before .before .before .before .before .before .before .before .before .left-end2 .ensures) (value-there (toZ w64 (c .before .before .before .before .before .before .before .if4 .test)) test (sym (c .before .before .before .before .before .before .in-bound .ensures) ∙ c .before .before .before .before .before .if5 .taken)) refl (sym (c .before .before .before .before .truth .ensures) ∙ w .0 .taken))
-    (λ w. ap (λ e. valueBefore cutTowardZero (nodes t s) (seen t s) e q) (w .1) ∙ else-arm (nodes t s) (seen t s) q d (n .0) (c .before .before .before .before .before .before .before .before .before .before .before .before .before .match .keys4) (c .before .before .before .before .before .before .before .before .before .before .before .left-end .ensures) (c .before .before .before .before .before .before .before .before .before .left-end2 .ensures) (value-there (toZ w64 (c .before .before .before .before .before .before .before .if4 .test)) test (sym (c .before .before .before .before .before .before .in-bound .ensures) ∙ c .before .before .before .before .before .if5 .taken)) refl (sym (c .before .before .before .before .truth .ensures) ∙ w .0 .left))
+    (λ w. ap (λ e. valueBefore (nodes t s) (seen t s) e q) (w .1) ∙ then-arm (nodes t s) (seen t s) q d (n .0) (c .before .before .before .before .before .before .before .before .before .before .before .before .before .match .keys4) (c .before .before .before .before .before .before .before .before .before .before .before .left-end .ensures) (c .before .before .before .before .before .before .before .before .before .left-end2 .ensures) (value-there (toZ w64 (c .before .before .before .before .before .before .before .if4 .test)) test (sym (c .before .before .before .before .before .before .in-bound .ensures) ∙ c .before .before .before .before .before .if5 .taken)) refl (sym (c .before .before .before .before .nonzero .ensures) ∙ w .0 .taken))
+    (λ w. ap (λ e. valueBefore (nodes t s) (seen t s) e q) (w .1) ∙ else-arm (nodes t s) (seen t s) q d (n .0) (c .before .before .before .before .before .before .before .before .before .before .before .before .before .match .keys4) (c .before .before .before .before .before .before .before .before .before .before .before .left-end .ensures) (c .before .before .before .before .before .before .before .before .before .left-end2 .ensures) (value-there (toZ w64 (c .before .before .before .before .before .before .before .if4 .test)) test (sym (c .before .before .before .before .before .before .in-bound .ensures) ∙ c .before .before .before .before .before .if5 .taken)) refl (sym (c .before .before .before .before .nonzero .ensures) ∙ w .0 .left))
     (c .before .before .before .if6 .came) in
     held-result (record { sfits = c .value-before4 .ok })
     (c .value-before4 .ensures ∙ ap coded (branch ∙ m .moved .same-value (nodes t s) (seen t s) refl (s .pre .1 .count-places)))
@@ -541,7 +540,7 @@ pub +value-before-spec : {M : Type 1} → statement M
     (leaf-requires-3 t)
     (value-before-requires-3 t)
     (in-bound-requires t)
-    (truth-requires t)
+    (nonzero-requires t)
     (is-leaf-requires-4 t)
     (leaf-requires-4 t)
     (value-before-requires-4 t)

@@ -10,8 +10,8 @@ use Rattle.evaluate.proofs.negated.Tie as tie
 in-bound-requires : tie.Need-in-bound-requires
 in-bound-requires c κs = search needs
 
-truth-requires : tie.Need-truth-requires
-truth-requires c κs = search needs
+nonzero-requires : tie.Need-nonzero-requires
+nonzero-requires c κs = search needs
 
 bit-requires : tie.Need-bit-requires
 bit-requires c κs = search needs
@@ -23,7 +23,7 @@ returns : tie.Need-returns
 returns c =
     let s = c .before .before .before .before in
     held-result (record { sfits = c .bit .ok })
-    (c .bit .ensures ∙ negated-there (s .args .a) (s .fits .a) (held-test (s .args .a) (s .fits .a) (c .before .before .before .in-bound .ensures) (c .before .before .if1 .taken)) (c .before .truth .ensures))
+    (c .bit .ensures ∙ negated-there (s .args .a) (s .fits .a) (held-test (s .args .a) (s .fits .a) (c .before .before .before .in-bound .ensures) (c .before .before .if1 .taken)) (c .before .nonzero .ensures))
 
 returns-2 : tie.Need-returns-2
 returns-2 c =
@@ -32,4 +32,4 @@ returns-2 c =
     (c .absent .ensures ∙ negated-absent (s .args .a) (s .fits .a) (held-test (s .args .a) (s .fits .a) (c .before .before .in-bound .ensures) (c .before .if1 .left)))
 
 pub negated-spec : {M : Type 1} → statement M
-negated-spec = tie.close (tie.spec in-bound-requires truth-requires bit-requires absent-requires returns returns-2)
+negated-spec = tie.close (tie.spec in-bound-requires nonzero-requires bit-requires absent-requires returns returns-2)

@@ -5,7 +5,7 @@ use mir.Syntax.{w64}
 use mir.ValLaws.{toZ-ofZ}
 use borrow.Author.Needs.{needs}
 use Rattle.nodes.specs.Bounded.{bounded}
-use Rattle.nodes.specs.Evaluate.{negated}
+use Rattle.nodes.specs.Evaluate.{negatedResult}
 use Rattle.arithmetic.specs.Coded.{coded}
 use Rattle.arithmetic.proofs.Machine.{held}
 use Rattle.arithmetic.proofs.Coded.{held-result, held-decoded}
@@ -25,14 +25,14 @@ returns c =
     let a : ℤ = held (s .args .a) in
     held-result (record { sfits = c .negated2 .ok })
     (c .negated2 .ensures
-    ∙ ap (λ v. coded (negated v)) (held-decoded (negated (bounded a)) (record { sfits = c .before .before .negated .ok }) (c .before .before .negated .ensures) (decodes-negated (bounded a)))
-    ∙ ap (λ z. coded (negated (negated (bounded z)))) (toZ-ofZ w64 (s .args .a) (s .fits .a))
+    ∙ ap (λ v. coded (negatedResult v)) (held-decoded (negatedResult (bounded a)) (record { sfits = c .before .before .negated .ok }) (c .before .before .negated .ensures) (decodes-negated (bounded a)))
+    ∙ ap (λ z. coded (negatedResult (negatedResult (bounded z)))) (toZ-ofZ w64 (s .args .a) (s .fits .a))
     ∙ sym (simp (c .before .if1 .taken)))
 
 returns-2 : tie.Need-returns-2
 returns-2 c =
     let s = c .before .before in
-    held-result (record { sfits = c .before .negated .ok }) (c .before .negated .ensures ∙ ap (λ z. coded (negated (bounded z))) (toZ-ofZ w64 (s .args .a) (s .fits .a)) ∙ sym (simp (c .if1 .left)))
+    held-result (record { sfits = c .before .negated .ok }) (c .before .negated .ensures ∙ ap (λ z. coded (negatedResult (bounded z))) (toZ-ofZ w64 (s .args .a) (s .fits .a)) ∙ sym (simp (c .if1 .left)))
 
 pub negated-by-spec : {M : Type 1} → statement M
 negated-by-spec = tie.close (tie.spec negated-requires negated-requires-2 returns returns-2)

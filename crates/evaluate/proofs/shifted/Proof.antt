@@ -5,13 +5,13 @@ use native.Mathlib.Omega.{arith}
 use mathlib.Core.Path.{_≡_, sym, _∙_}
 use mathlib.Core.Logic.{⊎-elim}
 use borrow.Author.Needs.{needs}
-use Rattle.evaluate.specs.Shift.{Moved}
+use Rattle.evaluate.specs.Shift.{SameElsewhere}
 use Rattle.evaluate.proofs.Shifting.{moved-none, moved-next, moved-fby}
 use Rattle.evaluate.proofs.shifted.Statement.{statement}
 use Rattle.evaluate.proofs.shifted.Tie as tie
 
 abbrev Inv-loop : tie.InvT-loop
-Inv-loop kinds count end place inner₀ at₀ inner at = Moved kinds count end place inner at
+Inv-loop kinds count end place inner₀ at₀ inner at = SameElsewhere kinds count end place inner at
 
 abbrev μ-loop : tie.MeasureT-loop
 μ-loop kinds count end place inner₀ at₀ inner at = inner

@@ -5,7 +5,7 @@ use native.Mathlib.Omega.{arith}
 use borrow.Author.Needs.{needs}
 use borrow.Author.Tests.{not-true, not-false}
 use Rattle.marks.proofs.Laws.{says-yes, says-no}
-use Rattle.explore.specs.Step.{Store, storeOf, IsReady}
+use Rattle.extend.specs.Step.{Store, storeOf, IsReady}
 use Rattle.explore.specs.Search.{IsLent}
 use Rattle.explore.proofs.ChainLaws.{cleared-chained}
 use Rattle.explore.proofs.SearchLaws.{sizes-lent, settled-start, settled-behind, searched-every}
@@ -35,15 +35,13 @@ is-ready-requires : tie.Need-is-ready-requires
 is-ready-requires c κs = search needs
 
 returns : tie.Need-returns
-returns c = not-ready _ _ _ _ _ (says-no (not-true (c .before .is-ready .result) (c .if1 .taken)) (c .before .is-ready .ensures))
+returns c = not-ready _ _ _ _ (says-no (not-true (c .before .is-ready .result) (c .if1 .taken)) (c .before .is-ready .ensures))
 
 is-lent-requires : tie.Need-is-lent-requires
-is-lent-requires c κs =
-    let yes = not-false (c .before .is-ready .result) (c .if1 .left) in
-    (rw yes at (c .before .is-ready .ensures)) .1
+is-lent-requires c κs = search needs
 
 returns-2 : tie.Need-returns-2
-returns-2 c = not-lent _ _ _ _ _ (says-no (not-true (c .before .is-lent .result) (c .if2 .taken)) (c .before .is-lent .ensures))
+returns-2 c = not-lent _ _ _ _ (says-no (not-true (c .before .is-lent .result) (c .if2 .taken)) (c .before .is-lent .ensures))
 
 every-mark-requires : tie.Need-every-mark-requires
 every-mark-requires c κs = keeps-bounds c .few-constraints
@@ -68,27 +66,27 @@ search-requires c κs =
     (keeps-bounds tested, (sizes-lent (record { keys-long = settle .kept .1 .1 .0; heads-long = settle .kept .0 ∙ c .before .before .before .before .before .before .before .before .before .before .before .before .before .before .before .before .before .before .before .before .before .fill .kept .0; links-long = settle .kept .1 .0; entries-long = refl; flags-long = settle .kept .1 .1 .1 .0 }) l, settled-start (l .some-row) (l .flags-room) (settle .ensures)))
 
 same-length : tie.Need-same-length
-same-length c = c .before .before .before .before .before .before .before .before .before .before .search .kept .1 .1 .1 .1 .1 .1 .1 .1 .1 .1 .1 .1 .1 .0 ∙ c .before .before .before .before .before .before .before .before .before .before .before .before .before .before .before .before .before .before .before .before .before .before .before .before .settle .kept .1 .1 .0
+same-length c = c .before .before .before .before .before .before .before .before .before .before .search .kept .1 .1 .1 .1 .1 .1 .1 .1 .1 .1 .0 ∙ c .before .before .before .before .before .before .before .before .before .before .before .before .before .before .before .before .before .before .before .before .before .before .before .before .settle .kept .1 .1 .0
 
 same-length-2 : tie.Need-same-length-2
-same-length-2 c = c .before .before .before .before .before .before .before .before .before .before .search .kept .1 .1 .1 .1 .1 .1 .1 .1 .1 .1 .1 .1 .1 .1 .0 ∙ (c .before .before .before .before .before .before .before .before .before .before .before .before .before .before .before .before .before .before .before .before .before .before .before .before .settle .kept .0 ∙ c .before .before .before .before .before .before .before .before .before .before .before .before .before .before .before .before .before .before .before .before .before .before .before .before .before .before .before .before .before .before .before .before .fill .kept .0)
+same-length-2 c = c .before .before .before .before .before .before .before .before .before .before .search .kept .1 .1 .1 .1 .1 .1 .1 .1 .1 .1 .1 .0 ∙ (c .before .before .before .before .before .before .before .before .before .before .before .before .before .before .before .before .before .before .before .before .before .before .before .before .settle .kept .0 ∙ c .before .before .before .before .before .before .before .before .before .before .before .before .before .before .before .before .before .before .before .before .before .before .before .before .before .before .before .before .before .before .before .before .fill .kept .0)
 
 same-length-3 : tie.Need-same-length-3
-same-length-3 c = c .before .before .before .before .before .before .before .before .before .before .search .kept .1 .1 .1 .1 .1 .1 .1 .1 .1 .1 .1 .1 .1 .1 .1 .0 ∙ c .before .before .before .before .before .before .before .before .before .before .before .before .before .before .before .before .before .before .before .before .before .before .before .before .settle .kept .1 .0
+same-length-3 c = c .before .before .before .before .before .before .before .before .before .before .search .kept .1 .1 .1 .1 .1 .1 .1 .1 .1 .1 .1 .1 .0 ∙ c .before .before .before .before .before .before .before .before .before .before .before .before .before .before .before .before .before .before .before .before .before .before .before .before .settle .kept .1 .0
 
 same-length-4 : tie.Need-same-length-4
-same-length-4 c = c .before .before .before .before .before .before .before .before .before .before .search .kept .1 .1 .1 .1 .1 .1 .1 .1 .1 .1 .1 .1 .1 .1 .1 .1 .0
+same-length-4 c = c .before .before .before .before .before .before .before .before .before .before .search .kept .1 .1 .1 .1 .1 .1 .1 .1 .1 .1 .1 .1 .1 .0
 
 same-length-5 : tie.Need-same-length-5
-same-length-5 c = c .before .before .before .before .before .before .before .before .before .before .search .kept .1 .1 .1 .1 .1 .1 .1 .1 .1 .1 .1 .1 .1 .1 .1 .1 .1 .0 ∙ c .before .before .before .before .before .before .before .before .before .before .before .before .before .before .before .before .before .before .before .before .before .before .before .before .settle .kept .1 .1 .1 .0
+same-length-5 c = c .before .before .before .before .before .before .before .before .before .before .search .kept .1 .1 .1 .1 .1 .1 .1 .1 .1 .1 .1 .1 .1 .1 .0 ∙ c .before .before .before .before .before .before .before .before .before .before .before .before .before .before .before .before .before .before .before .before .before .before .before .before .settle .kept .1 .1 .1 .0
 
 returns-3 : tie.Need-returns-3
 returns-3 c =
     let tested = c .before .before .before .before .before .before .before .before .before .before .before .before .before .before .before .before .before .before .before .before .before .before .before .before .before .before .before .before .before .before .before .before .before .before .before in
     let search = c .before .before .before .before .before .before .before .before .before .before .search in
     let settle = c .before .before .before .before .before .before .before .before .before .before .before .before .before .before .before .before .before .before .before .before .before .before .before .before .settle in
-    ready _ _ _ _ _ (says-yes (not-false (tested .before .before .before .is-ready .result) (tested .before .before .if1 .left)) (tested .before .before .before .is-ready .ensures)) (says-yes (not-false (tested .before .is-lent .result) (tested .if2 .left)) (tested .before .is-lent .ensures)) (searched-every (c .before .before .before .before .before .before .before .before .before .before .before .before .before .before .before .before .before .before .before .before .before .before .before .before .before .before .before .before .before .before .before .before .before .before .every-mark .ensures) (search .ensures .0))
-    (λ e. settled-behind (lent tested .some-row) (search .ensures .0 .known .some) (settle .kept .1 .1 .1 .0) (settle .ensures) (search .ensures .1 e))
+    ready _ _ _ _ (says-yes (not-false (tested .before .before .before .is-ready .result) (tested .before .before .if1 .left)) (tested .before .before .before .is-ready .ensures)) (says-yes (not-false (tested .before .is-lent .result) (tested .if2 .left)) (tested .before .is-lent .ensures)) (searched-every (c .before .before .before .before .before .before .before .before .before .before .before .before .before .before .before .before .before .before .before .before .before .before .before .before .before .before .before .before .before .before .before .before .before .before .every-mark .ensures) (search .ensures .0))
+    (λ e. settled-behind (lent tested .some-row) (search .ensures .0 .searched .known .some-row) (settle .kept .1 .1 .1 .0) (settle .ensures) (search .ensures .1 e))
 
 pub explore-spec : {M : Type 1} → statement M
 explore-spec =

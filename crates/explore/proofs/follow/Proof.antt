@@ -4,36 +4,43 @@ use Prim.Native.Nat.{ℕ}
 use mathlib.Core.Path.{_≡_, refl, _∙_, sym, subst}
 use mathlib.Core.List.{List}
 use mathlib.Core.Logic.{inl, inr}
+use lib.IntN.{ℤ}
 use lib.ListN.{length}
-use Rattle.meaning.specs.Arithmetic.{cutTowardZero}
+use borrow.Author.Needs.{needs}
+use Rattle.extend.specs.Step.{Store, storeOf, IsKey, Prepared, Extended}
 use Rattle.explore.specs.Chains.{rowAt}
-use Rattle.explore.specs.Step.{Store, storeOf, IsKey, Prepared, Extended}
 use Rattle.explore.proofs.ChainLaws.{row-part}
 use Rattle.explore.proofs.SearchLaws.{settled-key, settled-row}
-use borrow.Author.Needs.{needs}
 use Rattle.explore.proofs.follow.Statement.{statement}
 use Rattle.explore.proofs.follow.Tie as tie
 
 abbrev store : tie.Start → Store
 store c =
     let a = c .args in
-    storeOf (a .kinds .now) (a .values .now) (a .starts .now) (a .relations .now) (a .lefts .now) (a .rights .now) (a .first-nodes .now) (a .letter-values .now) (a .streams) (a .ahead) (a .width)
+    storeOf (a .kinds .now) (a .values .now) (a .starts .now) (a .relations .now) (a .lefts .now) (a .rights .now) (a .first-nodes .now) (a .letter-values .now) (a .dimensions .streams) (a .dimensions .ahead) (a .dimensions .width)
 
 abbrev row : tie.Start → List ℕ
 row c = rowAt (c .args .keys .now) (c .args .s)
 
 abbrev start-of : tie.After-extend → tie.Start
-start-of c = c .before .before .before .before .before .before .before .before .before .before .before .before .before .before .before
+start-of c = c .before .before .before .before .before .before .before .before .before .before .before .before .before
 
-extended : (c : tie.After-extend) → Extended cutTowardZero (store (start-of c)) (row (start-of c)) (start-of c .args .a) (c .extend .result) (c .extend .last .1 .1 .1 .1 .1 .1 .1 .1 .1 .1 .1 .1 .1 .1 .1 .1 .0)
-extended c = subst (λ k. Extended cutTowardZero (store (start-of c)) k (start-of c .args .a) (c .extend .result) (c .extend .last .1 .1 .1 .1 .1 .1 .1 .1 .1 .1 .1 .1 .1 .1 .1 .1 .0)) (row-part (start-of c .args .keys .now) (start-of c .args .s)) (c .extend .ensures .0)
+-- what is prepared, and what one more letter gives, for a row that holds the key
+abbrev IsPrepared : tie.Start → List ℕ → List ℤ → Type 0
+IsPrepared c key prepared = let a = c .args in Prepared (a .letter-values .now) (a .dimensions .streams) (a .dimensions .width) (length (a .first-nodes .now)) key prepared
 
--- what is prepared, for any row that holds the same key
-abbrev IsPrepared : tie.After-extend → List ℕ → Type 0
-IsPrepared c k = let a = start-of c .args in Prepared (a .letter-values .now) (a .streams) (a .width) (length (a .first-nodes .now)) k (c .extend .last .1 .1 .1 .1 .1 .1 .1 .1 .1 .1 .1 .1 .1 .0) (c .extend .last .1 .1 .1 .1 .1 .1 .1 .1 .1 .1 .1 .1 .1 .1 .0) (a .firsts .now)
+abbrev Gives : tie.After-extend → List ℕ → Type 0
+Gives c key = Extended (store (start-of c)) key (start-of c .args .a) (c .extend .result) (c .extend .last .1 .1 .1 .1 .1 .1 .1 .1 .1 .1 .1 .1 .0) × IsPrepared (start-of c) key (c .extend .last .1 .1 .1 .1 .1 .1 .1 .1 .1 .1 .1 .0)
 
-prepared : (c : tie.After-extend) (k : List ℕ) → k ≡ row (start-of c) → IsPrepared c k
-prepared c k e = subst (IsPrepared c) (row-part (start-of c .args .keys .now) (start-of c .args .s) ∙ sym e) (c .extend .ensures .1)
+extended : (c : tie.After-extend) → Gives c (row (start-of c))
+extended c =
+    let start = start-of c in
+    let is = row-part (start .args .keys .now) (start .args .s) in
+    subst (Gives c) is
+    (c .extend .ensures (start .pre .0) (subst (IsKey (store start)) (sym is) (start .pre .1 .0 .0)) (start .pre .1 .0 .1) refl (subst (λ k. IsPrepared start k (start .args .prepared .now)) (sym is) (start .pre .1 .1 .1 .1)))
+
+prepared : (c : tie.After-extend) (key : List ℕ) → key ≡ row (start-of c) → IsPrepared (start-of c) key (c .extend .last .1 .1 .1 .1 .1 .1 .1 .1 .1 .1 .1 .0)
+prepared c key e = subst (λ k. IsPrepared (start-of c) k (c .extend .last .1 .1 .1 .1 .1 .1 .1 .1 .1 .1 .1 .0)) (sym e) (extended c .1)
 
 mul-start : tie.Need-mul-start
 mul-start c = search needs
@@ -57,68 +64,45 @@ slice-aggregate-extend : tie.Need-slice-aggregate-extend
 slice-aggregate-extend c = search needs
 
 extend-requires : tie.Need-extend-requires
-extend-requires c κs =
-    let start = c .before .before .before .before .before .before .before .before .before .before .before .before .before .before in
-    let a = start .args in (
-      start .pre .0,
-      (
-        subst (IsKey (store start)) (sym (row-part (a .keys .now) (a .s))) (start .pre .1 .0 .0),
-        (
-          start .pre .1 .0 .1,
-          (subst (λ k. Prepared (a .letter-values .now) (a .streams) (a .width) (length (a .first-nodes .now)) k (a .recent .now) (a .window .now) (a .firsts .now)) (sym (row-part (a .keys .now) (a .s))) (start .pre .1 .1 .1 .1), refl),
-        ),
-      ),
-    )
+extend-requires c κs = search needs
 
 slice-aggregate-settle : tie.Need-slice-aggregate-settle
 slice-aggregate-settle c = search needs
 
 settle-requires : tie.Need-settle-requires
 settle-requires c κs =
-    let at = c .before .before .before .before .before .before .before .before .before .before in
+    let at = c .before .before .before .before .before .before .before in
     let limits = start-of at .pre .1 .1 .1 .0 in
-    (start-of at .pre .1 .1 .0, (at .extend .kept .1 .1 .1 .1 .1 .1 .1 .1 .1 .1 .1 .1 .1 .1 .1 .1 .0, limits .0, limits .1, limits .2, limits .3))
+    (start-of at .pre .1 .1 .0, (at .extend .kept .1 .1 .1 .1 .1 .1 .1 .1 .1 .1 .1 .1 .0, limits .0, limits .1, limits .2, limits .3))
 
 same-length : tie.Need-same-length
-same-length c = search needs
+same-length c = c .before .before .before .before .before .before .before .before .settle .kept .1 .1 .0
 
 same-length-2 : tie.Need-same-length-2
-same-length-2 c = search needs
+same-length-2 c = c .before .before .before .before .before .before .before .before .settle .kept .0
 
 same-length-3 : tie.Need-same-length-3
-same-length-3 c = search needs
+same-length-3 c = c .before .before .before .before .before .before .before .before .settle .kept .1 .0
 
 same-length-4 : tie.Need-same-length-4
-same-length-4 c = search needs
-
-same-length-5 : tie.Need-same-length-5
-same-length-5 c = search needs
-
-same-length-6 : tie.Need-same-length-6
-same-length-6 c = search needs
+same-length-4 c = c .before .before .before .before .before .before .before .before .settle .kept .1 .1 .1 .0
 
 returns : tie.Need-returns
 returns c =
-    let at = c .before .before .before .before .before .before .before .before .before .before .before .before .before .before .before .before .before .before .before in
+    let at = c .before .before .before .before .before .before .before .before .before .before .before .before .before .before .before .before in
     let start = start-of at in
-    let x = extended at in
+    let x = extended at .0 in
     let lawful = c .before .before .before .before .before .before .before .before .before .before .before .before .before .before .if1 .taken in
     let settled = c .before .before .before .before .before .before .before .before .settle .ensures in
     (inr (sym (x .answer) ∙ lawful, settled-key (x .new lawful) settled), prepared at _ (settled-row settled (start .args .s) (start .pre .1 .0 .2)))
 
-same-length-7 : tie.Need-same-length-7
-same-length-7 c = search needs
-
-same-length-8 : tie.Need-same-length-8
-same-length-8 c = search needs
-
-same-length-9 : tie.Need-same-length-9
-same-length-9 c = search needs
+same-length-5 : tie.Need-same-length-5
+same-length-5 c = refl
 
 returns-2 : tie.Need-returns-2
 returns-2 c =
-    let at = c .before .before .before .before .before in
-    (inl (refl, sym (extended at .answer) ∙ c .if1 .left, start-of at .pre .1 .1 .0, refl, refl), prepared at _ refl)
+    let at = c .before .before in
+    (inl (refl, sym (extended at .0 .answer) ∙ c .if1 .left, start-of at .pre .1 .1 .0, refl, refl), extended at .1)
 
 pub follow-spec : {M : Type 1} → statement M
 follow-spec =
@@ -138,10 +122,6 @@ follow-spec =
     same-length-2
     same-length-3
     same-length-4
-    same-length-5
-    same-length-6
     returns
-    same-length-7
-    same-length-8
-    same-length-9
+    same-length-5
     returns-2)

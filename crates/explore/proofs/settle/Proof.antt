@@ -1,4 +1,5 @@
 -- `settle` meets its contract, by its tests.
+use mathlib.Core.Path.{refl}
 use native.Mathlib.Omega.{arith}
 use Rattle.explore.proofs.SearchLaws.{settled-found, settled-full, settled-new}
 use borrow.Author.Needs.{needs}
@@ -18,13 +19,13 @@ sub-result : tie.Need-sub-result
 sub-result c = search needs
 
 same-length : tie.Need-same-length
-same-length c = search needs
+same-length c = refl
 
 same-length-2 : tie.Need-same-length-2
-same-length-2 c = search needs
+same-length-2 c = refl
 
 same-length-3 : tie.Need-same-length-3
-same-length-3 c = search needs
+same-length-3 c = refl
 
 returns : tie.Need-returns
 returns c = settled-found _ _ _ _ _ _ _ _ _ (c .before .find .ensures) (c .if1 .taken) (c .before .before .before .before .before .before .before .before .before .before .before .pre .0)
@@ -45,13 +46,13 @@ slice-write-flags : tie.Need-slice-write-flags
 slice-write-flags c = search needs
 
 same-length-4 : tie.Need-same-length-4
-same-length-4 c = search needs
+same-length-4 c = c .before .before .before .before .before .before .before .before .insert .kept .0
 
 same-length-5 : tie.Need-same-length-5
-same-length-5 c = search needs
+same-length-5 c = c .before .before .before .before .before .before .before .before .insert .kept .1 .0
 
 same-length-6 : tie.Need-same-length-6
-same-length-6 c = search needs
+same-length-6 c = c .before .before .before .before .before .before .before .before .insert .kept .1 .1 .0
 
 same-length-7 : tie.Need-same-length-7
 same-length-7 c = search needs
@@ -60,13 +61,13 @@ returns-2 : tie.Need-returns-2
 returns-2 c = settled-new _ _ _ _ _ _ _ _ _ (c .before .before .before .before .before .before .before .before .before .before .before .before .before .before .find .ensures) (c .before .before .before .before .before .before .before .before .before .before .before .before .before .if1 .left) (c .before .before .before .before .before .before .before .before .before .before .before .before .if2 .taken) (c .before .before .before .before .before .before .before .before .insert .ensures .0) (c .before .before .before .before .before .before .before .before .insert .ensures .1) (c .flag .ensures)
 
 same-length-8 : tie.Need-same-length-8
-same-length-8 c = search needs
+same-length-8 c = refl
 
 same-length-9 : tie.Need-same-length-9
-same-length-9 c = search needs
+same-length-9 c = refl
 
 same-length-10 : tie.Need-same-length-10
-same-length-10 c = search needs
+same-length-10 c = refl
 
 returns-3 : tie.Need-returns-3
 returns-3 c = settled-full _ _ _ _ _ _ _ _ _ (c .before .before .find .ensures) (c .before .if1 .left) (c .if2 .left) (c .before .before .before .before .before .before .before .before .before .before .before .before .pre .0)

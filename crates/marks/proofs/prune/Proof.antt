@@ -1,5 +1,5 @@
--- `marks::prune` meets its contract: the rounds run where the rows fit, and else nothing changes.
-use mathlib.Core.Path.{_≡_, refl}
+-- `marks::prune` meets its contract: the sweeps run where the rows fit, and else nothing changes.
+use mathlib.Core.Path.{refl}
 use Rattle.marks.proofs.Laws.{says-yes, says-no}
 use borrow.Author.Needs.{needs}
 use Rattle.marks.proofs.prune.Statement.{statement}
@@ -8,15 +8,15 @@ use Rattle.marks.proofs.prune.Tie as tie
 rows-fit-requires : tie.Need-rows-fit-requires
 rows-fit-requires c κs = search needs
 
-prune-rounds-requires : tie.Need-prune-rounds-requires
-prune-rounds-requires c κs = says-yes (c .before .if1 .taken) (c .before .before .rows-fit .ensures)
+sweeps-requires : tie.Need-sweeps-requires
+sweeps-requires c κs = says-yes (c .before .if1 .taken) (c .before .before .rows-fit .ensures)
 
 same-length : tie.Need-same-length
-same-length c = search needs
+same-length c = c .before .before .sweeps .kept .1 .1 .1 .0
 
 returns : tie.Need-returns
 returns c = record {
-  fits = λ h. c .before .before .prune-rounds .ensures;
+  fits = λ h. c .before .before .sweeps .ensures;
   unchanged = λ h. absurd (h (says-yes (c .before .before .before .before .if1 .taken) (c .before .before .before .before .before .rows-fit .ensures)));
 }
 
@@ -25,4 +25,4 @@ returns-2 c = record { fits = λ h. absurd (says-no (c .if1 .left) (c .before .r
 
 pub prune-spec : {M : Type 1} → statement M
 prune-spec =
-    tie.close (tie.spec rows-fit-requires prune-rounds-requires same-length returns returns-2)
+    tie.close (tie.spec rows-fit-requires sweeps-requires same-length returns returns-2)

@@ -1,7 +1,7 @@
 -- `marks::rows_fit` meets its contract: a product is at most the room if the one factor is at most the room divided by the other.
 use mathlib.Core.Path.{_≡_}
 use mathlib.Core.Bool.{Bool, true, false}
-use Prim.Native.Nat.{ℕ, zero, suc, _*_, _/_, _<_, _≤_}
+use Prim.Native.Nat.{ℕ, _*_, _/_, _<_, _≤_}
 use native.Mathlib.Nat.{le-div-iff-mul-le, mul-zero}
 use native.Mathlib.Omega.{arith}
 use lib.Dec.{leb}

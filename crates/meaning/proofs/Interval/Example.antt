@@ -4,7 +4,7 @@ use mathlib.Core.Path.{_≡_, refl}
 use mathlib.Core.List.{List, [], _∷_, map}
 use lib.IntN.{ℤ, pos, negℤ}
 use Rattle.meaning.specs.Value.{less}
-use Rattle.meaning.specs.Arithmetic.{Interval, add, subtract, multiply, divide, remainder, compare, and, cutTowardZero}
+use Rattle.meaning.specs.Arithmetic.{Interval, add, subtract, multiply, divide, remainder, compare, and}
 use Rattle.meaning.specs.Expression.{Expression, integer, name, first, next, negation, binary, conditional, fby, Stream}
 use Rattle.meaning.specs.Interval.{interval}
 
@@ -43,6 +43,6 @@ rows =
     ∷ (first x, to (minus 7) (pos 3))
     ∷ (next y, to (pos 0) (pos 2)) ∷ []
 
-example : map (λ r. interval cutTowardZero streams (r .0)) rows ≡ map (λ r. r .1) rows
+example : map (λ r. interval streams (r .0)) rows ≡ map (λ r. r .1) rows
 unfolding interval
 example = refl

@@ -4,7 +4,6 @@ use native.Mathlib.Omega.{arith}
 use mathlib.Core.Path.{_≡_, refl, ap}
 use mathlib.Core.List.{List, [], _∷_}
 use lib.ListN.{length, length-append}
-use Rattle.meaning.specs.Arithmetic.{Arithmetic}
 use Rattle.meaning.specs.Expression.{Expression, integer, name, first, next, negation, binary, conditional, fby, Constraint, always, until, leftSide, rightSide, Sheet}
 use Rattle.meaning.specs.Window.{untilsOf, allUntils}
 use Rattle.meaning.specs.NormalForm.{added, addedCount, addedEntries, addedBy, entriesBy, allAdded, allRewritten, allEntries, normalForm, nextsIn, fbysIn}
@@ -71,9 +70,9 @@ unfolding allRewritten
 allRewritten-length n [] = refl
 allRewritten-length n (c ∷ cs) = ap suc (allRewritten-length (n + length (addedBy c)) cs)
 
-module _ (A : Arithmetic) (s : Sheet) where
+module _ (s : Sheet) where
   -- "So it has constraints + 2 × nexts + 4 × fbys + 2 × untils entries."
-  pub entry-count : length (normalForm A s .constraints)
+  pub entry-count : length (normalForm s .constraints)
       ≡ length (s .constraints) + 2 * overSides nextsIn (s .constraints) + 4 * overSides fbysIn (s .constraints) + 2 * length (allUntils (s .constraints))
   unfolding normalForm
   entry-count =
@@ -81,6 +80,6 @@ module _ (A : Arithmetic) (s : Sheet) where
       simp length-append (omega (arith, allRewritten-length n (s .constraints), allEntries-length n (s .constraints)))
 
   -- The added streams: two for each `next`, three for each `fby`, two for each `until`.
-  pub stream-count : length (normalForm A s .streams)
+  pub stream-count : length (normalForm s .streams)
       ≡ length (s .streams) + 2 * overSides nextsIn (s .constraints) + 3 * overSides fbysIn (s .constraints) + 2 * length (allUntils (s .constraints))
-  stream-count = omega (arith, streams-length A s, allAdded-length (s .constraints))
+  stream-count = omega (arith, streams-length s, allAdded-length (s .constraints))

@@ -4,7 +4,7 @@ use mathlib.Core.Path.{_≡_, refl}
 use mathlib.Core.List.{[], _∷_}
 use lib.IntN.{pos}
 use Rattle.meaning.specs.Value.{equal}
-use Rattle.meaning.specs.Arithmetic.{add, cutTowardZero}
+use Rattle.meaning.specs.Arithmetic.{add}
 use Rattle.meaning.specs.Expression.{Expression, integer, name, first, next, binary, fby, comparison, always, until, Stream, Sheet}
 use Rattle.meaning.specs.Interval.{interval}
 use Rattle.meaning.specs.NormalForm.{added, rewritten, equation, addedEntries, addedBy, rewrittenConstraint, entriesBy, allAdded, allRewritten, allEntries, normalForm}
@@ -24,7 +24,7 @@ x = record { name = 120 ∷ []; range = record { low = pos 0; high = pos 1 } }
 abbrev sheet : Sheet
 sheet = record { streams = x ∷ []; constraints = always (comparison equal) (fby (next (name 0)) (next x+1)) (name 0) ∷ until (name 0) (next (name 0)) ∷ [] }
 
-example : normalForm cutTowardZero sheet
+example : normalForm sheet
     ≡ record {
       streams =
           x

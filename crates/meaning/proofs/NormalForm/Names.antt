@@ -5,11 +5,11 @@ use native.Mathlib.Nat.{le-trans}
 use mathlib.Core.Path.{_≡_, _∙_, ap}
 use mathlib.Core.List.{List, [], _∷_, _++_}
 use lib.ListN.{length, length-append, length-map}
-use Rattle.meaning.specs.Arithmetic.{Arithmetic}
+use Rattle.basics.proofs.Lists.{All-append, All-member, member-All, All-map}
+use Rattle.basics.specs.Lists.{All}
 use Rattle.meaning.specs.Expression.{Expression, integer, name, first, next, negation, binary, conditional, fby, Constraint, always, until, leftSide, rightSide, Sheet}
 use Rattle.meaning.specs.Interval.{NamesBelow, SidesBelow}
 use Rattle.meaning.specs.NormalForm.{added, addedCount, rewritten, addedEntries, addedBy, rewrittenConstraint, entriesBy, allAdded, allRewritten, allEntries, normalForm}
-use Rattle.meaning.proofs.Lists.{All, All-append, All-member, member-All, All-map}
 use Rattle.meaning.specs.Scope.{NamesKnown}
 
 -- ---- what the added streams stand for
@@ -158,16 +158,16 @@ pub sides-All : {s : Sheet} → NamesKnown s → All (SidesBelow (length (s .str
 sides-All {s} known = member-All (SidesBelow (length (s .streams))) (s .constraints) (known .sides)
 
 -- The number of the normal form's streams.
-pub streams-length : (A : Arithmetic) (s : Sheet) → length (normalForm A s .streams) ≡ length (s .streams) + length (allAdded (s .constraints))
+pub streams-length : (s : Sheet) → length (normalForm s .streams) ≡ length (s .streams) + length (allAdded (s .constraints))
 unfolding normalForm
-streams-length A s = length-append (s .streams) _ ∙ ap (λ n. length (s .streams) + n) (length-map (allAdded (s .constraints)) _)
+streams-length s = length-append (s .streams) _ ∙ ap (λ n. length (s .streams) + n) (length-map (allAdded (s .constraints)) _)
 
-pub names-below : (A : Arithmetic) {s : Sheet} → NamesKnown s → NamesKnown (normalForm A s)
+pub names-below : {s : Sheet} → NamesKnown s → NamesKnown (normalForm s)
 unfolding normalForm
-names-below A {s} known =
+names-below {s} known =
     let n = length (s .streams) in
-    let m = length (normalForm A s .streams) in
-    let l : n + length (allAdded (s .constraints)) ≤ m = omega (arith, streams-length A s) in
+    let m = length (normalForm s .streams) in
+    let l : n + length (allAdded (s .constraints)) ≤ m = omega (arith, streams-length s) in
     let fewer : n ≤ m = omega arith in
     let below = All-map (s .constraints) (SidesBelow-≤ fewer) (sides-All known) in
     let entries = constraints-below m n (s .constraints) below (record { room = l }) in

@@ -5,11 +5,11 @@ use mathlib.Core.Path.{_≡_, refl}
 use mathlib.Core.Logic.{_↔_}
 use mathlib.Core.List.{List, [], _∷_, _++_, List·Memᴰ}
 use lib.ListN.{length}
+use Rattle.basics.proofs.Lists.{All-append, All-member}
+use Rattle.basics.specs.Lists.{All}
 use Rattle.meaning.specs.Value.{equal}
-use Rattle.meaning.specs.Arithmetic.{Arithmetic}
 use Rattle.meaning.specs.Expression.{Expression, integer, name, first, next, negation, binary, conditional, fby, Sign, comparison, Constraint, always, until, Sheet}
 use Rattle.meaning.specs.NormalForm.{addedCount, rewritten, equation, addedEntries, addedBy, rewrittenConstraint, entriesBy, allRewritten, allEntries, normalForm, nextsIn, fbysIn}
-use Rattle.meaning.proofs.Lists.{All, All-append, All-member}
 
 -- An expression "with no next, fby or until (but can contain first operators)" (000, section 3.1); `until` never stands in an expression.
 abbrev pub Pointwise : Expression → Type 0
@@ -94,9 +94,9 @@ constraints-primitive n (until a b ∷ cs) =
       ),
     )
 
-pub entries-primitive : (A : Arithmetic) (s : Sheet) (c : Constraint) → List·Memᴰ c (normalForm A s .constraints) → Primitive c
+pub entries-primitive : (s : Sheet) (c : Constraint) → List·Memᴰ c (normalForm s .constraints) → Primitive c
 unfolding normalForm
-entries-primitive A s c h =
+entries-primitive s c h =
     let n = length (s .streams) in
     All-member Primitive (All-append Primitive (allRewritten n (s .constraints)) _ .1 (constraints-primitive n (s .constraints))) h
 

@@ -1,8 +1,8 @@
 -- `minimise::move_row` meets its contract: the first `a` entries are moved.
-use Prim.Native.Nat.{ℕ, suc, _≤_, _<_, _-_, _+_}
-use mathlib.Core.Path.{_≡_, refl, sym, _∙_}
+use Prim.Native.Nat.{_≤_, _-_, _+_}
+use mathlib.Core.Path.{_≡_, refl}
 use native.Mathlib.Omega.{arith}
-use lib.ListN.{length, getD, length-set}
+use lib.ListN.{length, length-set}
 use Rattle.minimise.specs.Compacting.{IsMoved}
 use Rattle.minimise.proofs.Compacting.{moved-start, moved-next, moved-end}
 use borrow.Author.Needs.{needs}

@@ -1,11 +1,9 @@
 -- `minimise::move_rows` meets its contract: the rows of the states before `state` are moved.
-use Prim.Native.Nat.{ℕ, suc, _≤_, _<_, _-_, _+_, _*_}
-use mathlib.Core.Path.{_≡_, refl, sym, subst, _∙_}
+use Prim.Native.Nat.{_≤_, _-_, _+_, _*_}
 use native.Mathlib.Nat.{mul-le-mul-right}
 use native.Mathlib.Omega.{arith}
-use lib.ListN.{length, getD, length-set}
+use lib.ListN.{length, getD}
 use Rattle.marks.proofs.Laws.{row-fits}
-use Rattle.minimise.specs.Compacting.{IsCompacted}
 use Rattle.minimise.proofs.Compacting.{first-least, IsCompacting, compacting-start, compacting-next, compacting-end}
 use borrow.Author.Needs.{needs}
 use Rattle.minimise.proofs.move_rows.Statement.{statement}
@@ -72,10 +70,10 @@ loop-again c =
     )
 
 same-length : tie.Need-same-length Inv-loop μ-loop
-same-length c = search needs
+same-length c = c .before .loop .inv .1 .entries-length
 
 same-length-2 : tie.Need-same-length-2 Inv-loop μ-loop
-same-length-2 c = search needs
+same-length-2 c = c .before .loop .inv .1 .finals-length
 
 returns : tie.Need-returns Inv-loop μ-loop
 returns c = compacting-end (omega (arith, c .before .loop .inv .0)) (c .before .loop .inv .1)

@@ -1,9 +1,9 @@
 -- `minimise::number_classes` meets its contract: the classes that begin before `row` are numbered.
-use Prim.Native.Nat.{ℕ, suc, _≤_, _<_, _-_, _+_}
+use Prim.Native.Nat.{_≤_, _-_}
 use mathlib.Core.Path.{_≡_, refl, sym, _∙_}
 use native.Mathlib.Numerals.{add-one}
 use native.Mathlib.Omega.{arith}
-use lib.ListN.{length, getD, length-set}
+use lib.ListN.{length, length-set}
 use Rattle.minimise.specs.Compacting.{IsNumbered}
 use Rattle.minimise.proofs.Compacting.{numbered-start, numbered-other, numbered-own}
 use borrow.Author.Needs.{needs}

@@ -9,7 +9,7 @@ use borrow.Fn.Kinds.{In, Out}
 use borrow.Fn.PlainCycle.{Measures, is, falls, and}
 use Rattle.nodes.proofs.Parts.{left-before}
 use Rattle.nodes.proofs.left_end.Reads as left-end-reads
-use Rattle.normal.specs.Rows.{Rewriting, joined}
+use Rattle.normal.specs.Rows.{Rewriting, bothRewritings}
 use Rattle.normal.specs.Stored.{rewritingBefore}
 use Rattle.normal.proofs.Writing.{room-same, wrote-same, wrote-nothing, room-left, room-right, wrote-joined, room-own-next, room-next, wrote-next, room-fby-own, room-fby-right, wrote-fby}
 use Rattle.normal.proofs.Recursion.{rewritingBefore-none, leaf-arm, next-arm, same-arm, conditional-arm, fby-arm, operator-arm, left-room}
@@ -121,23 +121,23 @@ write-rows-requires-3 t c κs =
     let s = c .before .before .before .before .before .before .before .before .before .before .before in
     let m : c .before .before .before .left-end .result ≤ s .args .end - 1 = left-before (s .args .starts .now) (s .args .end - 1) (s .args .end - 1) (c .before .before .before .left-end .ensures) (omega arith) in
     let l : c .before .left-end2 .result ≤ s .args .end - 1 = left-before (s .args .starts .now) (c .before .before .before .left-end .result) (s .args .end - 1) (c .before .left-end2 .ensures) m in
-    (omega (arith, s .pre .0, c .before .before .before .before .before .before .before .before .if1 .left), (omega (arith, s .pre .1 .0), omega (arith, s .pre .1 .1), room-left (before t s (c .before .left-end2 .result)) (joined (before t s (c .before .before .before .left-end .result)) (before t s (s .args .end - 1))) (conditional-arm (s .args .kinds .now) (s .args .starts .now) (s .args .end) (c .before .before .before .before .before .before .before .before .if1 .left) (c .before .before .before .left-end .ensures) (c .before .before .if5 .taken) (c .before .left-end2 .ensures)) (s .pre .1 .2)))
+    (omega (arith, s .pre .0, c .before .before .before .before .before .before .before .before .if1 .left), (omega (arith, s .pre .1 .0), omega (arith, s .pre .1 .1), room-left (before t s (c .before .left-end2 .result)) (bothRewritings (before t s (c .before .before .before .left-end .result)) (before t s (s .args .end - 1))) (conditional-arm (s .args .kinds .now) (s .args .starts .now) (s .args .end) (c .before .before .before .before .before .before .before .before .if1 .left) (c .before .before .before .left-end .ensures) (c .before .before .if5 .taken) (c .before .left-end2 .ensures)) (s .pre .1 .2)))
 
 write-rows-requires-4 : Each lts.Need-write-rows-requires-4
 write-rows-requires-4 t c κs =
     let s = c .before .before .before .before .before .before .before .before .before .before .before .before .before in
     let m : c .before .before .before .before .before .left-end .result ≤ s .args .end - 1 = left-before (s .args .starts .now) (s .args .end - 1) (s .args .end - 1) (c .before .before .before .before .before .left-end .ensures) (omega arith) in
-    (omega (arith, s .pre .0, c .before .before .before .before .before .before .before .before .before .before .if1 .left), (omega (arith, s .pre .1 .0), omega (arith, s .pre .1 .1), room-left (before t s (c .before .before .before .before .before .left-end .result)) (before t s (s .args .end - 1)) refl (room-right (before t s (c .before .before .before .left-end2 .result)) (joined (before t s (c .before .before .before .before .before .left-end .result)) (before t s (s .args .end - 1))) (conditional-arm (s .args .kinds .now) (s .args .starts .now) (s .args .end) (c .before .before .before .before .before .before .before .before .before .before .if1 .left) (c .before .before .before .before .before .left-end .ensures) (c .before .before .before .before .if5 .taken) (c .before .before .before .left-end2 .ensures)) (c .before .write-rows3 .ensures) (s .pre .1 .2))))
+    (omega (arith, s .pre .0, c .before .before .before .before .before .before .before .before .before .before .if1 .left), (omega (arith, s .pre .1 .0), omega (arith, s .pre .1 .1), room-left (before t s (c .before .before .before .before .before .left-end .result)) (before t s (s .args .end - 1)) refl (room-right (before t s (c .before .before .before .left-end2 .result)) (bothRewritings (before t s (c .before .before .before .before .before .left-end .result)) (before t s (s .args .end - 1))) (conditional-arm (s .args .kinds .now) (s .args .starts .now) (s .args .end) (c .before .before .before .before .before .before .before .before .before .before .if1 .left) (c .before .before .before .before .before .left-end .ensures) (c .before .before .before .before .if5 .taken) (c .before .before .before .left-end2 .ensures)) (c .before .write-rows3 .ensures) (s .pre .1 .2))))
 
 write-rows-requires-5 : Each lts.Need-write-rows-requires-5
 write-rows-requires-5 t c κs =
     let s = c .before .before .before .before .before .before .before .before .before .before .before .before .before .before .before in
-    (omega (arith, s .pre .0, c .before .before .before .before .before .before .before .before .before .before .before .before .if1 .left), (omega (arith, s .pre .1 .0), omega (arith, s .pre .1 .1), room-right (before t s (c .before .before .before .before .before .before .before .left-end .result)) (before t s (s .args .end - 1)) refl (c .before .write-rows4 .ensures) (room-right (before t s (c .before .before .before .before .before .left-end2 .result)) (joined (before t s (c .before .before .before .before .before .before .before .left-end .result)) (before t s (s .args .end - 1))) (conditional-arm (s .args .kinds .now) (s .args .starts .now) (s .args .end) (c .before .before .before .before .before .before .before .before .before .before .before .before .if1 .left) (c .before .before .before .before .before .before .before .left-end .ensures) (c .before .before .before .before .before .before .if5 .taken) (c .before .before .before .before .before .left-end2 .ensures)) (c .before .before .before .write-rows3 .ensures) (s .pre .1 .2))))
+    (omega (arith, s .pre .0, c .before .before .before .before .before .before .before .before .before .before .before .before .if1 .left), (omega (arith, s .pre .1 .0), omega (arith, s .pre .1 .1), room-right (before t s (c .before .before .before .before .before .before .before .left-end .result)) (before t s (s .args .end - 1)) refl (c .before .write-rows4 .ensures) (room-right (before t s (c .before .before .before .before .before .left-end2 .result)) (bothRewritings (before t s (c .before .before .before .before .before .before .before .left-end .result)) (before t s (s .args .end - 1))) (conditional-arm (s .args .kinds .now) (s .args .starts .now) (s .args .end) (c .before .before .before .before .before .before .before .before .before .before .before .before .if1 .left) (c .before .before .before .before .before .before .before .left-end .ensures) (c .before .before .before .before .before .before .if5 .taken) (c .before .before .before .before .before .left-end2 .ensures)) (c .before .before .before .write-rows3 .ensures) (s .pre .1 .2))))
 
 returns-5 : Each lts.Need-returns-5
 returns-5 t c =
     let s = c .before .before .before .before .before .before .before .before .before .before .before .before .before .before .before .before in
-    wrote-joined (before t s (c .before .before .before .before .before .before .left-end2 .result)) (joined (before t s (c .before .before .before .before .before .before .before .before .left-end .result)) (before t s (s .args .end - 1))) (conditional-arm (s .args .kinds .now) (s .args .starts .now) (s .args .end) (c .before .before .before .before .before .before .before .before .before .before .before .before .before .if1 .left) (c .before .before .before .before .before .before .before .before .left-end .ensures) (c .before .before .before .before .before .before .before .if5 .taken) (c .before .before .before .before .before .before .left-end2 .ensures)) (c .before .before .before .before .write-rows3 .ensures) (wrote-joined (before t s (c .before .before .before .before .before .before .before .before .left-end .result)) (before t s (s .args .end - 1)) refl (c .before .before .write-rows4 .ensures) (c .write-rows5 .ensures))
+    wrote-joined (before t s (c .before .before .before .before .before .before .left-end2 .result)) (bothRewritings (before t s (c .before .before .before .before .before .before .before .before .left-end .result)) (before t s (s .args .end - 1))) (conditional-arm (s .args .kinds .now) (s .args .starts .now) (s .args .end) (c .before .before .before .before .before .before .before .before .before .before .before .before .before .if1 .left) (c .before .before .before .before .before .before .before .before .left-end .ensures) (c .before .before .before .before .before .before .before .if5 .taken) (c .before .before .before .before .before .before .left-end2 .ensures)) (c .before .before .before .before .write-rows3 .ensures) (wrote-joined (before t s (c .before .before .before .before .before .before .before .before .left-end .result)) (before t s (s .args .end - 1)) refl (c .before .before .write-rows4 .ensures) (c .write-rows5 .ensures))
 
 write-rows-requires-6 : Each lts.Need-write-rows-requires-6
 write-rows-requires-6 t c κs =

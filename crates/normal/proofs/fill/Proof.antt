@@ -51,7 +51,7 @@ use denote.Triple.Table.{entered, cited}
 use denote.Triple.Walked.{says, Stays, stay-slice, stay-none-ref, walkOf, AllGo, goes-slice, goes-none-ref, Walks, ends-at, walked, walk-meets}
 use denote.Exit.{yes}
 use denote.Triple.Clauses.{ensured, lasts}
-use Rattle.normal.specs.Table.{blank, entryAt, listed}
+use Rattle.normal.specs.Table.{blank, storedEntry, listed}
 use Rattle.normal.specs.declared.Entry.{Entry}
 use Rattle.normal.proofs.Entries.{listed-more, listed-whole}
 use Rattle.normal.proofs.Entry as T₀
@@ -135,7 +135,7 @@ module _ {M : Type 1} (𝓤 : URA M) (H : Heap 𝓤) (A : Atoms 𝓤) (W : Given
 
   -- the entry with a number, and its machine value
   abbrev entry : ℕ → Entry
-  entry i = entryAt (now numbers) (now ends) i
+  entry i = storedEntry (now numbers) (now ends) i
 
   abbrev entry-value : Entry → Val
   entry-value r = T′.lowered r

@@ -1,7 +1,6 @@
 -- `normal::make` meets its contract: the entries of all lines stand in the tables, or they are more than the list holds.
 use lib.ListN.{length}
 use borrow.Author.Needs.{needs}
-use Rattle.meaning.specs.Arithmetic.{cutTowardZero}
 use Rattle.nodes.specs.Evaluate.{stored}
 use Rattle.normal.specs.Stored.{storedLines, rangeBefore}
 use Rattle.normal.proofs.Lines.{stored-count, streams-added, made-short, made-whole}
@@ -20,7 +19,7 @@ returns c =
     let a = s .args in
     let ls = storedLines (a .kinds .now) (a .starts .now) (a .relations .now) (a .lefts .now) (a .rights .now) in
     let count = stored-count (a .kinds .now) (a .starts .now) (a .relations .now) (a .lefts .now) (a .rights .now) (s .pre .0 .leftCount) (s .pre .0 .rightCount) in
-    made-short ls (length (a .lows .now)) count (c .before .before .write-lines .ensures) (rangeBefore cutTowardZero (stored (a .kinds .now) (a .values .now) (a .starts .now)) (a .lows .now) (a .highs .now)) (a .spans .now) (a .room) (c .before .if1 .taken) (c .refused .ensures)
+    made-short ls (length (a .lows .now)) count (c .before .before .write-lines .ensures) (rangeBefore (stored (a .kinds .now) (a .values .now) (a .starts .now)) (a .lows .now) (a .highs .now)) (a .spans .now) (a .room) (c .before .if1 .taken) (c .refused .ensures)
 
 write-ends-requires : tie.Need-write-ends-requires
 write-ends-requires c κs = search needs
@@ -48,7 +47,7 @@ returns-2 c =
     let a = s .args in
     let ls = storedLines (a .kinds .now) (a .starts .now) (a .relations .now) (a .lefts .now) (a .rights .now) in
     let count = stored-count (a .kinds .now) (a .starts .now) (a .relations .now) (a .lefts .now) (a .rights .now) (s .pre .0 .leftCount) (s .pre .0 .rightCount) in
-    made-whole ls (length (a .lows .now)) count (c .before .before .before .before .before .before .before .write-lines .ensures) (rangeBefore cutTowardZero (stored (a .kinds .now) (a .values .now) (a .starts .now)) (a .lows .now) (a .highs .now)) (a .spans .now) (a .room) (c .before .before .before .before .before .before .if1 .left) (c .before .put-spans .ensures) (c .before .before .before .write-ends .ensures)
+    made-whole ls (length (a .lows .now)) count (c .before .before .before .before .before .before .before .write-lines .ensures) (rangeBefore (stored (a .kinds .now) (a .values .now) (a .starts .now)) (a .lows .now) (a .highs .now)) (a .spans .now) (a .room) (c .before .before .before .before .before .before .if1 .left) (c .before .put-spans .ensures) (c .before .before .before .write-ends .ensures)
 
 pub make-spec : {M : Type 1} → statement M
 make-spec =

@@ -48,11 +48,9 @@ use denote.Triple.Table.{entered, cited}
 use denote.Triple.Walked.{says, Stays, gave-slice, stay-none-slice, walkOf, AllGo, goes-gave-slice, goes-none-slice, Walks, ends-at, walked, walk-meets}
 use denote.Exit.{yes}
 use denote.Triple.Clauses.{ensured, lasts}
-use Rattle.meaning.specs.Arithmetic.{cutTowardZero}
-use Rattle.sheet.specs.Form.{threeHeaderLines}
 use Rattle.sheet.specs.Reading.{answerTo}
 use Rattle.normal.specs.Outcome.{entriesFor}
-use Rattle.normal.specs.Table.{entryAt, listed}
+use Rattle.normal.specs.Table.{storedEntry, listed}
 use Rattle.normal.specs.declared.Entry.{Entry}
 use Rattle.normal.specs.declared.Made.{Made}
 use Rattle.normal.proofs.Outcome.{normal-outcome}
@@ -138,7 +136,7 @@ module _ {M : Type 1} (𝓤 : URA M) (H : Heap 𝓤) (A : Atoms 𝓤) (W : Given
   Listed = MutSlice (named 1) κ₁ T₀.the-row .own x (list-value ∷ [])
 
   abbrev wanted : Made
-  wanted = entriesFor (now text) (answerTo cutTowardZero threeHeaderLines (now text)) n
+  wanted = entriesFor (now text) (answerTo (now text)) n
 
   -- `read_entries`
   abbrev to-read : ReadEntries 𝓤 H A at-mem run .Ghost
@@ -202,7 +200,7 @@ module _ {M : Type 1} (𝓤 : URA M) (H : Heap 𝓤) (A : Atoms 𝓤) (W : Given
     asked-fill : ent 𝓤 (⋆ 𝓤 H A (Tokens ∷ ‵ Owned ∷ [])) (Fill 𝓤 H A at-mem run .pre to-fill)
     asked-fill = qed W (Tokens ∷ ‵ Owned ∷ []) ∵ join ! $ frame ! $ done !
 
-  exits : (r : Made) (zs : List Entry) → r ≡ wanted → zs ≡ listed (entryAt (r .numbers) (r .ends)) n → length zs ≡ n → Is F₀.the-row (r .answer) (F′.lowered (r .answer) ∷ [])
+  exits : (r : Made) (zs : List Entry) → r ≡ wanted → zs ≡ listed (storedEntry (r .numbers) (r .ends)) n → length zs ≡ n → Is F₀.the-row (r .answer) (F′.lowered (r .answer) ∷ [])
       → ent 𝓤 (⋆ 𝓤 H A (‵ (flft κ₁ q₁) ∷ ‵ (finally T₀.the-row γ zs) ∷ (‵ (flft κ q) ⊛ ‵ ftrue) ∷ ‵ Text ∷ [])) (Post (F′.lowered (r .answer)))
   exits r zs e f len is =
       qed W (‵ (flft κ₁ q₁) ∷ ‵ (finally T₀.the-row γ zs) ∷ (‵ (flft κ q) ⊛ ‵ ftrue) ∷ ‵ Text ∷ []) ∵
@@ -263,8 +261,8 @@ module _ {M : Type 1} (𝓤 : URA M) (H : Heap 𝓤) (A : Atoms 𝓤) (W : Given
         (and-then ! (load ! (from ! (stop !)) (look ! 8 refl)) (and-then ! (load ! (from ! (stop !)) (look ! 6 refl)) (and-then ! (load ! (from ! (stop !)) (look ! 4 refl)) (no-more !)))) (λ w.
         use1 W (later (some (λ (u : Unit {0}). (Tokens r α β γ₁ γ₂ l₄ l₅ ⊛ ‵ (unit .own u (w ∷ []))) ⊛ raw (ensured 𝓤 H A fill.ended (fill.clauses 𝓤 H A at-mem run) (lifetimes r α β γ₁ γ₂ l₄ l₅) (given′ r α β γ₁ γ₂ l₄ l₅) tt u)))) (id⊢ 𝓤 _) $
         await ! tt $ pick ! (λ u. split ! $ move ! (1 ∷ []) $
-        use1 W (some (λ (zs : List Entry × (Unit {0} × (Unit {0} × Unit {0}))). ‵ (lasts fill.ended (lifetimes r α β γ₁ γ₂ l₄ l₅) (given′ r α β γ₁ γ₂ l₄ l₅) zs) ⊛ raw (fact 𝓤 (zs .0 ≡ listed (entryAt (r .numbers) (r .ends)) n)))) (id⊢ 𝓤 _) $ pick ! (λ zs.
-        split ! $ move ! (1 ∷ []) $ heard ! (zs .0 ≡ listed (entryAt (r .numbers) (r .ends)) n) (λ f. fsplit ! $ fsplit ! $ move ! (1 ∷ []) $ feqL ! (λ len.
+        use1 W (some (λ (zs : List Entry × (Unit {0} × (Unit {0} × Unit {0}))). ‵ (lasts fill.ended (lifetimes r α β γ₁ γ₂ l₄ l₅) (given′ r α β γ₁ γ₂ l₄ l₅) zs) ⊛ raw (fact 𝓤 (zs .0 ≡ listed (storedEntry (r .numbers) (r .ends)) n)))) (id⊢ 𝓤 _) $ pick ! (λ zs.
+        split ! $ move ! (1 ∷ []) $ heard ! (zs .0 ≡ listed (storedEntry (r .numbers) (r .ends)) n) (λ f. fsplit ! $ fsplit ! $ move ! (1 ∷ []) $ feqL ! (λ len.
         -- [what says the list's last value; …; the tokens and the result; lent; lent; the text's token; _11; …; ..]
         move ! (2 ∷ []) $ split ! $ move ! (1 ∷ []) $ peeks ! unit (Is unit) (shows 𝓤 H A unit) u (w ∷ []) (λ unit-is.
         land ! (from ! (stop !)) (init ! 15 refl (nothing-lawful 𝓤 H A W .typed u _ unit-is .0)) $ drop ! $

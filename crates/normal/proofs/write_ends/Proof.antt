@@ -7,7 +7,6 @@ use mir.Syntax.{w64}
 use mir.ValLaws.{toZ-ofZ}
 use lib.Seq.{sets}
 use borrow.Author.Needs.{needs}
-use Rattle.meaning.specs.Arithmetic.{cutTowardZero}
 use Rattle.nodes.specs.Evaluate.{stored}
 use Rattle.normal.specs.Stored.{rangeBefore}
 use Rattle.normal.specs.Table.{endsUpTo}
@@ -17,13 +16,13 @@ use Rattle.normal.proofs.write_ends.Tie as tie
 
 abbrev Inv-loop : tie.InvT-loop
 Inv-loop kinds values starts lows highs numbers rows ends₀ i₀ ends i =
-    (i ≤ rows) × (ends ≡ sets ends₀ 0 (endsUpTo (rangeBefore cutTowardZero (stored kinds values starts) lows highs) numbers i))
+    (i ≤ rows) × (ends ≡ sets ends₀ 0 (endsUpTo (rangeBefore (stored kinds values starts) lows highs) numbers i))
 
 abbrev μ-loop : tie.MeasureT-loop
 μ-loop kinds values starts lows highs numbers rows ends₀ i₀ ends i = rows - i
 
 loop-holds : tie.Need-loop-holds Inv-loop μ-loop
-loop-holds c = let s = c .before .before in (omega arith, no-ends (rangeBefore cutTowardZero (stored (s .args .kinds .now) (s .args .values .now) (s .args .starts .now)) (s .args .lows .now) (s .args .highs .now)) (s .args .numbers .now) (s .args .ends .now))
+loop-holds c = let s = c .before .before in (omega arith, no-ends (rangeBefore (stored (s .args .kinds .now) (s .args .values .now) (s .args .starts .now)) (s .args .lows .now) (s .args .highs .now)) (s .args .numbers .now) (s .args .ends .now))
 
 mul-wide : tie.Need-mul-wide Inv-loop μ-loop
 mul-wide c = let s = c .before .before .before .before in omega (arith, s .pre)
@@ -57,7 +56,7 @@ loop-again c =
     let s = c .before .before .before .before .before .before .before .before .before .before .before in
     let o = c .before .before .before .before .before .before .before .before .loop in
     let r = c .before .before .before .before .range-before .result in
-    let range = rangeBefore cutTowardZero (stored (s .args .kinds .now) (s .args .values .now) (s .args .starts .now)) (s .args .lows .now) (s .args .highs .now) in (
+    let range = rangeBefore (stored (s .args .kinds .now) (s .args .values .now) (s .args .starts .now)) (s .args .lows .now) (s .args .highs .now) in (
       omega arith,
       more-ends range (s .args .numbers .now) (s .args .ends .now) (o .i) (o .inv .1) (c .before .before .before .before .range-before .ensures ∙ ap range (c .before .before .before .before .before .wide .ensures)) (c .put-range .ensures
           ∙ ap₂ (λ x y. sets (o .ends) (o .i * 2) (x ∷ y ∷ [])) (toZ-ofZ w64 (r .low) (record { sfits = omega (arith, c .before .before .struct-told .given) })) (toZ-ofZ w64 (r .high) (record { sfits = omega (arith, c .before .struct-told2 .given) }))),
@@ -68,7 +67,7 @@ returns c =
     let s = c .before .before .before .before in
     let o = c .before .loop in
     let e : o .i ≡ s .args .rows = omega (arith, o .inv .0, c .loop-test .left) in
-    o .inv .1 ∙ ap (λ k. sets (s .args .ends .now) 0 (endsUpTo (rangeBefore cutTowardZero (stored (s .args .kinds .now) (s .args .values .now) (s .args .starts .now)) (s .args .lows .now) (s .args .highs .now)) (s .args .numbers .now) k)) e
+    o .inv .1 ∙ ap (λ k. sets (s .args .ends .now) 0 (endsUpTo (rangeBefore (stored (s .args .kinds .now) (s .args .values .now) (s .args .starts .now)) (s .args .lows .now) (s .args .highs .now)) (s .args .numbers .now) k)) e
 
 pub write-ends-spec : {M : Type 1} → statement M
 write-ends-spec =

@@ -36,10 +36,8 @@ use denote.Triple.Table.{entered, cited}
 use denote.Triple.Walked.{says, Stays, gave-slice, stay-none-slice, walkOf, AllGo, goes-gave-slice, goes-none-slice, Walks, ends-at, walked, walk-meets}
 use denote.Exit.{yes}
 use denote.Triple.Clauses.{ensured, lasts}
-use Rattle.meaning.specs.Arithmetic.{cutTowardZero}
-use Rattle.sheet.specs.Form.{threeHeaderLines}
 use Rattle.outcome.specs.NormalForm.{NormalOutcome}
-use Rattle.normal.specs.Encoded.{encoded, answerOf}
+use Rattle.normal.specs.Encoded.{normalEntries, normalAnswerOf}
 use Rattle.normal.specs.Table.{blank}
 use Rattle.normal.specs.declared.Entry.{Entry}
 use Rattle.normal.specs.declared.NormalForm.{NormalForm}
@@ -103,7 +101,7 @@ module _ {M : Type 1} (𝓤 : URA M) (H : Heap 𝓤) (A : Atoms 𝓤) (W : Given
 
   -- what `normal_form` says of its result and of the list's last value
   abbrev Outcome : NormalForm → List Entry → Type 0
-  Outcome r zs = NormalOutcome blank (encoded (now text)) cutTowardZero threeHeaderLines (now text) (length xs) (answerOf r) zs
+  Outcome r zs = NormalOutcome blank (normalEntries (now text)) (now text) (length xs) (normalAnswerOf r) zs
 
   abbrev to-call : Callee 𝓤 H A at-mem run .Ghost
   to-call = ((κs, (q, (q₁, tt)), tt, args, at), tt)

@@ -6,7 +6,7 @@ use mathlib.Core.Path.{_≡_, refl, sym, _∙_, ap}
 use mathlib.Core.List.{[], _∷_}
 use lib.ListN.{length, take, getD, set}
 use lib.Seq.{sets, length-sets, length-take-le, take-suc}
-use Rattle.meaning.proofs.Lists.{sets-append}
+use Rattle.basics.proofs.Lists.{sets-append}
 use Rattle.pages.proofs.copy.Statement.{statement}
 use Rattle.pages.proofs.copy.Tie as tie
 

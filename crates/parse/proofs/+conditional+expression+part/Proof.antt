@@ -27,7 +27,7 @@ use Rattle.parse.proofs.+conditional+expression+part.Lts-expression as 
 use Rattle.parse.proofs.part.Reads as part
 use Rattle.parse.proofs.part.Kinds as part-kinds
 use Rattle.parse.proofs.+conditional+expression+part.Lts-part as part-lts
-use Rattle.parse.proofs.either.Reads as either-reads
+use Rattle.basics.proofs.either.Reads as either-reads
 use Rattle.parse.proofs.firsts_inside.Reads as firsts-inside-reads
 use Rattle.parse.proofs.leaf.Reads as leaf-reads
 use Rattle.parse.proofs.nothing.Reads as nothing-reads

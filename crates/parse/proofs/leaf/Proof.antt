@@ -9,18 +9,19 @@ use mir.ValLaws.{toZ-ofZ}
 use borrow.Author.Needs.{needs}
 use borrow.Author.Tests.{not-true, not-false}
 use lib.IntN.{pos}
+use Rattle.nodes.specs.Evaluate.{Nodes, stored}
 use Rattle.text.specs.Bytes.{tokens}
 use Rattle.text.specs.Token.{isName, isReserved}
 use Rattle.nodes.specs.Postfix.{node}
-use Rattle.parse.specs.Stored.{Arrays, arrays, store}
+use Rattle.parse.specs.Stored.{store}
 use Rattle.parse.proofs.Store.{below-refl}
 use Rattle.parse.proofs.Leaves.{an-integer, no-integer, integer-fits, leaf-integer, leaf-name, leaf-missing, reserved-no-name, not-a-name, place-length}
 use Rattle.parse.proofs.leaf.Statement.{statement}
 use Rattle.parse.proofs.leaf.Tie as tie
 
--- The arrays as they were.
-abbrev before : tie.Start → Arrays
-before c = arrays (c .args .kinds .now) (c .args .values .now) (c .args .starts .now)
+-- The stored as they were.
+abbrev before : tie.Start → Nodes
+before c = stored (c .args .kinds .now) (c .args .values .now) (c .args .starts .now)
 
 read-integer-requires : tie.Need-read-integer-requires
 read-integer-requires c κs = search needs

@@ -8,8 +8,8 @@ use lib.Dec.{leb}
 use lib.ListN.{length}
 use borrow.Author.Needs.{needs}
 use borrow.Author.Tests.{not-true, not-false}
+use Rattle.basics.proofs.Reflects.{from-true, from-false, leb-reflects}
 use Rattle.text.specs.Bytes.{tokens}
-use Rattle.text.proofs.Reflects.{from-true, from-false, leb-reflects}
 use Rattle.scan.specs.Start.{tokenStarts}
 use Rattle.scan.proofs.Starts.{token-starts-length}
 use Rattle.parse.specs.Reading.{Fits, areStored}

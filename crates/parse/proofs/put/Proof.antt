@@ -4,7 +4,8 @@ use lib.ListN.{set}
 use mir.Syntax.{w64}
 use mir.ValLaws.{toZ-ofZ}
 use borrow.Author.Needs.{needs}
-use Rattle.parse.specs.Stored.{arrays, store}
+use Rattle.nodes.specs.Evaluate.{stored}
+use Rattle.parse.specs.Stored.{store}
 use Rattle.parse.proofs.put.Statement.{statement}
 use Rattle.parse.proofs.put.Tie as tie
 
@@ -30,7 +31,7 @@ returns : tie.Need-returns
 unfolding store
 returns c =
     let a = c .args in
-    ap (λ z. arrays (set (a .kinds .now) (a .at) (a .kind)) (set (a .values .now) (a .at) z) (set (a .starts .now) (a .at) (a .start))) (toZ-ofZ w64 (a .value) (c .fits .value))
+    ap (λ z. stored (set (a .kinds .now) (a .at) (a .kind)) (set (a .values .now) (a .at) z) (set (a .starts .now) (a .at) (a .start))) (toZ-ofZ w64 (a .value) (c .fits .value))
 
 pub put-spec : {M : Type 1} → statement M
 put-spec =

@@ -7,7 +7,7 @@ use lib.ListN.{length}
 use mir.Syntax.{w64}
 use mir.ValLaws.{toZ-ofZ}
 use borrow.Author.Needs.{needs}
-use Rattle.parse.specs.Stored.{arrays}
+use Rattle.nodes.specs.Evaluate.{stored}
 use Rattle.parse.specs.Numbered.{tokensFrom}
 use Rattle.parse.specs.Reading.{prefixValue}
 use Rattle.parse.specs.Prefixes.{readUpTo, Passes, Leads}
@@ -19,7 +19,7 @@ use Rattle.parse.proofs.put_prefixes.Tie as tie
 abbrev Inv-loop : tie.InvT-loop
 Inv-loop text origin token-starts at kinds₀ values₀ starts₀ nodes firsts inner number₀ inside₀ last₀ kinds values starts number inside last =
     Passes (tokensFrom text origin token-starts) at firsts number inside
-    × Leads (tokensFrom text origin token-starts) nodes number₀ inside₀ (arrays kinds₀ values₀ starts₀) inner number inside (arrays kinds values starts) (readUpTo inner last)
+    × Leads (tokensFrom text origin token-starts) nodes number₀ inside₀ (stored kinds₀ values₀ starts₀) inner number inside (stored kinds values starts) (readUpTo inner last)
     × (nodes ≤ last)
     × (last + number ≤ 1024 + at)
 

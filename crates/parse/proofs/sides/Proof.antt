@@ -5,7 +5,7 @@ use lib.ListN.{length}
 use borrow.Author.Needs.{needs}
 use borrow.Author.Tests.{not-true, not-false}
 use Rattle.scan.specs.Place.{between}
-use Rattle.parse.specs.Bounded.{bounded}
+use Rattle.parse.specs.Bounded.{boundedExpression}
 use Rattle.parse.specs.Numbered.{tokensFrom}
 use Rattle.parse.proofs.Store.{below-trans}
 use Rattle.parse.proofs.Trees.{some-node}
@@ -159,8 +159,8 @@ sub-t18 c =
     let at-if3 = c .before .before .before .before .if3 in
     let left = (at-expression .ensures .found (not-false (at-expression .result .ok) (at-if1 .left))) in
     let right = (at-expression2 .ensures .found (not-false (at-expression2 .result .ok) (at-if3 .left))) in
-    let some = some-node (at-start .args .nodes) (at-start .args .firsts) (bounded (left .tree)) in
-    let more = some-node (at-expression .result .nodes) (at-expression .result .firsts) (bounded (right .tree)) in
+    let some = some-node (at-start .args .nodes) (at-start .args .firsts) (boundedExpression (left .tree)) in
+    let more = some-node (at-expression .result .nodes) (at-expression .result .firsts) (boundedExpression (right .tree)) in
     omega (arith, left .stores .nodes, right .stores .nodes)
 
 sub-t20 : tie.Need-sub-t20
@@ -172,8 +172,8 @@ sub-t20 c =
     let at-if3 = c .before .before .before .before .before .if3 in
     let left = (at-expression .ensures .found (not-false (at-expression .result .ok) (at-if1 .left))) in
     let right = (at-expression2 .ensures .found (not-false (at-expression2 .result .ok) (at-if3 .left))) in
-    let some = some-node (at-start .args .nodes) (at-start .args .firsts) (bounded (left .tree)) in
-    let more = some-node (at-expression .result .nodes) (at-expression .result .firsts) (bounded (right .tree)) in
+    let some = some-node (at-start .args .nodes) (at-start .args .firsts) (boundedExpression (left .tree)) in
+    let more = some-node (at-expression .result .nodes) (at-expression .result .firsts) (boundedExpression (right .tree)) in
     omega (arith, left .stores .nodes, right .stores .nodes)
 
 either-requires : tie.Need-either-requires

@@ -4,7 +4,6 @@ use mathlib.Core.Path.{_≡_, refl, sym, _∙_}
 use native.Mathlib.Omega.{arith}
 use borrow.Author.Needs.{needs}
 use lib.ListN.{length, drop}
-use Rattle.meaning.specs.Arithmetic.{cutTowardZero}
 use Rattle.nodes.specs.Evaluate.{stored}
 use Rattle.reader.specs.Extent.{noExtent, extentFrom}
 use Rattle.reader.proofs.SheetExtent.{extent-step, extent-end}
@@ -14,7 +13,7 @@ use Rattle.reader.proofs.extent_of.Tie as tie
 abbrev Inv-loop : tie.InvT-loop
 Inv-loop kinds values starts lows highs lefts rights extent₀ i₀ extent i =
     (i ≤ length lefts)
-    × (extentFrom cutTowardZero (stored kinds values starts) lows highs noExtent lefts rights ≡ extentFrom cutTowardZero (stored kinds values starts) lows highs extent (drop i lefts) (drop i rights))
+    × (extentFrom (stored kinds values starts) lows highs noExtent lefts rights ≡ extentFrom (stored kinds values starts) lows highs extent (drop i lefts) (drop i rights))
 
 abbrev μ-loop : tie.MeasureT-loop
 μ-loop kinds values starts lows highs lefts rights extent₀ i₀ extent i = length lefts - i
@@ -69,14 +68,14 @@ loop-again c =
     let inside = c .before .before .before .before .before .before .loop-test .taken in (
       omega (arith, inside),
       loop .loop .inv .1
-          ∙ extent-step cutTowardZero (stored (start .args .kinds .now) (start .args .values .now) (start .args .starts .now)) (start .args .lows .now) (start .args .highs .now) (loop .loop .extent) (start .args .lefts .now) (start .args .rights .now) (loop .loop .i) (start .pre) inside
+          ∙ extent-step (stored (start .args .kinds .now) (start .args .values .now) (start .args .starts .now)) (start .args .lows .now) (start .args .highs .now) (loop .loop .extent) (start .args .lefts .now) (start .args .rights .now) (loop .loop .i) (start .pre) inside
           (c .before .before .before .before .summary .ensures) (c .before .before .before .with-summary .ensures) (c .before .summary2 .ensures) (c .with-summary2 .ensures),
     )
 
 returns : tie.Need-returns Inv-loop μ-loop
 returns c =
     let start = c .before .before .before .before .before .before in
-    sym (c .before .loop .inv .1 ∙ extent-end cutTowardZero (stored (start .args .kinds .now) (start .args .values .now) (start .args .starts .now)) (start .args .lows .now) (start .args .highs .now) (c .before .loop .extent) (start .args .lefts .now) (start .args .rights .now) (c .before .loop .i) (c .loop-test .left))
+    sym (c .before .loop .inv .1 ∙ extent-end (stored (start .args .kinds .now) (start .args .values .now) (start .args .starts .now)) (start .args .lows .now) (start .args .highs .now) (c .before .loop .extent) (start .args .lefts .now) (start .args .rights .now) (c .before .loop .i) (c .loop-test .left))
 
 pub extent-of-spec : {M : Type 1} → statement M
 extent-of-spec =

@@ -7,7 +7,7 @@ use native.Mathlib.Omega.{arith}
 use native.Mathlib.Numerals.{add-one}
 use lib.ListN.{length, take, getD, set}
 use lib.Seq.{sets, take-suc, take-all, length-take-le}
-use Rattle.meaning.proofs.Lists.{sets-append}
+use Rattle.basics.proofs.Lists.{sets-append}
 use Rattle.reader.proofs.put_name.Statement.{statement}
 use Rattle.reader.proofs.put_name.Tie as tie
 

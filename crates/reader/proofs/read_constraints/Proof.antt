@@ -1,14 +1,13 @@
 -- `reader::read_constraints` meets its contract: the tables and counts are those after the lines before the loop's place.
-use Prim.Native.Nat.{_+_, _≤_, _<_, _-_}
-use mathlib.Core.Path.{_≡_, refl, sym, ap, _∙_}
+use Prim.Native.Nat.{_-_}
 use native.Mathlib.Omega.{arith}
 use borrow.Author.Needs.{needs}
 use mathlib.Core.Bool.{false}
 use lib.Dec.{eqb}
 use borrow.Author.Tests.{not-true, not-false}
 use lib.ListN.{length}
+use Rattle.nodes.specs.Evaluate.{stored}
 use Rattle.scan.proofs.Lines.{line-within}
-use Rattle.parse.specs.Stored.{arrays}
 use Rattle.reader.specs.Constraints.{state, counts}
 use Rattle.reader.proofs.Constraints.{SoFar, at-most-one, line-read, line-missing, sofar-start, line-fits, count-low, sofar-missing, sides-low, sofar-step, sofar-end}
 use Rattle.reader.proofs.read_constraints.Statement.{statement}
@@ -16,7 +15,7 @@ use Rattle.reader.proofs.read_constraints.Tie as tie
 
 abbrev Inv-loop : tie.InvT-loop
 Inv-loop names text token-starts₀ kinds₀ values₀ starts₀ relations₀ lefts₀ rights₀ count₀ nodes₀ firsts₀ untils₀ beyond₀ at₀ token-starts kinds values starts relations lefts rights count nodes firsts untils beyond at =
-    SoFar names text (state (arrays kinds₀ values₀ starts₀) relations₀ lefts₀ rights₀ (counts 0 0 0 0 false)) (state (arrays kinds values starts) relations lefts rights (counts count nodes firsts untils beyond)) at
+    SoFar names text (state (stored kinds₀ values₀ starts₀) relations₀ lefts₀ rights₀ (counts 0 0 0 0 false)) (state (stored kinds values starts) relations lefts rights (counts count nodes firsts untils beyond)) at
 
 abbrev μ-loop : tie.MeasureT-loop
 μ-loop names text token-starts₀ kinds₀ values₀ starts₀ relations₀ lefts₀ rights₀ count₀ nodes₀ firsts₀ untils₀ beyond₀ at₀ token-starts kinds values starts relations lefts rights count nodes firsts untils beyond at = length text - at

@@ -3,7 +3,7 @@ use mathlib.Core.Path.{ap, _∙_}
 use mathlib.Core.Bool.{not}
 use borrow.Author.Needs.{needs}
 use borrow.Author.Tests.{not-true, not-false}
-use Rattle.parse.specs.Stored.{arrays}
+use Rattle.nodes.specs.Evaluate.{stored}
 use Rattle.reader.specs.Constraints.{State, state}
 use Rattle.reader.specs.Streams.{StreamTables, streamTables}
 use Rattle.refusals.specs.Names.{formRefusal}
@@ -55,7 +55,7 @@ abbrev constraints-of : tie.After-form-refusal → State
 constraints-of c =
     let read = c .before .before .before .read-constraints in
     let last = read .last .1 .1 .1 in
-    state (arrays (last .0) (last .1 .0) (last .1 .1 .0)) (last .1 .1 .1 .0) (last .1 .1 .1 .1 .0) (last .1 .1 .1 .1 .1 .0) (read .result)
+    state (stored (last .0) (last .1 .0) (last .1 .1 .0)) (last .1 .1 .1 .0) (last .1 .1 .1 .1 .0) (last .1 .1 .1 .1 .1 .0) (read .result)
 
 lines-read : (c : tie.After-form-refusal) → LinesRead (start-of c .args .names-line .now) (start-of c .args .lows-line .now) (start-of c .args .highs-line .now) (start-of c .args .text .now) (streams-of c .read-streams .result) (tables-of c) (constraints-of c) (c .form-refusal .result)
 lines-read c =

@@ -1,13 +1,12 @@
 -- `refine::find` meets its contract: the rows of the chain with the signature of `row` are on what is left of it.
-use Prim.Native.Nat.{ℕ, suc, _≤_, _<_, _-_, _+_, _*_}
-use mathlib.Core.Path.{_≡_, refl, sym, _∙_}
+use Prim.Native.Nat.{_-_, _*_}
+use mathlib.Core.Path.{_≡_, refl}
 use mathlib.Core.Logic.{⊎-elim}
-use mathlib.Core.List.{List}
 use native.Mathlib.Omega.{arith}
-use lib.ListN.{length, getD}
+use lib.ListN.{length}
 use Rattle.marks.proofs.Laws.{says-yes, says-no, row-fits}
-use Rattle.refine.specs.Signatures.{class-after, SameSignature}
-use Rattle.refine.specs.Splitting.{OnChain, here, Found}
+use Rattle.refine.specs.Signatures.{SameSignature}
+use Rattle.refine.specs.Splitting.{here}
 use Rattle.refine.proofs.Chains.{Searching, searching-start, searching-next, searching-end}
 use borrow.Author.Needs.{needs}
 use Rattle.refine.proofs.find.Statement.{statement}

@@ -1,10 +1,8 @@
 -- `refine::first_classes` meets its contract. What a turn does to the two classes is in `FirstClasses`.
-use Prim.Native.Nat.{ℕ, suc, _≤_, _<_, _-_, _+_}
-use mathlib.Core.Path.{_≡_, refl, sym, _∙_}
-use mathlib.Core.List.{List}
+use Prim.Native.Nat.{_-_}
+use mathlib.Core.Path.{_≡_, sym, _∙_}
 use native.Mathlib.Omega.{arith}
-use lib.ListN.{length, getD, set, length-set}
-use Rattle.marks.specs.Marks.{Marked}
+use lib.ListN.{length}
 use Rattle.refine.proofs.FirstClasses.{Naming, naming-none, naming-closed, naming-open, naming-dead, naming-named}
 use borrow.Author.Needs.{needs}
 use Rattle.refine.proofs.first_classes.Statement.{statement}

@@ -1,35 +1,34 @@
 -- `refine::hash_row` meets its contract: `h` is the hash of the first `a` classes.
-use Prim.Native.Nat.{ℕ, suc, _≤_, _<_, _-_, _+_}
-use mathlib.Core.Path.{_≡_, refl, sym, ap, ap₂, _∙_}
+use Prim.Native.Nat.{_≤_, _<_, _-_}
+use mathlib.Core.Path.{_≡_, sym, ap₂, _∙_}
 use native.Mathlib.Omega.{arith}
 use native.Mathlib.Numerals.{add-one}
-use lib.ListN.{length, getD}
-use Rattle.refine.specs.Signatures.{class-after, mixed, hash}
+use Rattle.refine.specs.Signatures.{classAfter, mixed, hash}
 use Rattle.refine.proofs.Signatures.{hash-step, hash-start}
 use borrow.Author.Needs.{needs}
 use Rattle.refine.proofs.hash_row.Statement.{statement}
 use Rattle.refine.proofs.hash_row.Tie as tie
 
 abbrev Inv-loop : tie.InvT-loop
-Inv-loop entries start letters class first h₀ a₀ h a = (a ≤ letters) × (h < 4294967296) × (h ≡ hash (class-after entries class start) first a)
+Inv-loop entries start letters class first h₀ a₀ h a = (a ≤ letters) × (h < 4294967296) × (h ≡ hash (classAfter entries class start) first a)
 
 abbrev μ-loop : tie.MeasureT-loop
 μ-loop entries start letters class first h₀ a₀ h a = letters - a
 
 loop-holds : tie.Need-loop-holds Inv-loop μ-loop
-loop-holds c = (search needs, search needs, sym (hash-start (class-after (c .before .before .args .entries .now) (c .before .before .args .class .now) (c .before .before .args .start)) (c .before .before .args .first)))
+loop-holds c = (search needs, search needs, sym (hash-start (classAfter (c .before .before .args .entries .now) (c .before .before .args .class .now) (c .before .before .args .start)) (c .before .before .args .first)))
 
-add-class-at : tie.Need-add-class-at Inv-loop μ-loop
-add-class-at c = search needs
+add-number-at : tie.Need-add-number-at Inv-loop μ-loop
+add-number-at c = search needs
 
-mul-class-at : tie.Need-mul-class-at Inv-loop μ-loop
-mul-class-at c = search needs
+mul-number-at : tie.Need-mul-number-at Inv-loop μ-loop
+mul-number-at c = search needs
 
-shared-slice-read-class-at : tie.Need-shared-slice-read-class-at Inv-loop μ-loop
-shared-slice-read-class-at c = search needs
+shared-slice-read-number-at : tie.Need-shared-slice-read-number-at Inv-loop μ-loop
+shared-slice-read-number-at c = search needs
 
-class-at-requires : tie.Need-class-at-requires Inv-loop μ-loop
-class-at-requires c κs = search needs
+number-at-requires : tie.Need-number-at-requires Inv-loop μ-loop
+number-at-requires c κs = search needs
 
 mix-requires : tie.Need-mix-requires Inv-loop μ-loop
 mix-requires c κs = search needs
@@ -44,10 +43,10 @@ loop-again : tie.Need-loop-again Inv-loop μ-loop
 loop-again c =
     let args = c .before .before .before .before .before .before .before .args in
     let loop = c .before .before .before .before .loop in
-    let f = class-after (args .entries .now) (args .class .now) (args .start) in (
+    let f = classAfter (args .entries .now) (args .class .now) (args .start) in (
       omega arith,
       omega (arith, c .mix .ensures),
-      c .mix .ensures ∙ (ap₂ mixed (loop .inv .2) (c .before .class-at .ensures) ∙ rw add-one (sym (hash-step f (args .first) (loop .a)))),
+      c .mix .ensures ∙ (ap₂ mixed (loop .inv .2) (c .before .number-at .ensures) ∙ rw add-one (sym (hash-step f (args .first) (loop .a)))),
     )
 
 returns : tie.Need-returns Inv-loop μ-loop
@@ -62,10 +61,10 @@ hash-row-spec =
     Inv-loop
     μ-loop
     loop-holds
-    add-class-at
-    mul-class-at
-    shared-slice-read-class-at
-    class-at-requires
+    add-number-at
+    mul-number-at
+    shared-slice-read-number-at
+    number-at-requires
     mix-requires
     add-a
     loop-less

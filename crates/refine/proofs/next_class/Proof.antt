@@ -1,5 +1,5 @@
 -- `refine::next_class` meets its contract: a row without a class, or alone in it, keeps it; any other is split.
-use mathlib.Core.Path.{_≡_, refl, sym}
+use mathlib.Core.Path.{refl, sym}
 use mathlib.Core.Logic.{inl, inr}
 use native.Mathlib.Omega.{arith}
 use borrow.Author.Needs.{needs}
@@ -34,10 +34,10 @@ split-row-requires : tie.Need-split-row-requires
 split-row-requires c κs = search needs
 
 same-length : tie.Need-same-length
-same-length c = search needs
+same-length c = c .before .before .before .before .split-row .kept .1 .1 .1 .1 .0
 
 same-length-2 : tie.Need-same-length-2
-same-length-2 c = search needs
+same-length-2 c = c .before .before .before .before .split-row .kept .1 .1 .1 .1 .1 .0
 
 returns-3 : tie.Need-returns-3
 returns-3 c = inr (record { some = omega (arith, c .before .before .before .before .before .before .before .before .before .if1 .left); shares = c .before .before .before .before .before .before .before .if2 .left; way = c .before .before .before .before .split-row .ensures })

@@ -1,15 +1,23 @@
 -- `refine::refine` meets its contract: the rounds run where all lists hold as many rows, and the work tables are cleared after them;
 -- else nothing changes.
 use mathlib.Core.Path.{_≡_, refl, _∙_}
-use mathlib.Core.Bool.{true}
+use mathlib.Core.Bool.{true, false}
+use mathlib.Core.List.{List}
+use Prim.Native.Nat.{ℕ}
 use borrow.Author.Tests.{not-true, not-false}
 use native.Mathlib.Omega.{arith}
 use Rattle.marks.proofs.Laws.{says-yes, says-no}
 use Rattle.marks.proofs.Clearing.{zeroed}
 use Rattle.refine.specs.Classes.{Sizes}
+use Rattle.refine.specs.Steps.{RefineOutcome}
 use borrow.Author.Needs.{needs}
 use Rattle.refine.proofs.refine.Statement.{statement}
 use Rattle.refine.proofs.refine.Tie as tie
+
+-- a test failed, so nothing is done
+no-sizes : {letters : ℕ} {entries live finals class next heads links shared : List ℕ} → ¬ Sizes letters entries live finals class next heads links shared
+    → RefineOutcome letters entries live finals class next heads links shared false class next heads links shared
+no-sizes n = record { says = n; fits = λ z. absurd (n z); unchanged = λ z. (refl, refl, refl, refl, refl) }
 
 -- the tests passed, so all lists hold as many rows
 sizes : (c : tie.After-sizes-agree) → c .sizes-agree .result ≡ true
@@ -28,19 +36,23 @@ sizes c e =
     }
 
 returns : tie.Need-returns
-returns c = record { fits = λ z. absurd (omega (arith, z .few, c .if1 .taken)); unchanged = λ z. (refl, refl, refl, refl, refl) }
+returns c = no-sizes (λ z. omega (arith, z .few, c .if1 .taken))
 
 rows-fit-requires : tie.Need-rows-fit-requires
 rows-fit-requires c κs = search needs
 
 returns-2 : tie.Need-returns-2
-returns-2 c = record { fits = λ z. absurd (says-no (not-true (c .before .rows-fit .result) (c .if2 .taken)) (c .before .rows-fit .ensures) (z .entries-fit)); unchanged = λ z. (refl, refl, refl, refl, refl) }
+returns-2 c = no-sizes (λ z. says-no (not-true (c .before .rows-fit .result) (c .if2 .taken)) (c .before .rows-fit .ensures) (z .entries-fit))
 
 sizes-agree-requires : tie.Need-sizes-agree-requires
 sizes-agree-requires c κs = search needs
 
+returns-3 : tie.Need-returns-3
+returns-3 c =
+    no-sizes (λ z. says-no (not-true (c .before .sizes-agree .result) (c .if3 .taken)) (c .before .sizes-agree .ensures) (z .finals-fit, z .class-fits, z .next-fits, z .heads-fit, z .links-fit, z .shared-fits))
+
 rounds-requires : tie.Need-rounds-requires
-rounds-requires c κs = sizes (c .before .before .before .before .before .before) (c .before .before .before .before .before .if3 .taken)
+rounds-requires c κs = sizes (c .before .before .before .before .before .before) (not-false _ (c .before .before .before .before .before .if3 .left))
 
 fill-requires : tie.Need-fill-requires
 fill-requires c κs = search needs
@@ -69,10 +81,12 @@ same-length-4 c = c .before .before .before .before .before .before .fill3 .kept
 same-length-5 : tie.Need-same-length-5
 same-length-5 c = c .before .before .fill4 .kept .0 ∙ c .before .before .before .before .before .before .before .before .before .before .before .before .before .before .before .before .before .before .before .before .before .before .before .before .before .before .rounds .kept .1 .1 .1 .1 .1 .1 .1 .1 .0
 
-returns-3 : tie.Need-returns-3
-returns-3 c =
+returns-4 : tie.Need-returns-4
+returns-4 c =
+    let fit = sizes (c .before .before .before .before .before .before .before .before .before .before .before .before .before .before .before .before .before .before .before .before .before .before .before .before .before .before .before .before .before .before .before .before .before) (not-false _ (c .before .before .before .before .before .before .before .before .before .before .before .before .before .before .before .before .before .before .before .before .before .before .before .before .before .before .before .before .before .before .before .before .if3 .left)) in
     let rounds = c .before .before .before .before .before .before .before .before .before .before .before .before .before .before .before .before .before .before .before .before .before .before .before .before .before .before .rounds in
     record {
+      says = fit;
       fits = λ z. record {
         class-length = rounds .kept .1 .1 .1 .1 .0;
         refined = rounds .ensures;
@@ -81,14 +95,8 @@ returns-3 c =
         links-zero = zeroed (c .before .before .before .before .before .before .fill3 .ensures) (rounds .kept .1 .1 .1 .1 .1 .1 .1 .0);
         shared-zero = zeroed (c .before .before .fill4 .ensures) (rounds .kept .1 .1 .1 .1 .1 .1 .1 .1 .0);
       };
-      unchanged = λ z. absurd (z (sizes (c .before .before .before .before .before .before .before .before .before .before .before .before .before .before .before .before .before .before .before .before .before .before .before .before .before .before .before .before .before .before .before .before .before) (c .before .before .before .before .before .before .before .before .before .before .before .before .before .before .before .before .before .before .before .before .before .before .before .before .before .before .before .before .before .before .before .before .if3 .taken)));
+      unchanged = λ n. absurd (n fit);
     }
-
-returns-4 : tie.Need-returns-4
-returns-4 c = record {
-  fits = λ z. absurd (says-no (c .if3 .left) (c .before .sizes-agree .ensures) (z .finals-fit, z .class-fits, z .next-fits, z .heads-fit, z .links-fit, z .shared-fits));
-  unchanged = λ z. (refl, refl, refl, refl, refl);
-}
 
 pub refine-spec : {M : Type 1} → statement M
 refine-spec =
@@ -98,6 +106,7 @@ refine-spec =
     rows-fit-requires
     returns-2
     sizes-agree-requires
+    returns-3
     rounds-requires
     fill-requires
     fill-requires-2
@@ -108,5 +117,4 @@ refine-spec =
     same-length-3
     same-length-4
     same-length-5
-    returns-3
     returns-4)

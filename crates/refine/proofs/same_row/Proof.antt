@@ -1,15 +1,15 @@
 -- `refine::same_row` meets its contract: the first `a` classes are the same.
-use Prim.Native.Nat.{ℕ, _≤_, _<_, _-_, _+_}
+use Prim.Native.Nat.{ℕ, _≤_, _<_, _-_}
 use mathlib.Core.Path.{_≡_, sym, _∙_}
 use native.Mathlib.Omega.{arith}
 use borrow.Author.Count.{below-more}
-use Rattle.refine.specs.Signatures.{class-after}
+use Rattle.refine.specs.Signatures.{classAfter}
 use borrow.Author.Needs.{needs}
 use Rattle.refine.proofs.same_row.Statement.{statement}
 use Rattle.refine.proofs.same_row.Tie as tie
 
 abbrev Inv-loop : tie.InvT-loop
-Inv-loop entries letters class p q a₀ a = (a ≤ letters) × ((b : ℕ) → b < a → class-after entries class p b ≡ class-after entries class q b)
+Inv-loop entries letters class p q a₀ a = (a ≤ letters) × ((b : ℕ) → b < a → classAfter entries class p b ≡ classAfter entries class q b)
 
 abbrev μ-loop : tie.MeasureT-loop
 μ-loop entries letters class p q a₀ a = letters - a
@@ -17,32 +17,32 @@ abbrev μ-loop : tie.MeasureT-loop
 loop-holds : tie.Need-loop-holds Inv-loop μ-loop
 loop-holds c = search needs
 
-add-class-at : tie.Need-add-class-at Inv-loop μ-loop
-add-class-at c = search needs
+add-number-at : tie.Need-add-number-at Inv-loop μ-loop
+add-number-at c = search needs
 
-mul-class-at : tie.Need-mul-class-at Inv-loop μ-loop
-mul-class-at c = search needs
+mul-number-at : tie.Need-mul-number-at Inv-loop μ-loop
+mul-number-at c = search needs
 
-shared-slice-read-class-at : tie.Need-shared-slice-read-class-at Inv-loop μ-loop
-shared-slice-read-class-at c = search needs
+shared-slice-read-number-at : tie.Need-shared-slice-read-number-at Inv-loop μ-loop
+shared-slice-read-number-at c = search needs
 
-class-at-requires : tie.Need-class-at-requires Inv-loop μ-loop
-class-at-requires c κs = search needs
+number-at-requires : tie.Need-number-at-requires Inv-loop μ-loop
+number-at-requires c κs = search needs
 
-add-class-at-2 : tie.Need-add-class-at-2 Inv-loop μ-loop
-add-class-at-2 c = search needs
+add-number-at-2 : tie.Need-add-number-at-2 Inv-loop μ-loop
+add-number-at-2 c = search needs
 
-mul-class-at-2 : tie.Need-mul-class-at-2 Inv-loop μ-loop
-mul-class-at-2 c = search needs
+mul-number-at-2 : tie.Need-mul-number-at-2 Inv-loop μ-loop
+mul-number-at-2 c = search needs
 
-shared-slice-read-class-at-2 : tie.Need-shared-slice-read-class-at-2 Inv-loop μ-loop
-shared-slice-read-class-at-2 c = search needs
+shared-slice-read-number-at-2 : tie.Need-shared-slice-read-number-at-2 Inv-loop μ-loop
+shared-slice-read-number-at-2 c = search needs
 
-class-at-requires-2 : tie.Need-class-at-requires-2 Inv-loop μ-loop
-class-at-requires-2 c κs = search needs
+number-at-requires-2 : tie.Need-number-at-requires-2 Inv-loop μ-loop
+number-at-requires-2 c κs = search needs
 
 returns : tie.Need-returns Inv-loop μ-loop
-returns c = λ h. c .if1 .taken (c .before .before .before .class-at .ensures ∙ (h (c .before .before .before .before .before .before .loop .a) (c .before .before .before .before .before .loop-test .taken) ∙ sym (c .before .class-at2 .ensures)))
+returns c = λ h. c .if1 .taken (c .before .before .before .number-at .ensures ∙ (h (c .before .before .before .before .before .before .loop .a) (c .before .before .before .before .before .loop-test .taken) ∙ sym (c .before .number-at2 .ensures)))
 
 add-a : tie.Need-add-a Inv-loop μ-loop
 add-a c = search needs
@@ -54,8 +54,8 @@ loop-again : tie.Need-loop-again Inv-loop μ-loop
 loop-again c =
     let args = c .before .before .before .before .before .before .before .before .before .args in (
       omega arith,
-      below-more (λ (b : ℕ). class-after (args .entries .now) (args .class .now) (args .p) b ≡ class-after (args .entries .now) (args .class .now) (args .q) b) (c .before .before .before .before .before .before .loop .a)
-          (c .before .before .before .before .before .before .loop .inv .1) (sym (c .before .before .before .class-at .ensures) ∙ (c .if1 .left ∙ c .before .class-at2 .ensures)),
+      below-more (λ (b : ℕ). classAfter (args .entries .now) (args .class .now) (args .p) b ≡ classAfter (args .entries .now) (args .class .now) (args .q) b) (c .before .before .before .before .before .before .loop .a)
+          (c .before .before .before .before .before .before .loop .inv .1) (sym (c .before .before .before .number-at .ensures) ∙ (c .if1 .left ∙ c .before .number-at2 .ensures)),
     )
 
 returns-2 : tie.Need-returns-2 Inv-loop μ-loop
@@ -68,14 +68,14 @@ same-row-spec =
     Inv-loop
     μ-loop
     loop-holds
-    add-class-at
-    mul-class-at
-    shared-slice-read-class-at
-    class-at-requires
-    add-class-at-2
-    mul-class-at-2
-    shared-slice-read-class-at-2
-    class-at-requires-2
+    add-number-at
+    mul-number-at
+    shared-slice-read-number-at
+    number-at-requires
+    add-number-at-2
+    mul-number-at-2
+    shared-slice-read-number-at-2
+    number-at-requires-2
     returns
     add-a
     loop-less

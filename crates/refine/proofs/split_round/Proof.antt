@@ -1,10 +1,9 @@
 -- `refine::split_round` meets its contract. What a turn does to the classes and chains is in `Splitting`.
-use Prim.Native.Nat.{ℕ, suc, _≤_, _<_, _-_, _+_}
-use mathlib.Core.Path.{_≡_, refl, sym, _∙_}
-use mathlib.Core.List.{List}
-use mathlib.Core.Bool.{Bool, true}
+use Prim.Native.Nat.{_-_}
+use mathlib.Core.Path.{sym, _∙_}
+use mathlib.Core.Bool.{true}
 use native.Mathlib.Omega.{arith}
-use lib.ListN.{length, getD, set, length-set}
+use lib.ListN.{length}
 use Rattle.refine.proofs.Splitting.{Splitting, splitting-start, splitting-splittable, moved-same, moved-new, splitting-next, splitting-round}
 use borrow.Author.Needs.{needs}
 use Rattle.refine.proofs.split_round.Statement.{statement}
@@ -62,13 +61,13 @@ loop-again-2 c =
     splitting-next (loop .inv) lt (c .before .before .before .before .before .before .before .before .before .before .before .before .before .before .before .before .before .pre) (call .result) (call .last .1 .1 .1 .1 .1 .0) (call .last .1 .1 .1 .1 .1 .1 .0) (loop .changed) (call .ensures) (moved-same (loop .inv) lt (call .result) (c .if1 .left))
 
 same-length : tie.Need-same-length Inv-loop μ-loop
-same-length c = search needs
+same-length c = c .before .loop .inv .next-fits ∙ sym (c .before .before .before .before .before .before .before .before .pre .next-fits)
 
 same-length-2 : tie.Need-same-length-2 Inv-loop μ-loop
-same-length-2 c = search needs
+same-length-2 c = c .before .loop .inv .heads-fit ∙ sym (c .before .before .before .before .before .before .before .before .pre .heads-fit)
 
 same-length-3 : tie.Need-same-length-3 Inv-loop μ-loop
-same-length-3 c = search needs
+same-length-3 c = c .before .loop .inv .links-fit ∙ sym (c .before .before .before .before .before .before .before .before .pre .links-fit)
 
 returns : tie.Need-returns Inv-loop μ-loop
 returns c = (splitting-round (omega (arith, c .before .loop .inv .within)) (c .before .loop .inv), c .before .loop .inv .falling)

@@ -1,12 +1,12 @@
 -- `refine::split_row` meets its contract: the chain of the row's bucket is searched, and the row is put into it if no row of it
 -- has its signature.
-use Prim.Native.Nat.{ℕ, suc, _≤_, _<_, _-_, _+_, _*_}
+use Prim.Native.Nat.{_≤_, _-_, _+_, _*_}
 use mathlib.Core.Path.{_≡_, refl, ap, _∙_}
 use mathlib.Core.Logic.{inl, inr}
 use native.Mathlib.Omega.{arith}
-use lib.ListN.{length, getD}
+use lib.ListN.{length, length-set}
 use Rattle.marks.proofs.Laws.{row-fits}
-use Rattle.refine.specs.Signatures.{bucket-of, row-bucket}
+use Rattle.refine.specs.Signatures.{bucketOf, rowBucket}
 use Rattle.refine.proofs.Chains.{joins-found, begins-missed}
 use borrow.Author.Needs.{needs}
 use Rattle.refine.proofs.split_row.Statement.{statement}
@@ -17,8 +17,8 @@ fits : (c : tie.Start) → c .args .row * c .args .letters + c .args .letters �
 fits c = row-fits (c .args .row) (length (c .args .class .now)) (c .args .letters) (length (c .args .entries .now)) (c .pre .inside) (c .pre .entries-fit)
 
 -- the bucket that was found is the row's
-its-bucket : (c : tie.After-bucket) → c .bucket .result ≡ row-bucket (length (c .before .before .before .before .before .before .before .args .heads .now)) (c .before .before .before .before .before .before .before .args .letters) (c .before .before .before .before .before .before .before .args .entries .now) (c .before .before .before .before .before .before .before .args .class .now) (c .before .before .before .before .before .before .before .args .row)
-its-bucket c = c .bucket .ensures .1 ∙ ap (bucket-of (length (c .before .before .before .before .before .before .before .args .heads .now))) (c .before .hash-row .ensures .1)
+its-bucket : (c : tie.After-bucket) → c .bucket .result ≡ rowBucket (length (c .before .before .before .before .before .before .before .args .heads .now)) (c .before .before .before .before .before .before .before .args .letters) (c .before .before .before .before .before .before .before .args .entries .now) (c .before .before .before .before .before .before .before .args .class .now) (c .before .before .before .before .before .before .before .args .row)
+its-bucket c = c .bucket .ensures .1 ∙ ap (bucketOf (length (c .before .before .before .before .before .before .before .args .heads .now))) (c .before .hash-row .ensures .1)
 
 mul-hash-row : tie.Need-mul-hash-row
 mul-hash-row c = omega (arith, fits (c .before .before .before .before), c .before .before .before .before .good)
@@ -59,7 +59,7 @@ cast-result : tie.Need-cast-result
 cast-result c = search needs
 
 same-length : tie.Need-same-length
-same-length c = search needs
+same-length c = refl
 
 returns : tie.Need-returns
 returns c =
@@ -91,10 +91,10 @@ slice-write-heads : tie.Need-slice-write-heads
 slice-write-heads c = search needs
 
 same-length-2 : tie.Need-same-length-2
-same-length-2 c = search needs
+same-length-2 c = simp length-set
 
 same-length-3 : tie.Need-same-length-3
-same-length-3 c = search needs
+same-length-3 c = simp length-set
 
 returns-2 : tie.Need-returns-2
 returns-2 c =

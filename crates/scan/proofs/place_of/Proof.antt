@@ -5,14 +5,14 @@ use native.Mathlib.Omega.{arith}
 use lib.ListN.{length, drop}
 use borrow.Author.Needs.{needs}
 use Rattle.text.specs.Bytes.{tokens}
-use Rattle.sheet.specs.Vocabulary.{placeOf}
+use Rattle.sheet.specs.Vocabulary.{namePlace}
 use Rattle.scan.proofs.Tokens.{token-within, token-empty, token-after, token-tokens}
 use Rattle.scan.proofs.Words.{place-none, place-here, place-later}
 use Rattle.scan.proofs.place_of.Statement.{statement}
 use Rattle.scan.proofs.place_of.Tie as tie
 
 abbrev Inv-loop : tie.InvT-loop
-Inv-loop names name count₀ at₀ count at = (count ≤ at) × (at ≤ length names) × (count + placeOf (tokens (drop at names)) name ≡ placeOf (tokens names) name)
+Inv-loop names name count₀ at₀ count at = (count ≤ at) × (at ≤ length names) × (count + namePlace (tokens (drop at names)) name ≡ namePlace (tokens names) name)
 
 abbrev μ-loop : tie.MeasureT-loop
 μ-loop names name count₀ at₀ count at = length names - at

@@ -4,8 +4,8 @@ use mathlib.Core.Path.{_≡_, refl, sym, ap, ap₂, _∙_}
 use native.Mathlib.Omega.{arith}
 use lib.ListN.{length, drop}
 use borrow.Author.Needs.{needs}
+use Rattle.basics.proofs.Reflects.{to-false}
 use Rattle.text.specs.Token.{sameBytes}
-use Rattle.text.proofs.Reflects.{to-false}
 use Rattle.text.proofs.Token.{sameBytes-reflects}
 use Rattle.scan.proofs.Tokens.{drop-end}
 use Rattle.scan.proofs.Words.{same-here, differ-here}

@@ -3,9 +3,9 @@
 use Prim.Native.Nat.{ℕ, _+_, _-_, _≤_}
 use native.Mathlib.Omega.{arith}
 use mathlib.Core.Path.{_≡_, refl, sym, _∙_, ap}
-use mathlib.Core.Bool.{true, false}
 use lib.ListN.{length}
 use lib.Seq.{length-take-le}
+use Rattle.basics.proofs.Tests.{not-both}
 use Rattle.print.specs.Table.{linesFrom}
 use Rattle.pages.specs.Lines.{lineRoom}
 use Rattle.pages.specs.Output.{Printout, outputAt, placesOf}
@@ -21,9 +21,6 @@ Inv-loop sheet refusal states entries finals page₀ size₀ from₀ page size f
 
 abbrev μ-loop : tie.MeasureT-loop
 μ-loop sheet refusal states entries finals page₀ size₀ from₀ page size from = placesOf (printoutOf sheet refusal states entries finals) - from
-
-not-both : {A : Type 0} → false ≡ true → A
-not-both e = absurd (let z : _≡_ {A = ℕ} 0 1 = cc in omega arith)
 
 -- What is printed.
 abbrev shown : (c : tie.At-loop Inv-loop μ-loop) → Printout

@@ -13,14 +13,14 @@ returns c = search needs
 value-of-requires : tie.Need-value-of-requires
 value-of-requires c κs = search needs
 
-truth-requires : tie.Need-truth-requires
-truth-requires c κs = search needs
+nonzero-requires : tie.Need-nonzero-requires
+nonzero-requires c κs = search needs
 
 returns-2 : tie.Need-returns-2
 returns-2 c =
     let value = c .before .value-of in
-    c .truth .ensures ∙ ap truth (toZ-ofZ w64 (value .result) (record { sfits = value .ok }) ∙ value .ensures)
+    c .nonzero .ensures ∙ ap truth (toZ-ofZ w64 (value .result) (record { sfits = value .ok }) ∙ value .ensures)
     ∙ sym (simp (c .before .before .if1 .left))
 
 pub is-permitted-spec : {M : Type 1} → statement M
-is-permitted-spec = tie.close (tie.spec returns value-of-requires truth-requires returns-2)
+is-permitted-spec = tie.close (tie.spec returns value-of-requires nonzero-requires returns-2)

@@ -4,9 +4,10 @@ use mathlib.Core.Path.{refl, sym, _∙_}
 use native.Mathlib.Omega.{arith}
 use lib.ListN.{length}
 use native.Mathlib.Nat.{not-suc-le-zero}
-use Rattle.explore.specs.Chains.{keySize}
+use Rattle.sizes.specs.Room.{keySize}
 use Rattle.marks.proofs.Laws.{says-yes, says-no}
-use Rattle.explore.proofs.ChainLaws.{Left, left-first, left-next, part-size, part-long}
+use Rattle.extend.proofs.Parts.{part-size, part-long}
+use Rattle.explore.proofs.ChainLaws.{Left, left-first, left-next}
 use borrow.Author.Needs.{needs}
 use Rattle.explore.proofs.chains.find.Statement.{statement}
 use Rattle.explore.proofs.chains.find.Tie as tie

@@ -1,12 +1,11 @@
 -- `chains::hash` meets its contract: what is left of the key, mixed into the number so far, gives the whole key's hash.
-use Prim.Native.Nat.{ℕ, _≤_, _<_, _-_, _*_, _+_}
-use mathlib.Core.Path.{_≡_, refl, sym, ap, _∙_}
+use Prim.Native.Nat.{ℕ, _≤_, _<_, _-_, _+_}
+use mathlib.Core.Path.{_≡_, _∙_}
 use mathlib.Core.List.{List}
 use native.Mathlib.Omega.{arith}
 use native.Mathlib.Numerals.{add-one}
-use borrow.Author.Count.{below-more, below-none}
-use lib.ListN.{length, getD, take, drop, set, length-set, drop-of-length-le}
-use lib.Seq.{ext-getD, drop-cons, paste, paste-zero, paste-suc}
+use lib.ListN.{length, getD, drop, drop-of-length-le}
+use lib.Seq.{drop-cons}
 use Rattle.explore.specs.Chains.{mixOf, hashFrom}
 use borrow.Author.Needs.{needs}
 use Rattle.explore.proofs.chains.hash.Statement.{statement}

@@ -1,12 +1,10 @@
 -- `chains::insert` meets its contract: the new row is the first of its bucket's chain.
+use native.Mathlib.Omega.{arith}
 use Rattle.explore.specs.Chains.{Inserts}
 use Rattle.explore.proofs.ChainLaws.{stored, inserted}
 use borrow.Author.Needs.{needs}
 use Rattle.explore.proofs.chains.insert.Statement.{statement}
 use Rattle.explore.proofs.chains.insert.Tie as tie
-use Rattle.explore.proofs.chains.insert.Reads as reads
-use Rattle.explore.proofs.chains.insert.Lts as lts
-use Rattle.explore.proofs.chains.put.Reads as put-reads
 
 mul-put : tie.Need-mul-put
 mul-put c = search needs
@@ -54,7 +52,7 @@ returns c =
     let args = start .args in
     let pre = start .pre in
     let done : Inserts (args .keys .now) (put .last .0) (args .n) (args .key .now) =
-    rw (put .ensures, pre .1 .1 .0) (stored (args .keys .now) (args .n) (args .key .now) (pre .1 .1 .0) (pre .1 .1 .3)) in (
+    rw (put .ensures .copied (omega (arith, pre .1 .1 .0, pre .1 .1 .3)), pre .1 .1 .0) (stored (args .keys .now) (args .n) (args .key .now) (pre .1 .1 .0) (pre .1 .1 .3)) in (
       inserted (args .heads .now) (args .links .now) (args .keys .now) (args .n) (args .key .now) (put .last .0) (args .h)
           (pre .1 .0 .0) (pre .1 .0 .1) (pre .1 .1 .2) (pre .1 .1 .3) (put .kept .0) done (pre .0),
       done,

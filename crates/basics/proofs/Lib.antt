@@ -1,0 +1,4 @@
+pub mod Tests
+pub mod Reflects
+pub mod Lists
+pub mod Count

@@ -1,0 +1,89 @@
+-- Laws of lists: properties of every member and of some member, what stands at a place, and pieces that are written one behind the other.
+use Prim.Native.Nat.{ℕ, zero, suc, _+_, _-_, _<_}
+use native.Mathlib.Omega.{arith}
+use native.Mathlib.Decide.{decLt}
+use native.Mathlib.Nat.{le-of-suc-le-suc, not-suc-le-zero}
+use mathlib.Core.Path.{_≡_, refl, sym, _∙_, ap, subst}
+use mathlib.Core.Logic.{_↔_, inl, inr}
+use mathlib.Core.List.{List, [], _∷_, _++_, map, List·Memᴰ, List·Memᴰ·head, List·Memᴰ·tail}
+use lib.ListN.{length, getD, set}
+use lib.Seq.{sets}
+use Rattle.basics.specs.Lists.{All, Some}
+
+-- ---- a property of every member
+
+module _ {X : Type 0} (P : X → Type 0) where
+  pub All-append : (xs ys : List X) → All P (xs ++ ys) ↔ (All P xs × All P ys)
+  All-append [] ys = (λ h. (tt, h), λ h. h .1)
+  All-append (x ∷ xs) ys = let r = All-append xs ys in (λ h. let t = r .0 (h .1) in ((h .0, t .0), t .1), λ h. (h .0 .0, r .1 (h .0 .1, h .1)))
+
+  pub All-member : {x : X} {xs : List X} → All P xs → List·Memᴰ x xs → P x
+  All-member h (List·Memᴰ·head e) = subst P (sym e) (h .0)
+  All-member h (List·Memᴰ·tail m) = All-member (h .1) m
+
+  pub member-All : (xs : List X) → ((x : X) → List·Memᴰ x xs → P x) → All P xs
+  member-All [] f = tt
+  member-All (x ∷ xs) f = (f x (List·Memᴰ·head refl), member-All xs (λ y m. f y (List·Memᴰ·tail m)))
+
+  pub All-getD : (xs : List X) → All P xs → (j : ℕ) (d : X) → j < length xs → P (getD xs j d)
+  All-getD [] h j d l = absurd (not-suc-le-zero l)
+  All-getD (x ∷ xs) h zero d l = h .0
+  All-getD (x ∷ xs) h (suc j) d l = All-getD xs (h .1) j d (le-of-suc-le-suc l)
+
+-- A property that follows from another.
+pub All-map : {X : Type 0} {P Q : X → Type 0} (xs : List X) → ((x : X) → P x → Q x) → All P xs → All Q xs
+All-map [] f h = tt
+All-map (x ∷ xs) f h = (f x (h .0), All-map xs f (h .1))
+
+-- A property of what a function gives.
+pub All-mapped : {X Y : Type 0} {P : X → Type 0} (Q : Y → Type 0) (f : X → Y) → ((x : X) → P x → Q (f x)) → (xs : List X) → All P xs → All Q (map f xs)
+All-mapped Q f g [] h = tt
+All-mapped Q f g (x ∷ xs) h = (g x (h .0), All-mapped Q f g xs (h .1))
+
+-- ---- a property of some member
+
+module _ {X : Type 0} (P : X → Type 0) where
+  pub Some-left : (xs ys : List X) → Some P xs → Some P (xs ++ ys)
+  Some-left [] ys h = absurd h
+  Some-left (x ∷ xs) ys (inl p) = inl p
+  Some-left (x ∷ xs) ys (inr h) = inr (Some-left xs ys h)
+
+  pub Some-right : (xs ys : List X) → Some P ys → Some P (xs ++ ys)
+  Some-right [] ys h = h
+  Some-right (x ∷ xs) ys h = inr (Some-right xs ys h)
+
+  pub Some-member : {x : X} {xs : List X} → List·Memᴰ x xs → P x → Some P xs
+  Some-member (List·Memᴰ·head e) p = inl (subst P e p)
+  Some-member (List·Memᴰ·tail m) p = inr (Some-member m p)
+
+  pub member-Some : (xs : List X) → Some P xs → (x : X) × List·Memᴰ x xs × P x
+  member-Some [] h = absurd h
+  member-Some (x ∷ xs) (inl p) = (x, List·Memᴰ·head refl, p)
+  member-Some (x ∷ xs) (inr h) = let o = member-Some xs h in (o .0, List·Memᴰ·tail (o .1), o .2)
+
+pub Some-mapped : {X Y : Type 0} {P : X → Type 0} (Q : Y → Type 0) (f : X → Y) → ((x : X) → P x → Q (f x)) → (xs : List X) → Some P xs → Some Q (map f xs)
+Some-mapped Q f g [] h = absurd h
+Some-mapped Q f g (x ∷ xs) (inl p) = inl (g x p)
+Some-mapped Q f g (x ∷ xs) (inr h) = inr (Some-mapped Q f g xs h)
+
+-- ---- reading a list at a place
+
+-- What holds of every number below m and of every m + j with j below n holds below m + n.
+pub below-sum : (P : ℕ → Type 0) (m n : ℕ) → ((k : ℕ) → k < m → P k) → ((j : ℕ) → j < n → P (m + j)) → (k : ℕ) → k < m + n → P k
+below-sum P m n f g k h = decide (decLt k m)
+  where
+    decide : Dec (k < m) → P k
+    decide (yes l) = f k l
+    decide (no l) = let e : m + (k - m) ≡ k = omega arith in subst P e (g (k - m) (omega arith))
+
+pub getD-map : {X Y : Type 0} (f : X → Y) (xs : List X) (j : ℕ) (d : X) (e : Y) → j < length xs → getD (map f xs) j e ≡ f (getD xs j d)
+getD-map f [] j d e l = absurd (not-suc-le-zero l)
+getD-map f (x ∷ xs) zero d e l = refl
+getD-map f (x ∷ xs) (suc j) d e l = getD-map f xs j d e (le-of-suc-le-suc l)
+
+-- What is written in two pieces, one behind the other, is written in one.
+pub sets-append : {X : Type 0} (l : List X) (n : ℕ) (xs ys : List X) → sets (sets l n xs) (n + length xs) ys ≡ sets l n (xs ++ ys)
+sets-append l n [] ys = let same : n + 0 ≡ n = omega arith in ap (λ k. sets l k ys) same
+sets-append l n (x ∷ xs) ys =
+    let next : n + suc (length xs) ≡ suc n + length xs = omega arith in
+    ap (λ k. sets (sets (set l n x) (suc n) xs) k ys) next ∙ sets-append (set l n x) (suc n) xs ys

@@ -1,0 +1,6 @@
+pub mod Parts
+pub mod JudgeLaws
+pub mod KeyLists
+pub mod KeyNumbers
+pub mod PreparedLaws
+pub mod StepLaws

@@ -1,0 +1,316 @@
+// One more letter after the record of a key.
+mod judge;
+mod keys;
+
+use basics::fewer;
+use judge::Judged;
+use judge::judge;
+use keys::add_letter;
+use keys::fill_window;
+use keys::have_values;
+use keys::lower_all;
+use keys::raise_all;
+use keys::write_key;
+ghost use mathlib.Core.Path.{_≡_};
+ghost use mathlib.Core.Bool.{cond};
+ghost use mathlib.Core.List.{[], _∷_, _++_, map};
+ghost use Prim.Native.Nat.{_-_, _≤_, min};
+ghost use lib.Dec.{leb, ltb};
+ghost use lib.ListN.{length, take};
+ghost use Rattle.sheet.specs.Refusal.{windowBound, firstBound, streamBound};
+ghost use Rattle.nodes.specs.Evaluate.{stored, view, nodeValue};
+ghost use Rattle.marks.specs.Answers.{Says};
+ghost use Rattle.sizes.specs.Room.{keySize};
+ghost use Rattle.extend.specs.Key.{raised};
+ghost use Rattle.extend.specs.Step.{marked, judgedFrom, storeOf, IsReady, HasValues, IsKey, lettersStore, preparedSize, Prepared, Finished, Extended};
+
+// How many streams a sheet has, D, and D+B.
+pub struct Dimensions {
+    pub streams: usize,
+    pub ahead: usize,
+    pub width: usize,
+}
+
+// Judges the record with one more letter at the time that is newly judged, D letters back; before D letters are there, nothing is judged.
+fn judge_letter(
+    kinds: &[u8; 1024],
+    values: &[i64; 1024],
+    starts: &[u16; 1024],
+    relations: &[u8],
+    lefts: &[u16],
+    rights: &[u16],
+    window: &[i64],
+    streams: usize,
+    firsts: &[i64],
+    held: usize,
+    ahead: usize,
+    whole: bool,
+    marks: u32,
+) -> Judged
+    requires { ⌜ (length (now lefts) ≡ length (now relations)) × (length (now rights) ≡ length (now relations)) × (length (now relations) ≤ 32) ⌝ }
+    ensures { λ r. ⌜ r ≡ cond (leb ahead held) (judgedFrom (now (relations .entry)) (now (lefts .entry)) (now (rights .entry)) (λ node. nodeValue (stored (now (kinds .entry)) (now (values .entry)) (now (starts .entry))) (view (now (window .entry)) streams (now (firsts .entry)) whole) node (held - ahead) .value) 0 (length (now (relations .entry))) marks) (marked marks) ⌝ }
+{
+    if held < ahead {
+        return Judged { ok: true, marks };
+    }
+    judge(
+        kinds,
+        values,
+        starts,
+        relations,
+        lefts,
+        rights,
+        window,
+        streams,
+        firsts,
+        held - ahead,
+        whole,
+        marks,
+    )
+}
+
+// How many firsts the longer record's key holds, and their numbers: none before the cut, their values at the cut, and later those of the key.
+fn firsts_after(
+    kinds: &[u8; 1024],
+    values: &[i64; 1024],
+    starts: &[u16; 1024],
+    first_nodes: &[u16],
+    window: &[i64],
+    streams: usize,
+    firsts: &[i64],
+    whole: bool,
+    size: usize,
+    width: usize,
+    held_firsts: &[u32],
+    numbers: &mut [u32],
+) -> usize
+    requires { ⌜ (length (now «first_nodes») ≤ length (now numbers)) × (length (now «held_firsts») ≤ length (now numbers)) ⌝ }
+    ensures { λ r. ⌜ take r (now (numbers .exit)) ≡ cond (leb size width) (cond (ltb size width) [] (map (λ node. raised (nodeValue (stored (now (kinds .entry)) (now (values .entry)) (now (starts .entry))) (view (now (window .entry)) streams (now (firsts .entry)) whole) node 0 .value)) (now («first_nodes» .entry)))) (now («held_firsts» .entry)) ⌝ }
+    ensures { λ r. ⌜ r ≤ length (now (numbers .entry)) ⌝ }
+{
+    if size < width {
+        return 0;
+    }
+    if size == width {
+        raise_all(
+            kinds,
+            values,
+            starts,
+            first_nodes,
+            window,
+            streams,
+            firsts,
+            whole,
+            numbers,
+        );
+        return first_nodes.len();
+    }
+    marks::put(numbers, 0, held_firsts);
+    held_firsts.len()
+}
+
+// Whether a lawful record stays lawful with its newest letter; if so, `fresh` gets the longer record's key. `letters` are those before it that are known.
+fn finish(
+    kinds: &[u8; 1024],
+    values: &[i64; 1024],
+    starts: &[u16; 1024],
+    relations: &[u8],
+    lefts: &[u16],
+    rights: &[u16],
+    first_nodes: &[u16],
+    window: &[i64],
+    firsts: &[i64],
+    letters: &[u32],
+    letter: u32,
+    dimensions: Dimensions,
+    size: usize,
+    marks: u32,
+    held_firsts: &[u32],
+    fresh: &mut [u32],
+) -> bool
+    requires { ⌜ IsReady (storeOf (now kinds) (now values) (now starts) (now relations) (now lefts) (now rights) (now «first_nodes») [] (dimensions .streams) (dimensions .ahead) (dimensions .width)) ⌝ }
+    requires { ⌜ (length (now letters) ≤ dimensions .width) × (length (now «held_firsts») ≤ firstBound) × (length (now fresh) ≡ keySize) ⌝ }
+    ensures { λ r. ⌜ Finished (storeOf (now (kinds .entry)) (now (values .entry)) (now (starts .entry)) (now (relations .entry)) (now (lefts .entry)) (now (rights .entry)) (now («first_nodes» .entry)) [] (dimensions .streams) (dimensions .ahead) (dimensions .width)) (view (now (window .entry)) (dimensions .streams) (now (firsts .entry)) (leb size (dimensions .width))) size (now (letters .entry) ++ (letter ∷ [])) marks (now («held_firsts» .entry)) r (now (fresh .exit)) ⌝ }
+{
+    let streams = dimensions.streams;
+    let width = dimensions.width;
+    let held = letters.len();
+    let whole = size <= width;
+    let judged = judge_letter(
+        kinds,
+        values,
+        starts,
+        relations,
+        lefts,
+        rights,
+        window,
+        streams,
+        firsts,
+        held,
+        dimensions.ahead,
+        whole,
+        marks,
+    );
+    if !judged.ok {
+        return false;
+    }
+    let mut numbers = [0u32; 8];
+    let filled = firsts_after(
+        kinds,
+        values,
+        starts,
+        first_nodes,
+        window,
+        streams,
+        firsts,
+        whole,
+        size,
+        width,
+        held_firsts,
+        &mut numbers,
+    );
+    let count = held + 1;
+    let kept = fewer(count, width);
+    let from = fewer(count - kept, held);
+    let told = judged.marks;
+    write_key(
+        fresh,
+        count as u32,
+        &letters[from..held],
+        letter,
+        kept,
+        &numbers[..filled],
+        told,
+    );
+    true
+}
+
+// Whether a key and the values prepared for it have their sizes, and the sheet is small.
+fn is_preparable(dimensions: Dimensions, firsts: usize, key: usize, prepared: usize) -> bool
+    ensures { λ r. ⌜ Says r ((dimensions .width ≤ windowBound) × (dimensions .streams ≤ streamBound) × (firsts ≤ firstBound) × (key ≡ keySize) × (prepared ≡ preparedSize)) ⌝ }
+{
+    if 6 < dimensions.width {
+        return false;
+    }
+    if 8 < dimensions.streams {
+        return false;
+    }
+    if 8 < firsts {
+        return false;
+    }
+    if key != 16 {
+        return false;
+    }
+    if prepared != 64 {
+        return false;
+    }
+    true
+}
+
+// What every letter after a key needs, in one list: the values of the key's letters, and behind the room for one more those of its firsts, of which
+// there are `count`. If something has not its size, or a letter's values are not there, nothing is prepared.
+pub fn prepare(
+    letter_values: &[i64],
+    dimensions: Dimensions,
+    count: usize,
+    key: &[u32],
+    prepared: &mut [i64],
+)
+    ensures { λ r. ⌜ ((dimensions .width ≤ windowBound) × (dimensions .streams ≤ streamBound) × (count ≤ firstBound) → IsKey (lettersStore (now («letter_values» .entry)) (dimensions .streams) (dimensions .width)) (now (key .entry)) → length (now (prepared .entry)) ≡ preparedSize → Prepared (now («letter_values» .entry)) (dimensions .streams) (dimensions .width) count (now (key .entry)) (now (prepared .exit))) ⌝ }
+{
+    if !is_preparable(dimensions, count, key.len(), prepared.len()) {
+        return;
+    }
+    let streams = dimensions.streams;
+    let held = fewer(key[0] as usize, dimensions.width);
+    let end = held + 1;
+    if !have_values(&key[1..end], streams, letter_values.len()) {
+        return;
+    }
+    fill_window(prepared, letter_values, streams, &key[1..end]);
+    let firsts_end = 7 + count;
+    lower_all(prepared, &key[7..firsts_end]);
+}
+
+// Whether the key, the prepared values and the new key have their sizes.
+fn has_room(key: usize, prepared: usize, fresh: usize) -> bool
+    ensures { λ r. ⌜ Says r ((key ≡ keySize) × (prepared ≡ preparedSize) × (fresh ≡ keySize)) ⌝ }
+{
+    if key != 16 {
+        return false;
+    }
+    if prepared != 64 {
+        return false;
+    }
+    if fresh != 16 {
+        return false;
+    }
+    true
+}
+
+// The dimensions within the bounds.
+fn bounded(dimensions: Dimensions) -> Dimensions
+    ensures { λ r. ⌜ (r .streams ≡ min (dimensions .streams) streamBound) × (r .ahead ≡ dimensions .ahead) × (r .width ≡ min (dimensions .width) windowBound) ⌝ }
+{
+    Dimensions {
+        streams: fewer(dimensions.streams, 8),
+        ahead: dimensions.ahead,
+        width: fewer(dimensions.width, 6),
+    }
+}
+
+// Whether the record of a key stays lawful with one more letter; if so, `fresh` gets the longer record's key. What is prepared for the key stays
+// so: only the letter's values are put after those of the key's letters. If the key or a list has not its size, the answer is no. What is longer than
+// the bounds allow is cut: a branch for it would keep the compiler from inlining the evaluation.
+pub fn extend(
+    kinds: &[u8; 1024],
+    values: &[i64; 1024],
+    starts: &[u16; 1024],
+    relations: &[u8],
+    lefts: &[u16],
+    rights: &[u16],
+    first_nodes: &[u16],
+    letter_values: &[i64],
+    dimensions: Dimensions,
+    key: &[u32],
+    letter: u32,
+    prepared: &mut [i64],
+    fresh: &mut [u32],
+) -> bool
+    ensures { λ r. ⌜ (IsReady (storeOf (now (kinds .entry)) (now (values .entry)) (now (starts .entry)) (now (relations .entry)) (now (lefts .entry)) (now (rights .entry)) (now («first_nodes» .entry)) (now («letter_values» .entry)) (dimensions .streams) (dimensions .ahead) (dimensions .width)) → IsKey (storeOf (now (kinds .entry)) (now (values .entry)) (now (starts .entry)) (now (relations .entry)) (now (lefts .entry)) (now (rights .entry)) (now («first_nodes» .entry)) (now («letter_values» .entry)) (dimensions .streams) (dimensions .ahead) (dimensions .width)) (now (key .entry)) → HasValues (storeOf (now (kinds .entry)) (now (values .entry)) (now (starts .entry)) (now (relations .entry)) (now (lefts .entry)) (now (rights .entry)) (now («first_nodes» .entry)) (now («letter_values» .entry)) (dimensions .streams) (dimensions .ahead) (dimensions .width)) letter → length (now (fresh .entry)) ≡ keySize → Prepared (now («letter_values» .entry)) (dimensions .streams) (dimensions .width) (length (now («first_nodes» .entry))) (now (key .entry)) (now (prepared .entry)) → Extended (storeOf (now (kinds .entry)) (now (values .entry)) (now (starts .entry)) (now (relations .entry)) (now (lefts .entry)) (now (rights .entry)) (now («first_nodes» .entry)) (now («letter_values» .entry)) (dimensions .streams) (dimensions .ahead) (dimensions .width)) (now (key .entry)) letter r (now (fresh .exit)) × Prepared (now («letter_values» .entry)) (dimensions .streams) (dimensions .width) (length (now («first_nodes» .entry))) (now (key .entry)) (now (prepared .exit))) ⌝ }
+{
+    if !has_room(key.len(), prepared.len(), fresh.len()) {
+        return false;
+    }
+    let few = bounded(dimensions);
+    let streams = few.streams;
+    let count = fewer(fewer(relations.len(), 32), fewer(lefts.len(), rights.len()));
+    let firsts_count = fewer(first_nodes.len(), 8);
+    let size = key[0] as usize;
+    let held = fewer(size, few.width);
+    add_letter(prepared, letter_values, streams, held, letter);
+    let letters_end = held + 1;
+    let window_end = letters_end * streams;
+    let numbers_end = 7 + firsts_count;
+    let firsts_end = 56 + firsts_count;
+    let marks = key[15];
+    let known = &prepared[..];
+    finish(
+        kinds,
+        values,
+        starts,
+        &relations[..count],
+        &lefts[..count],
+        &rights[..count],
+        &first_nodes[..firsts_count],
+        &known[..window_end],
+        &known[56..firsts_end],
+        &key[1..letters_end],
+        letter,
+        few,
+        size,
+        marks,
+        &key[7..numbers_end],
+        fresh,
+    )
+}

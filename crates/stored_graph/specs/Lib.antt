@@ -1,0 +1,2 @@
+pub mod StoredGraph
+pub mod Checking
