@@ -23,6 +23,7 @@ from limits import NO_ENTRY, STEP_REFUSED
 from meaning import value
 from normal_form import entry_texts, normal_form_of
 from reading import ranges, read
+from replay_check import difference as replay_difference
 from situations import explore, is_lawful, judge_of, situation
 from spellings import spelling_sheets
 from step import step, table_bytes
@@ -33,6 +34,7 @@ from table import (Partition, final_situations, followed_forever,
 SITUATION_BOUND = 400
 RECORD_BOUND = 3000
 LASSO_BOUND = 150
+REPLAYS = 2000
 PAIR_BOUND = 150
 PARTITION_BOUND = 30
 NORMAL_FORM_WORDS = 4
@@ -450,6 +452,15 @@ def check_refusals(seed, counts):
         counts["sheets with the refusal meant"] += 1
 
 
+def check_replays(rng, counts):
+    """What `replay` prints, by lines and by bytes."""
+    for _ in range(REPLAYS):
+        case = replay_difference(rng)
+        if case:
+            raise Difference("replay", *case)
+        counts["records replayed by lines and by bytes"] += 1
+
+
 def main(seed, count):
     counts = Counter()
     rng = random.Random(seed)
@@ -459,6 +470,7 @@ def main(seed, count):
             raise Difference("examples of document 01", faults)
         counts["examples of document 01"] += len(EXAMPLES)
         check_refusals(seed, counts)
+        check_replays(rng, counts)
         sheets = [(wanted.name, wanted.sheet) for wanted in EXAMPLES
                   if "letters" not in wanted.name] + random_sheets(seed, count, 6)
         for number, (name, text) in enumerate(sheets):
