@@ -20,17 +20,18 @@ use Rattle.reader.specs.Stored.{storedSheet}
 use Rattle.letters.specs.Described.{described, withLetters}
 use Rattle.extend.specs.Step.{Store, storeOf}
 use Rattle.explore.specs.StoredSheet.{storedSheet as explored, IsStored}
-use Rattle.explore.specs.Exploration.{ExploreTables, IsExplorable, ExploresStored}
+use Rattle.explore.specs.Exploration.{ExploreTables, IsExplorable, ExploresStored, GraphZero}
 use Rattle.explore.specs.Rows.{ExploreOutcome}
 use Rattle.marks.proofs.Laws.{says-yes}
 use Rattle.explore.proofs.SheetSizes.{accepted-explorable, letters-fit, has-letters, stored-explored}
+use Rattle.explore.specs.Search.{KeptBehind}
 use Rattle.outcome.proofs.NoRows.{some-situation}
-use Rattle.situations.specs.Found.{SituationsFound, RoomFor}
+use Rattle.situations.specs.Found.{SituationsFound, RoomFor, Leaves}
 use Rattle.situations.proofs.Stored.{sheet-letters, held-lows, held-highs, parts-of-sheet}
 
 module _ {K : Store} {letters limit count : ℕ} {before after : ExploreTables} {ready full : Bool} (found : ExploresStored K letters limit before after ready full count) where
   -- No more situations are found than the limit allows.
-  pub count-within : cond full 0 count ≤ limit
+  count-within : cond full 0 count ≤ limit
   count-within = by full refl
     where
       all : full ≡ false → (b : Bool) → ready ≡ b → count ≤ limit
@@ -48,6 +49,26 @@ module _ {K : Store} {letters limit count : ℕ} {before after : ExploreTables} 
       by : (b : Bool) → ready ≡ b → cond full 0 count ≡ 0
       by true e = absurd (omega (arith, says-yes e (found .answer) .1 .some-row))
       by false e = ap (λ b. cond b 0 count) (found .refused e .0) ∙ found .refused e .1
+
+  -- What is left in the tables: rows are found, or every table is zero.
+  pub exploration-leaves : Leaves letters limit before after (cond full 0 count)
+  exploration-leaves =
+      record {
+        within = count-within;
+        workZero = found .work-zero;
+        graphZero = none full refl ready refl;
+        behind = some full refl ready refl;
+      }
+    where
+      none : (b : Bool) → full ≡ b → (r : Bool) → ready ≡ r → cond b 0 count ≡ 0 → GraphZero before after
+      none b f false e z = found .refused e .2
+      none true f true e z = found .more e f .1
+      none false f true e z = absurd (omega (arith, z, found .rows e f .searched .searched .known .some-row))
+
+      some : (b : Bool) → full ≡ b → (r : Bool) → ready ≡ r → 0 < cond b 0 count → KeptBehind letters (cond b 0 count) (before .entries) (before .flags) (after .entries) (after .flags)
+      some true f r e h = absurd (omega arith)
+      some false f false e h = absurd (omega (arith, h, found .refused e .1))
+      some false f true e h = found .rows e f .behind
 
 module _ {s : Sheet} (accepted : Accepted s) {x : StoredSheet} (same : x ≡ storedSheet s) {constraintCount firsts streams ahead back : ℕ}
     (constraintsCut : constraintCount ≡ min (x .constraints) constraintBound) (firstsCut : firsts ≡ min (x .firsts) firstBound) (streamsCut : streams ≡ min (x .streams) streamBound)

@@ -1,5 +1,5 @@
 -- What exploring a stored sheet gives, and the room that it needs.
-use Prim.Native.Nat.{ℕ, _*_, _≤_}
+use Prim.Native.Nat.{ℕ, _*_, _≤_, _<_}
 use mathlib.Core.Path.{_≡_}
 use mathlib.Core.Logic.{_⊎_}
 use mathlib.Core.List.{List}
@@ -11,8 +11,8 @@ use Rattle.sheet.specs.Accepted.{Accepted}
 use Rattle.reader.specs.declared.Sheet.{Sheet as StoredSheet}
 use Rattle.reader.specs.Stored.{storedSheet}
 use Rattle.explore.specs.Rows.{ExploredRows}
-use Rattle.explore.specs.Exploration.{ExploreTables}
-use Rattle.outcome.specs.Room.{zeros}
+use Rattle.explore.specs.Search.{KeptBehind}
+use Rattle.explore.specs.Exploration.{ExploreTables, WorkZero, GraphZero}
 use Rattle.outcome.specs.Compile.{situationBound}
 
 -- Exploring gives the number of situations and their rows, or 0 where there are more than the limit.
@@ -33,8 +33,15 @@ abbrev pub FindsSituations : (stored : StoredSheet) (limit : ℕ) (before after 
 FindsSituations stored limit before after n =
     (s : Sheet) → Accepted s → stored ≡ storedSheet s → RoomFor limit (letterCount (s .streams)) before → SituationsFound s limit n (after .entries) (after .flags)
 
--- What is left after exploring any stored sheet in the lent tables.
-pub record Explored (stored : StoredSheet) (limit : ℕ) (before after : ExploreTables) (n : ℕ) : Type 0 where
+-- What is left in the lent tables after exploring any stored sheet with so many letters: "work tables are zero after every call"; where no rows
+-- are found, every table is zero, and where n are, what stands behind them is as it was.
+pub record Leaves (letters limit : ℕ) (before after : ExploreTables) (n : ℕ) : Type 0 where
   pub within : n ≤ limit
-  pub keysZero : after .keys ≡ zeros (length (before .keys))
+  pub workZero : WorkZero before after
+  pub graphZero : n ≡ 0 → GraphZero before after
+  pub behind : 0 < n → KeptBehind letters n (before .entries) (before .flags) (after .entries) (after .flags)
+
+-- What exploring any stored sheet gives.
+pub record Explored (stored : StoredSheet) (limit : ℕ) (before after : ExploreTables) (n : ℕ) : Type 0 where
+  pub leaves : Leaves (stored .letters) limit before after n
   pub found : FindsSituations stored limit before after n

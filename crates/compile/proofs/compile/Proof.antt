@@ -73,8 +73,8 @@ returns c =
     text-outcome (c .before .before .before .before .before .before .before .before .before .before .before .before .before .before .before .before .before .before .before .before .before .before .before .before .before .before .before .before .before .before .before .before .before .before .before .before .before .before .before .before .before .before .before .before .before .before .before .before .read .ensures) (c .answered .ensures)
     (λ s accepted same.
     let fits = limit-fits (args .entries .now) (args .finals .now) (args .keys .now) (args .live .now) (args .class .now) (args .next .now) (args .heads .now) (args .links .now) (args .shared .now) accepted (sheet-letters s same) work rows limit in
-    calls-outcome (args .entries .now) (args .finals .now) (args .keys .now) (args .live .now) (args .class .now) (args .next .now) (args .heads .now) (args .links .now) (args .shared .now) accepted (sheet-letters s same) work rows limit (found .kept .1 .1 .0) (found .kept .1 .1 .1 .0) (found .kept .1 .1 .1 .1 .1 .0) (found .kept .1 .1 .1 .1 .1 .1 .0) (found .ensures .keysZero) (found .ensures .within) (found .ensures .found s accepted same fits) table (c .before .made .ensures))
-    (calls-cleared (args .entries .now) (args .finals .now) (args .keys .now) (args .live .now) (args .class .now) (args .next .now) (args .heads .now) (args .links .now) (args .shared .now) (found .kept .1 .1 .0) (found .kept .1 .1 .1 .0) (found .kept .1 .1 .1 .1 .1 .0) (found .kept .1 .1 .1 .1 .1 .1 .0) (found .ensures .keysZero) table)
+    calls-outcome (args .entries .now) (args .finals .now) (args .keys .now) (args .live .now) (args .class .now) (args .next .now) (args .heads .now) (args .links .now) (args .shared .now) accepted (sheet-letters s same) work rows limit (found .kept .1 .1 .0) (found .kept .1 .1 .1 .0) (found .kept .1 .1 .1 .1 .1 .0) (found .kept .1 .1 .1 .1 .1 .1 .0) (found .ensures .leaves .workZero .keys-zero) (found .ensures .leaves .within) (found .ensures .found s accepted same fits) table (c .before .made .ensures))
+    (calls-cleared (args .entries .now) (args .finals .now) (args .keys .now) (args .live .now) (args .class .now) (args .next .now) (args .heads .now) (args .links .now) (args .shared .now) (found .kept .1 .1 .0) (found .kept .1 .1 .1 .0) (found .kept .1 .1 .1 .1 .1 .0) (found .kept .1 .1 .1 .1 .1 .1 .0) (found .ensures .leaves .workZero .keys-zero) table)
 
 pub compile-spec : {M : Type 1} → statement M
 compile-spec =

@@ -1,9 +1,9 @@
 -- `situations::explored` meets its contract: the parts of the stored sheet are within its arrays' room, the letters' values are there, and what
--- the exploration leaves is the law `exploration-found`; it clears the keys itself.
+-- the exploration finds and leaves are the laws `exploration-found` and `exploration-leaves`.
 use native.Mathlib.Omega.{arith}
 use borrow.Author.Needs.{needs}
 use Rattle.situations.proofs.Stored.{cut-fits, cut-long}
-use Rattle.situations.proofs.Found.{count-within, exploration-found}
+use Rattle.situations.proofs.Found.{exploration-leaves, exploration-found}
 use Rattle.situations.proofs.explored.Statement.{statement}
 use Rattle.situations.proofs.explored.Tie as tie
 
@@ -96,11 +96,8 @@ returns c =
     let call = c .before .before .before .before .before .before .before .before .before .before .before .explore-stored .ensures in
     let values = c .before .before .before .before .before .before .before .before .before .before .before .before .before .before .before .before .before .before .before .before .before .before .before .before .before .before .before .before .fill-letters in
     let rows = c .rows-found .ensures in (
-      rw rows (count-within call),
-      (
-        call .work-zero .keys-zero,
-        λ long s accepted same room. rw rows (exploration-found accepted same (c .before .before .before .before .before .before .before .before .before .before .before .before .before .before .before .before .before .before .before .before .before .before .before .before .before .before .before .before .before .before .before .before .before .before .before .before .before .before .before .before .before .fewer .ensures) (c .before .before .before .before .before .before .before .before .before .before .before .before .before .before .before .before .before .before .before .before .before .before .before .before .before .before .before .before .before .before .before .before .before .before .before .before .before .fewer2 .ensures) (c .before .before .before .before .before .before .before .before .before .before .before .before .before .before .before .before .before .before .before .before .before .before .before .before .before .before .before .before .before .before .before .before .before .before .before .fewer3 .ensures) (c .before .before .before .before .before .before .before .before .before .before .before .before .before .before .before .before .before .before .before .before .before .before .before .before .before .before .before .before .before .before .before .before .fewer4 .ensures) (c .before .before .before .before .before .before .before .before .before .before .before .before .before .before .before .before .before .before .fewer5 .ensures) _ _ long (values .ensures .1) (values .kept .1 .1 .0) room call),
-      ),
+      rw rows (exploration-leaves call),
+      λ long s accepted same room. rw rows (exploration-found accepted same (c .before .before .before .before .before .before .before .before .before .before .before .before .before .before .before .before .before .before .before .before .before .before .before .before .before .before .before .before .before .before .before .before .before .before .before .before .before .before .before .before .before .fewer .ensures) (c .before .before .before .before .before .before .before .before .before .before .before .before .before .before .before .before .before .before .before .before .before .before .before .before .before .before .before .before .before .before .before .before .before .before .before .before .before .fewer2 .ensures) (c .before .before .before .before .before .before .before .before .before .before .before .before .before .before .before .before .before .before .before .before .before .before .before .before .before .before .before .before .before .before .before .before .before .before .before .fewer3 .ensures) (c .before .before .before .before .before .before .before .before .before .before .before .before .before .before .before .before .before .before .before .before .before .before .before .before .before .before .before .before .before .before .before .before .fewer4 .ensures) (c .before .before .before .before .before .before .before .before .before .before .before .before .before .before .before .before .before .before .fewer5 .ensures) _ _ long (values .ensures .1) (values .kept .1 .1 .0) room call),
     )
 
 pub explored-spec : {M : Type 1} → statement M

@@ -35,7 +35,7 @@ same-length-5 c = c .before .before .before .before .before .before .before .bef
 returns : tie.Need-returns
 returns c =
     let explored = c .before .before .before .before .before .before .before .before .before .before .before .explored .ensures in
-    record { within = explored .0; keysZero = explored .1 .0; found = λ s accepted same room. explored .1 .1 (fits _ 64 (c .before .before .before .before .before .before .before .before .before .before .before .before .before .before .before .before .before .before .if1 .taken) (le-refl 520)) s accepted same room }
+    record { leaves = explored .0; found = λ s accepted same room. explored .1 (fits _ 64 (c .before .before .before .before .before .before .before .before .before .before .before .before .before .before .before .before .before .before .if1 .taken) (le-refl 520)) s accepted same room }
 
 slice-aggregate-explored-2 : tie.Need-slice-aggregate-explored-2
 slice-aggregate-explored-2 c = search needs
@@ -61,7 +61,7 @@ same-length-10 c = c .before .before .before .before .before .before .before .be
 returns-2 : tie.Need-returns-2
 returns-2 c =
     let explored = c .before .before .before .before .before .before .before .before .before .before .before .explored2 .ensures in
-    record { within = explored .0; keysZero = explored .1 .0; found = λ s accepted same room. explored .1 .1 (fits _ 1024 (omega (arith, sheet-letters s same, accepted .letters)) (le-refl 8200)) s accepted same room }
+    record { leaves = explored .0; found = λ s accepted same room. explored .1 (fits _ 1024 (omega (arith, sheet-letters s same, accepted .letters)) (le-refl 8200)) s accepted same room }
 
 pub situations-spec : {M : Type 1} → statement M
 situations-spec =
