@@ -10,7 +10,7 @@ use native.Mathlib.Omega.{arith}
 use native.Mathlib.Decide.{ℕ-discrete}
 use lib.Dec.{T, eqb, eqb→eq}
 use lib.ListN.{length, getD}
-use Rattle.basics.proofs.Tests.{T-or}
+use Rattle.basics.proofs.Tests.{T-or, bit-most}
 use Rattle.automaton.specs.Closure.{tabulate, anyBelow, findBelow, countBelow, contains, round, rounds, closure}
 use borrow.Author.Tests.{eqb-false}
 
@@ -90,10 +90,6 @@ bit-same : (a b : Bool) → cond b 1 0 ≤ cond a 1 0 → T b → T a
 bit-same true b h x = tt
 bit-same false true h x = absurd (not-suc-le-zero h)
 bit-same false false h x = x
-
-bit-most : (a : Bool) → cond a 1 0 ≤ 1
-bit-most true = omega arith
-bit-most false = omega arith
 
 pub count-below-most : (m : ℕ) (f : ℕ → Bool) → countBelow m f ≤ m
 count-below-most zero f = omega arith

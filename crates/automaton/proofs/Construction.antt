@@ -18,7 +18,7 @@ use Rattle.automaton.specs.Graph.{Graph, Language, IsNodeEntry}
 use Rattle.automaton.specs.Numbering.{IsPut, IsFilling}
 use Rattle.automaton.specs.Closure.{findBelow, contains}
 use Rattle.automaton.specs.Construction.{LanguageAnswer, table, noWord, IsAnswer, Met, terminatingSet, liveSet, finalSet}
-use Rattle.automaton.specs.Construction.{distinguishedSet, classes, meet, meetRow, meetRows, allMet, rowsOf, answer}
+use Rattle.automaton.specs.Construction.{distinguishedSet, classes, meet, meetRow, meetRows, allMet, rowsOf, languageAnswer}
 use Rattle.automaton.proofs.Equality.{stored-transfer}
 use Rattle.automaton.proofs.Closure.{getD-tabulate, length-tabulate, find-below-most, find-below-found, find-below-least}
 use Rattle.automaton.proofs.Places.{put-append}
@@ -166,7 +166,7 @@ flag-test true = inl (refl, tt)
 flag-test false = inr (refl, λ h. h)
 
 module _ (G : Graph) (s₀ : ℕ) (room : G .nodes ≤ noState) where
-  pub answer-is : IsAnswer G s₀ (answer G s₀)
+  pub answer-is : IsAnswer G s₀ (languageAnswer G s₀)
   unfolding class
   answer-is = go (contains live s₀) refl
     where
@@ -201,7 +201,7 @@ module _ (G : Graph) (s₀ : ℕ) (room : G .nodes ≤ noState) where
 
   -- a set with the words of the language has a table or no solution
   pub table-or-none : {Sol : Word → Type 0} → SameSolutions (G .letters) (Language G s₀) Sol → HasTable Sol (G .letters) ⊎ NoSolution (G .letters) Sol
-  table-or-none {Sol} e = go (answer G s₀) answer-is
+  table-or-none {Sol} e = go (languageAnswer G s₀) answer-is
     where
       go : (a : LanguageAnswer) → IsAnswer G s₀ a → HasTable Sol (G .letters) ⊎ NoSolution (G .letters) Sol
       go (table r) t = inl (record { states = r .states; entries = r .entries; finals = r .finals; stored = stored-transfer e t })

@@ -10,7 +10,7 @@ use Rattle.basics.proofs.Count.{InRows, rows-count, rows-more}
 use Rattle.basics.specs.Count.{CountOf, MoreThan}
 use Rattle.automaton.specs.Table.{noState, Before, FirstMet}
 use Rattle.automaton.specs.Numbering.{IsPut}
-use Rattle.automaton.specs.Reachable.{System, Reach, Reach.start, Reach.step, byteOf, IsRow, IsRow.no-row, IsRow.row, Known, Absent, IsAdded, Turn, Searched}
+use Rattle.automaton.specs.Reachable.{System, Reach, Reach.start, Reach.step, byteOf, IsRow, IsRow.no-row, IsRow.row, KnownKeys, Absent, IsAdded, SearchTurn, SearchedKeys}
 use Rattle.automaton.proofs.Places.{before-trans}
 
 -- ---- places
@@ -46,7 +46,7 @@ met-put p m h = (
 module _ (S : System) where
   -- ---- the start
 
-  pub known-start : {key : ℕ → S .Key} {byte : ℕ → ℕ} → key 0 ≡ S .start → byte 0 ≡ byteOf S (S .start) → Known S key byte 1
+  pub known-start : {key : ℕ → S .Key} {byte : ℕ → ℕ} → key 0 ≡ S .start → byte 0 ≡ byteOf S (S .start) → KnownKeys S key byte 1
   known-start {key} {byte} e f =
       record {
         some-row = omega arith;
@@ -56,17 +56,17 @@ module _ (S : System) where
         flagged = λ i h. let z : i ≡ 0 = omega arith in subst (λ x. byte x ≡ byteOf S (key x)) (sym z) (f ∙ ap (byteOf S) (sym e));
       }
 
-  pub turn-start : {limit : ℕ} {key : ℕ → S .Key} {entry : ℕ → ℕ → ℕ} {byte : ℕ → ℕ} → 0 < limit → Known S key byte 1 → Turn S limit key entry byte 1 0 0
+  pub turn-start : {limit : ℕ} {key : ℕ → S .Key} {entry : ℕ → ℕ → ℕ} {byte : ℕ → ℕ} → 0 < limit → KnownKeys S key byte 1 → SearchTurn S limit key entry byte 1 0 0
   turn-start space k = record { known = k; within = omega arith; done = λ i b h q. absurd (none q); order = λ j h k. absurd (omega arith) }
     where
       none : {i b : ℕ} → Before i b 0 0 → ⊥
       none (inl h) = omega arith
       none (inr p) = omega (arith, p .1)
 
-  module _ {limit : ℕ} {key : ℕ → S .Key} {entry : ℕ → ℕ → ℕ} {byte : ℕ → ℕ} {n s a : ℕ} (t : Turn S limit key entry byte n s a) where
+  module _ {limit : ℕ} {key : ℕ → S .Key} {entry : ℕ → ℕ → ℕ} {byte : ℕ → ℕ} {n s a : ℕ} (t : SearchTurn S limit key entry byte n s a) where
     -- ---- a row is done
 
-    pub turn-row : S .letters ≤ a → Turn S limit key entry byte n (s + 1) 0
+    pub turn-row : S .letters ≤ a → SearchTurn S limit key entry byte n (s + 1) 0
     turn-row e = record { known = t .known; within = t .within; done = λ i b h q. t .done i b h (back h q); order = λ j h k. let m = t .order j h k in (m .0, on (m .1)) }
       where
         back : {i b : ℕ} → b < S .letters → Before i b (s + 1) 0 → Before i b s a
@@ -79,13 +79,13 @@ module _ (S : System) where
 
     -- ---- all rows are done
 
-    pub turn-end : n ≤ s → Searched S limit key entry byte false n
+    pub turn-end : n ≤ s → SearchedKeys S limit key entry byte false n
     turn-end h = record { known = t .known; within = t .within; first-met = λ j l k. t .order j l k .0; outcome = λ i b l k. t .done i b k (inl (omega arith)) }
 
     module _ (in-rows : s < n) (letter : a < S .letters) where
       -- ---- an entry names a row, or none
 
-      pub turn-old : {entry′ : ℕ → ℕ → ℕ} {v : ℕ} → IsPut (S .letters) entry entry′ s a v → IsRow S key n (key s) a v → Turn S limit key entry′ byte n s (a + 1)
+      pub turn-old : {entry′ : ℕ → ℕ → ℕ} {v : ℕ} → IsPut (S .letters) entry entry′ s a v → IsRow S key n (key s) a v → SearchTurn S limit key entry′ byte n s (a + 1)
       turn-old {entry′} {v} p r =
           record { known = t .known; within = t .within; done = λ i b h q. by i b h (before-split q); order = λ j h k. let m = t .order j h k in met-put p (m .0) (m .1) }
         where
@@ -97,7 +97,7 @@ module _ (S : System) where
 
       module _ (goes : S .ok (key s) a ≡ true) (absent : Absent S key n (S .after (key s) a)) where
         -- Rows have run out.
-        pub turn-full : n ≡ limit → Searched S limit key entry byte true n
+        pub turn-full : n ≡ limit → SearchedKeys S limit key entry byte true n
         turn-full e =
             record {
               known = t .known;
@@ -109,7 +109,7 @@ module _ (S : System) where
         -- A new row is added, and the entry names it.
         module _ (space : n < limit) {key′ : ℕ → S .Key} {entry′ : ℕ → ℕ → ℕ} {byte′ : ℕ → ℕ} (add : IsAdded S key key′ byte byte′ n (S .after (key s) a))
             (p : IsPut (S .letters) entry entry′ s a n) where
-          known-more : Known S key′ byte′ (n + 1)
+          known-more : KnownKeys S key′ byte′ (n + 1)
           known-more =
               record {
                 some-row = omega arith;
@@ -163,17 +163,17 @@ module _ (S : System) where
                 | no q ↦ let m = t .order j h (omega arith) in met-put p (m .0) (m .1)
               ]
 
-          pub turn-new : Turn S limit key′ entry′ byte′ (n + 1) s (a + 1)
+          pub turn-new : SearchTurn S limit key′ entry′ byte′ (n + 1) s (a + 1)
           turn-new = record { known = known-more; within = omega arith; done = λ i b h q. done-more i b h (before-split q); order = met-more }
 
   -- ---- what the search has found
 
-  known-rows : {key : ℕ → S .Key} {byte : ℕ → ℕ} {n : ℕ} → Known S key byte n → InRows (Reach S) key n
+  known-rows : {key : ℕ → S .Key} {byte : ℕ → ℕ} {n : ℕ} → KnownKeys S key byte n → InRows (Reach S) key n
   known-rows k = record { distinct = k .distinct; holds = k .reached }
 
   module _ {limit : ℕ} {key : ℕ → S .Key} {entry : ℕ → ℕ → ℕ} {byte : ℕ → ℕ} {n : ℕ} where
     -- Every reached key has a row.
-    pub reached-row : Searched S limit key entry byte false n → {x : S .Key} → Reach S x → (i : ℕ) × (i < n) × (key i ≡ x)
+    pub reached-row : SearchedKeys S limit key entry byte false n → {x : S .Key} → Reach S x → (i : ℕ) × (i < n) × (key i ≡ x)
     reached-row z start = (0, z .known .some-row, z .known .first)
     reached-row z (step {x} a l h g) = let o = reached-row z h in by (o .2) (z .outcome (o .0) a (o .1) l)
       where
@@ -182,9 +182,9 @@ module _ (S : System) where
         by {v = v} e (row h f q) = (v, h, q ∙ ap (λ k. S .after k a) e)
 
     -- The rows hold exactly the reached keys, each once: n is their number.
-    pub searched-count : Searched S limit key entry byte false n → CountOf (Reach S) n
+    pub searched-count : SearchedKeys S limit key entry byte false n → CountOf (Reach S) n
     searched-count z = rows-count (known-rows (z .known)) (λ x h. reached-row z h)
 
     -- Where rows run out, more keys than the limit are reached.
-    pub searched-more : Searched S limit key entry byte true n → MoreThan (Reach S) limit
+    pub searched-more : SearchedKeys S limit key entry byte true n → MoreThan (Reach S) limit
     searched-more z = subst (MoreThan (Reach S)) (z .outcome .full) (rows-more (known-rows (z .known)) (z .outcome .other) (z .outcome .reached) (z .outcome .new))

@@ -6,7 +6,7 @@ use mathlib.Core.Path.{_≡_, sym, _∙_, ap, subst}
 use mathlib.Core.Bool.{true, false}
 use Rattle.basics.proofs.Count.{count-unique}
 use Rattle.automaton.specs.Table.{noState, FirstMet, SameRows}
-use Rattle.automaton.specs.Reachable.{System, byteOf, IsRow, IsRow.no-row, IsRow.row, Searched}
+use Rattle.automaton.specs.Reachable.{System, byteOf, IsRow, IsRow.no-row, IsRow.row, SearchedKeys}
 use Rattle.automaton.proofs.Unique.{Compared, Compared.before, Compared.equal, Compared.after, compared}
 use Rattle.automaton.proofs.Reachable.{searched-count}
 use Rattle.automaton.proofs.ReachedRows.{true-false}
@@ -21,7 +21,7 @@ module _ (S : System) where
   row-other g (row b f e) = (b, e)
 
   -- where one search first meets row j, the other has a row from j on that holds the same key
-  meets : {limit limit′ n n′ : ℕ} {key key′ : ℕ → S .Key} {entry entry′ : ℕ → ℕ → ℕ} {byte byte′ : ℕ → ℕ} → Searched S limit key entry byte false n → Searched S limit′ key′ entry′ byte′ false n′ → n ≤ noState
+  meets : {limit limit′ n n′ : ℕ} {key key′ : ℕ → S .Key} {entry entry′ : ℕ → ℕ → ℕ} {byte byte′ : ℕ → ℕ} → SearchedKeys S limit key entry byte false n → SearchedKeys S limit′ key′ entry′ byte′ false n′ → n ≤ noState
       → {j : ℕ} → j < n → j < n′ → ((i : ℕ) → i < j → key i ≡ key′ i) → (m : FirstMet (S .letters) entry j)
       → (j ≤ entry′ (m .state) (m .letter)) × (entry′ (m .state) (m .letter) < n′) × (key′ (entry′ (m .state) (m .letter)) ≡ key j)
   meets {n = n} {n′} {key} {key′} {entry} {entry′} z z′ room {j} h h′ same m =
@@ -37,7 +37,7 @@ module _ (S : System) where
       by {v} (yes b) q = absurd (z .known .distinct v j b h (same v b ∙ q))
       by (no b) q = omega arith
 
-  module _ {limit limit′ n n′ : ℕ} {key key′ : ℕ → S .Key} {entry entry′ : ℕ → ℕ → ℕ} {byte byte′ : ℕ → ℕ} (z : Searched S limit key entry byte false n) (z′ : Searched S limit′ key′ entry′ byte′ false n′) (room : n ≤ noState) where
+  module _ {limit limit′ n n′ : ℕ} {key key′ : ℕ → S .Key} {entry entry′ : ℕ → ℕ → ℕ} {byte byte′ : ℕ → ℕ} (z : SearchedKeys S limit key entry byte false n) (z′ : SearchedKeys S limit′ key′ entry′ byte′ false n′) (room : n ≤ noState) where
     pub same-count : n ≡ n′
     same-count = count-unique (searched-count S z) (searched-count S z′)
 

@@ -16,8 +16,8 @@ use Rattle.automaton.specs.Solutions.{SameSolutions, ByPrefixes}
 use Rattle.automaton.specs.Table.{noState}
 use Rattle.automaton.specs.Graph.{Graph, Language}
 use Rattle.automaton.specs.Situations.{IsCongruence, IsExplored}
-use Rattle.automaton.specs.Reachable.{System, Reach, Reach.start, Reach.step, IsRow, IsRow.no-row, IsRow.row, Searched, FlagStays, keyFrom, GoesFrom, Followed, Flagged, SameKey}
-use Rattle.automaton.specs.ReachedRows.{IsThing, IsThingRow, IsThingRow.no-row, IsThingRow.row, RowsOf, Marks, Reads}
+use Rattle.automaton.specs.Reachable.{System, Reach, Reach.start, Reach.step, IsRow, IsRow.no-row, IsRow.row, SearchedKeys, FlagStays, keyAlong, GoesFrom, KeyFollowed, Flagged, SameKey}
+use Rattle.automaton.specs.ReachedRows.{IsThing, IsThingRow, IsThingRow.no-row, IsThingRow.row, RowsOf, Marks, KeysStand}
 use Rattle.automaton.proofs.Situations.{explored-solutions}
 use Rattle.automaton.proofs.Reachable.{reached-row}
 
@@ -30,7 +30,7 @@ true-false e f = let z : _≡_ {A = Bool} true false = sym e ∙ f in let u : _�
 
 -- ---- reached keys are the keys of lawful records
 
-module _ {S : System} {lawful : List ℕ → Type 0} {keyOf : List ℕ → S .Key} {X : Type 0} {thing : List ℕ → X} {done : X → Bool} (R : Reads S lawful keyOf thing done) where
+module _ {S : System} {lawful : List ℕ → Type 0} {keyOf : List ℕ → S .Key} {X : Type 0} {thing : List ℕ → X} {done : X → Bool} (R : KeysStand S lawful keyOf thing done) where
   -- a lawful record whose key it is
   record Shows (x : S .Key) : Type 0 where
     shown : List ℕ
@@ -66,7 +66,7 @@ module _ {S : System} {lawful : List ℕ → Type 0} {keyOf : List ℕ → S .Ke
   pub lawful-reached : (r : List ℕ) → AllBelow (S .letters) r → lawful r → Reach S (keyOf r)
   lawful-reached r h l = reach-from r [] tt h l (subst (Reach S) (sym (R .empty)) start)
 
-  module _ {limit : ℕ} {key : ℕ → S .Key} {entry : ℕ → ℕ → ℕ} {byte : ℕ → ℕ} {full : Bool} {n : ℕ} (z : Searched S limit key entry byte full n) where
+  module _ {limit : ℕ} {key : ℕ → S .Key} {entry : ℕ → ℕ → ℕ} {byte : ℕ → ℕ} {full : Bool} {n : ℕ} (z : SearchedKeys S limit key entry byte full n) where
     -- the record of a row; that of the first row is the empty one
     pick : (i : ℕ) → Dec (i < n) → List ℕ
     pick zero d = []
@@ -122,7 +122,7 @@ module _ {S : System} {lawful : List ℕ → Type 0} {keyOf : List ℕ → S .Ke
 
   module _ {limit : ℕ} {key : ℕ → S .Key} {entry : ℕ → ℕ → ℕ} {byte : ℕ → ℕ} {n : ℕ} where
     -- The rows stand for the things, each once.
-    pub searched-rows : Searched S limit key entry byte false n → RowsOf (S .letters) lawful thing done n entry byte
+    pub searched-rows : SearchedKeys S limit key entry byte false n → RowsOf (S .letters) lawful thing done n entry byte
     searched-rows z =
         record {
           shown = shown z;
@@ -137,7 +137,7 @@ module _ {S : System} {lawful : List ℕ → Type 0} {keyOf : List ℕ → S .Ke
         }
 
     -- n is the number of the things.
-    pub searched-things : Searched S limit key entry byte false n → CountOf (IsThing (S .letters) lawful thing) n
+    pub searched-things : SearchedKeys S limit key entry byte false n → CountOf (IsThing (S .letters) lawful thing) n
     searched-things z =
         rows-count (in-rows z) (λ x p.
         let o = reached-row S z (lawful-reached (p .shown) (p .letters) (p .is-lawful)) in
@@ -145,7 +145,7 @@ module _ {S : System} {lawful : List ℕ → Type 0} {keyOf : List ℕ → S .Ke
         (o .0, o .1, R .key-thing (shown z (o .0)) (p .shown) (y .0) (p .letters) (y .1) (p .is-lawful) (y .2 ∙ o .2) ∙ p .same))
 
     -- Where rows run out, there are more things than the limit.
-    pub searched-more-things : Searched S limit key entry byte true n → MoreThan (IsThing (S .letters) lawful thing) limit
+    pub searched-more-things : SearchedKeys S limit key entry byte true n → MoreThan (IsThing (S .letters) lawful thing) limit
     searched-more-things z =
         let w = reach-shows (z .outcome .reached) in
         subst (MoreThan (IsThing (S .letters) lawful thing)) (z .outcome .full)
@@ -247,19 +247,19 @@ module _ {k : ℕ} {lawful : List ℕ → Type 0} {X : Type 0} {thing : List ℕ
 -- ---- keys that stand for themselves
 
 module _ (S : System) where
-  goes-snoc : (x : S .Key) (r : List ℕ) (a : ℕ) → GoesFrom S x r → S .ok (keyFrom S x r) a ≡ true → GoesFrom S x (r ++ (a ∷ []))
+  goes-snoc : (x : S .Key) (r : List ℕ) (a : ℕ) → GoesFrom S x r → S .ok (keyAlong S x r) a ≡ true → GoesFrom S x (r ++ (a ∷ []))
   goes-snoc x [] a h e = (e, tt)
   goes-snoc x (b ∷ r) a h e = (h .0, goes-snoc (S .after x b) r a (h .1) e)
 
-  goes-beginning : (x : S .Key) (r : List ℕ) (a : ℕ) → GoesFrom S x (r ++ (a ∷ [])) → GoesFrom S x r × (S .ok (keyFrom S x r) a ≡ true)
+  goes-beginning : (x : S .Key) (r : List ℕ) (a : ℕ) → GoesFrom S x (r ++ (a ∷ [])) → GoesFrom S x r × (S .ok (keyAlong S x r) a ≡ true)
   goes-beginning x [] a h = (tt, h .0)
   goes-beginning x (b ∷ r) a h = let w = goes-beginning (S .after x b) r a (h .1) in ((h .0, w .0), w .1)
 
-  key-snoc : (x : S .Key) (r : List ℕ) (a : ℕ) → S .after (keyFrom S x r) a ≡ keyFrom S x (r ++ (a ∷ []))
+  key-snoc : (x : S .Key) (r : List ℕ) (a : ℕ) → S .after (keyAlong S x r) a ≡ keyAlong S x (r ++ (a ∷ []))
   key-snoc x [] a = refl
   key-snoc x (b ∷ r) a = key-snoc (S .after x b) r a
 
-  pub keys-read : Reads S (Followed S) (keyFrom S (S .start)) (keyFrom S (S .start)) (S .flag)
+  pub keys-read : KeysStand S (KeyFollowed S) (keyAlong S (S .start)) (keyAlong S (S .start)) (S .flag)
   keys-read =
       record {
         start-lawful = record { goes = tt };
@@ -273,7 +273,7 @@ module _ (S : System) where
       }
 
   -- Records that lead to one key go on alike.
-  pub keys-congruence : IsCongruence (S .letters) (Followed S) (Flagged S) (SameKey S)
+  pub keys-congruence : IsCongruence (S .letters) (KeyFollowed S) (Flagged S) (SameKey S)
   keys-congruence =
       record {
         symmetric = λ r s e. record { same = sym (e .same) };
@@ -283,7 +283,7 @@ module _ (S : System) where
         done-alike = λ r s e l m d. record { is-flagged = subst (λ x. T (S .flag x)) (e .same) (d .is-flagged) };
       }
 
-  pub keys-marks : FlagStays S → Marks (S .letters) (Followed S) (keyFrom S (S .start)) (S .flag) (Flagged S) (SameKey S)
+  pub keys-marks : FlagStays S → Marks (S .letters) (KeyFollowed S) (keyAlong S (S .start)) (S .flag) (Flagged S) (SameKey S)
   keys-marks f =
       record {
         same-alike = λ r t h g l m e. record { same = e };
@@ -291,15 +291,15 @@ module _ (S : System) where
         stays = λ r a h b l m d.
             record {
               is-flagged = subst (λ x. T (S .flag x)) (key-snoc (S .start) r a)
-                  (f .stays (keyFrom S (S .start) r) (lawful-reached keys-read r h l) a b (goes-beginning (S .start) r a (m .goes) .1) (d .is-flagged));
+                  (f .stays (keyAlong S (S .start) r) (lawful-reached keys-read r h l) a b (goes-beginning (S .start) r a (m .goes) .1) (d .is-flagged));
             };
       }
 
-  module _ (f : FlagStays S) {limit : ℕ} {key : ℕ → S .Key} {entry : ℕ → ℕ → ℕ} {byte : ℕ → ℕ} {n : ℕ} (z : Searched S limit key entry byte false n) (room : n ≤ noState) where
+  module _ (f : FlagStays S) {limit : ℕ} {key : ℕ → S .Key} {entry : ℕ → ℕ → ℕ} {byte : ℕ → ℕ} {n : ℕ} (z : SearchedKeys S limit key entry byte false n) (room : n ≤ noState) where
     unfoldable pub searched-graph : Graph
     searched-graph = row-graph (keys-marks f) (searched-rows keys-read z) room
 
     -- The language of the rows' graph: the words that can be followed from the start for ever, and reach a key with the flag.
-    pub searched-language : SameSolutions (S .letters) (Language searched-graph 0) (ByPrefixes (Followed S) (Flagged S))
+    pub searched-language : SameSolutions (S .letters) (Language searched-graph 0) (ByPrefixes (KeyFollowed S) (Flagged S))
     unfolding searched-graph
     searched-language = rows-language (keys-marks f) (searched-rows keys-read z) room keys-congruence

@@ -6,7 +6,7 @@ use mathlib.Core.List.{List, [], _∷_}
 use Prim.Native.Nat.{ℕ}
 use lib.Dec.{T, leb, leb→le}
 use Rattle.automaton.specs.Table.{noState}
-use Rattle.automaton.specs.Construction.{LanguageAnswer, table, noWord, answer, IsAnswer}
+use Rattle.automaton.specs.Construction.{LanguageAnswer, table, noWord, languageAnswer, IsAnswer}
 use Rattle.automaton.specs.Listed.{Listed, wellFormed}
 use Rattle.automaton.proofs.Listed.{listedGraph}
 use Rattle.automaton.proofs.Construction.{answer-is}
@@ -71,7 +71,7 @@ All P [] = Unit {0}
 All P (r ∷ l) = P r × All P l
 
 abbrev computes : WorkedGraph → Type 0
-computes r = answer (listedGraph (r .graph) (r .is-formed)) 0 ≡ r .result
+computes r = languageAnswer (listedGraph (r .graph) (r .is-formed)) 0 ≡ r .result
 
 abbrev holds : WorkedGraph → Type 0
 holds r = IsAnswer (listedGraph (r .graph) (r .is-formed)) 0 (r .result)

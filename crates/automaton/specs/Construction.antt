@@ -121,8 +121,8 @@ module _ (G : Graph) where
     allMet s₀ = meetRows (G .nodes) 0 (record { nodes = s₀ ∷ []; entries = [] })
 
   -- the answer for the language of s₀
-  abbrev pub answer : (s₀ : ℕ) → LanguageAnswer
-  answer s₀ =
+  abbrev pub languageAnswer : (s₀ : ℕ) → LanguageAnswer
+  languageAnswer s₀ =
       let live = liveSet terminatingSet in
       let final = finalSet live in
       let rows = rowsOf final (allMet live (classes live (distinguishedSet live final)) s₀) in

@@ -31,7 +31,7 @@ module _ (S : System) where
     row : v < n → S .ok x a ≡ true → key v ≡ S .after x a → IsRow key n x a v
 
   -- the first n rows hold different keys, all reached, the first that of the start; and each row's byte
-  pub record Known (key : ℕ → S .Key) (byte : ℕ → ℕ) (n : ℕ) : Type 0 where
+  pub record KnownKeys (key : ℕ → S .Key) (byte : ℕ → ℕ) (n : ℕ) : Type 0 where
     pub some-row : 0 < n
     pub first : key 0 ≡ S .start
     pub distinct : (i j : ℕ) → i < j → j < n → key i ≡ key j → ⊥
@@ -50,8 +50,8 @@ module _ (S : System) where
     pub old-byte : (i : ℕ) → i < n → byte′ i ≡ byte i
 
   -- before row s at letter a: n rows are known, every entry before this place is right, and every row was first met before it
-  pub record Turn (limit : ℕ) (key : ℕ → S .Key) (entry : ℕ → ℕ → ℕ) (byte : ℕ → ℕ) (n s a : ℕ) : Type 0 where
-    pub known : Known key byte n
+  pub record SearchTurn (limit : ℕ) (key : ℕ → S .Key) (entry : ℕ → ℕ → ℕ) (byte : ℕ → ℕ) (n s a : ℕ) : Type 0 where
+    pub known : KnownKeys key byte n
     pub within : n ≤ limit
     pub done : (i b : ℕ) → b < S .letters → Before i b s a → IsRow key n (key i) b (entry i b)
     pub order : (j : ℕ) → 0 < j → j < n → (m : FirstMet (S .letters) entry j) × Before (m .state) (m .letter) s a
@@ -64,36 +64,36 @@ module _ (S : System) where
     pub new : Absent key n other
 
   -- `full` says that there are more keys than the limit; otherwise every entry is the row of the successor, or none.
-  abbrev pub Outcome : Bool → (limit : ℕ) (key : ℕ → S .Key) (entry : ℕ → ℕ → ℕ) (n : ℕ) → Type 0
-  Outcome true limit key entry n = Over limit key n
-  Outcome false limit key entry n = (i a : ℕ) → i < n → a < S .letters → IsRow key n (key i) a (entry i a)
+  abbrev pub SearchOutcome : Bool → (limit : ℕ) (key : ℕ → S .Key) (entry : ℕ → ℕ → ℕ) (n : ℕ) → Type 0
+  SearchOutcome true limit key entry n = Over limit key n
+  SearchOutcome false limit key entry n = (i a : ℕ) → i < n → a < S .letters → IsRow key n (key i) a (entry i a)
 
   -- what the search leaves
-  pub record Searched (limit : ℕ) (key : ℕ → S .Key) (entry : ℕ → ℕ → ℕ) (byte : ℕ → ℕ) (full : Bool) (n : ℕ) : Type 0 where
-    pub known : Known key byte n
+  pub record SearchedKeys (limit : ℕ) (key : ℕ → S .Key) (entry : ℕ → ℕ → ℕ) (byte : ℕ → ℕ) (full : Bool) (n : ℕ) : Type 0 where
+    pub known : KnownKeys key byte n
     pub within : n ≤ limit
     pub first-met : (j : ℕ) → 0 < j → j < n → FirstMet (S .letters) entry j
-    pub outcome : Outcome full limit key entry n
+    pub outcome : SearchOutcome full limit key entry n
 
   -- the flag of a reached key is not lost along an edge
   pub record FlagStays : Type 0 where
     pub stays : (x : S .Key) → Reach x → (a : ℕ) → a < S .letters → S .ok x a ≡ true → T (S .flag x) → T (S .flag (S .after x a))
 
   -- the key after a record from x on, and that each of its letters has a successor
-  abbrev pub keyFrom : S .Key → List ℕ → S .Key
-  keyFrom x [] = x
-  keyFrom x (a ∷ r) = keyFrom (S .after x a) r
+  abbrev pub keyAlong : S .Key → List ℕ → S .Key
+  keyAlong x [] = x
+  keyAlong x (a ∷ r) = keyAlong (S .after x a) r
 
   abbrev pub GoesFrom : S .Key → List ℕ → Type 0
   GoesFrom x [] = Unit {0}
   GoesFrom x (a ∷ r) = (S .ok x a ≡ true) × GoesFrom (S .after x a) r
 
   -- the record can be followed from the start; it leads to a key with the flag; two records lead to one key
-  pub record Followed (r : List ℕ) : Type 0 where
+  pub record KeyFollowed (r : List ℕ) : Type 0 where
     pub goes : GoesFrom (S .start) r
 
   pub record Flagged (r : List ℕ) : Type 0 where
-    pub is-flagged : T (S .flag (keyFrom (S .start) r))
+    pub is-flagged : T (S .flag (keyAlong (S .start) r))
 
   pub record SameKey (r t : List ℕ) : Type 0 where
-    pub same : keyFrom (S .start) r ≡ keyFrom (S .start) t
+    pub same : keyAlong (S .start) r ≡ keyAlong (S .start) t

@@ -43,7 +43,7 @@ module _ (k : ℕ) (lawful : List ℕ → Type 0) {X : Type 0} (thing : List ℕ
 
 -- Keys stand for the things: `keyOf` gives the key of a lawful record, one more letter leads from key to key, keys are equal exactly if things
 -- are, and a key's flag says whether its thing is done.
-pub record Reads (S : System) (lawful : List ℕ → Type 0) (keyOf : List ℕ → S .Key) {X : Type 0} (thing : List ℕ → X) (done : X → Bool) : Type 0 where
+pub record KeysStand (S : System) (lawful : List ℕ → Type 0) (keyOf : List ℕ → S .Key) {X : Type 0} (thing : List ℕ → X) (done : X → Bool) : Type 0 where
   pub start-lawful : lawful []
   pub beginning : (r : List ℕ) (a : ℕ) → lawful (r ++ (a ∷ [])) → lawful r
   pub empty : keyOf [] ≡ S .start

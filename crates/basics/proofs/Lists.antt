@@ -1,13 +1,13 @@
 -- Laws of lists: properties of every member and of some member, what stands at a place, and pieces that are written one behind the other.
-use Prim.Native.Nat.{ℕ, zero, suc, _+_, _-_, _<_}
+use Prim.Native.Nat.{ℕ, zero, suc, _+_, _-_, _<_, _*_, _≤_}
 use native.Mathlib.Omega.{arith}
-use native.Mathlib.Decide.{decLt}
-use native.Mathlib.Nat.{le-of-suc-le-suc, not-suc-le-zero}
+use native.Mathlib.Decide.{decLt, ℕ-discrete}
+use native.Mathlib.Nat.{le-of-suc-le-suc, not-suc-le-zero, mul-le-mul-right, suc-mul}
 use mathlib.Core.Path.{_≡_, refl, sym, _∙_, ap, subst}
-use mathlib.Core.Logic.{_↔_, inl, inr}
+use mathlib.Core.Logic.{_↔_, inl, inr, _≢_}
 use mathlib.Core.List.{List, [], _∷_, _++_, map, List·Memᴰ, List·Memᴰ·head, List·Memᴰ·tail}
 use lib.ListN.{length, getD, set}
-use lib.Seq.{sets}
+use lib.Seq.{sets, getD-set-same, getD-set-other}
 use Rattle.basics.specs.Lists.{All, Some}
 
 -- ---- a property of every member
@@ -87,3 +87,24 @@ sets-append l n [] ys = let same : n + 0 ≡ n = omega arith in ap (λ k. sets l
 sets-append l n (x ∷ xs) ys =
     let next : n + suc (length xs) ≡ suc n + length xs = omega arith in
     ap (λ k. sets (sets (set l n x) (suc n) xs) k ys) next ∙ sets-append (set l n x) (suc n) xs ys
+
+-- ---- lists that hold one number a row
+
+-- a property of one row and its number holds of every row below n + 1, if it held below n and holds of the number stored at n
+pub below-set : (P : ℕ → ℕ → Type 0) (list : List ℕ) (n v : ℕ) → n < length list → ((s : ℕ) → s < n → P s (getD list s 0)) → P n v
+    → (s : ℕ) → s < n + 1 → P s (getD (set list n v) s 0)
+below-set P list n v h old new s hs = go (ℕ-discrete s n)
+  where
+    go : Dec (s ≡ n) → P s (getD (set list n v) s 0)
+    go (yes q) = rw (q, getD-set-same list n v 0 h) new
+    go (no q) = rw (getD-set-other list n s v 0 q) (old s (omega arith))
+
+pub set-other : (list : List ℕ) (n v s : ℕ) → s ≢ n → getD (set list n v) s 0 ≡ getD list s 0
+set-other list n v s q = getD-set-other list n s v 0 q
+
+-- row s lies within n rows
+pub row-fits : (s n letters room : ℕ) → s < n → n * letters ≤ room → s * letters + letters ≤ room
+row-fits s n letters room h g =
+    let step : suc s * letters ≤ n * letters = mul-le-mul-right letters h in
+    let e : suc s * letters ≡ s * letters + letters = suc-mul s letters in
+    omega arith

@@ -1,5 +1,5 @@
 -- When a Boolean test decides a proposition: the tests on numbers do, and `||`, `&&` and `not` keep it. All from the definitions.
-use Prim.Native.Nat.{ℕ, _≤_, _<_}
+use Prim.Native.Nat.{ℕ, _≤_, _<_, suc}
 use mathlib.Core.Path.{_≡_, refl, sym}
 use mathlib.Core.Bool.{Bool, true, false, not, _&&_, _||_, true≢false}
 use mathlib.Core.Logic.{_⊎_, inl, inr}
@@ -88,3 +88,6 @@ not-fails (fails m) n = absurd (n m)
 pub reflects-same : {P Q : Type 0} {b c : Bool} → Reflects P b → Reflects Q c → (P → Q) → (Q → P) → b ≡ c
 reflects-same (holds p) r f g = sym (to-true r (f p))
 reflects-same (fails n) r f g = sym (to-false r (λ q. n (g q)))
+
+pub ltb-suc : (m n : ℕ) → ltb (suc m) (suc n) ≡ ltb m n
+ltb-suc m n = reflects-same (ltb-reflects (suc m) (suc n)) (ltb-reflects m n) (λ h. omega arith) (λ h. omega arith)

@@ -1,4 +1,6 @@
 -- Laws of tests, which are values of `Bool`, and of what they say, by `T`; and of choices by a test.
+use Prim.Native.Nat.{_≤_}
+use native.Mathlib.Omega.{arith}
 use mathlib.Core.Path.{_≡_, refl, sym}
 use mathlib.Core.Logic.{_↔_, _⊎_, inl, inr}
 use mathlib.Core.Bool.{Bool, true, false, not, cond, _&&_, _||_, true≢false}
@@ -49,6 +51,10 @@ pub or-right : (b c : Bool) → T c → T (b || c)
 or-right true c t = tt
 or-right false c t = t
 
+pub or-true : (b : Bool) → b || true ≡ true
+or-true true = refl
+or-true false = refl
+
 pub or-cases : {X : Type 0} (b c : Bool) → T (b || c) → (T b → X) → (T c → X) → X
 or-cases true c t f g = f tt
 or-cases false c t f g = g t
@@ -77,3 +83,8 @@ cond-true false x y t = absurd t
 pub cond-false : {X : Type 0} (c : Bool) (x y : X) → T (not c) → cond c x y ≡ y
 cond-false true x y t = absurd t
 cond-false false x y t = refl
+
+-- A test as a number is at most 1.
+pub bit-most : (b : Bool) → cond b 1 0 ≤ 1
+bit-most true = omega arith
+bit-most false = omega arith

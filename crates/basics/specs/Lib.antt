@@ -1,2 +1,5 @@
 pub mod Count
 pub mod Lists
+pub mod Answers
+pub mod Clearing
+pub mod Copying

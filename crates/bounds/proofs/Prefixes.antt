@@ -14,7 +14,7 @@ use Rattle.nodes.specs.Evaluate.{Nodes, kindOf}
 use Rattle.nodes.specs.Bounds.{summaryByKind, summaryBefore}
 use Rattle.nodes.specs.declared.Summary.{Summary}
 use Rattle.nodes.proofs.Summing.{summaryBefore-node}
-use Rattle.bounds.specs.Prefix.{isPrefix, prefixSummary, Prefixes, Leads}
+use Rattle.bounds.specs.Prefix.{isPrefix, prefixSummary, Prefixes, SummaryLeads}
 
 -- ---- the test
 
@@ -78,11 +78,11 @@ module _ (N : Nodes) (lows highs : List ℤ) (i : ℕ) where
   pub prefix-made : isPrefix (getD (N .kinds) i 0) ≡ true → prefixSummary (getD (N .kinds) i 0) (summaryBefore N lows highs i) ≡ summaryBefore N lows highs (i + 1)
   prefix-made t = made (getD (N .kinds) i 0) t ∙ sym (summaryBefore-node N lows highs i) ∙ ap (summaryBefore N lows highs) (sym (add-one i))
 
-pub leads-none : {kinds : List ℕ} {d : ℕ} {a : Summary} → Leads kinds d a d a
+pub leads-none : {kinds : List ℕ} {d : ℕ} {a : Summary} → SummaryLeads kinds d a d a
 leads-none = record { summary = λ N lows highs s r. r }
 
-pub leads-more : {kinds : List ℕ} {d : ℕ} {a : Summary} (i : ℕ) {b : Summary} → Leads kinds d a i b → isPrefix (getD kinds i 0) ≡ true
-    → {c : Summary} → c ≡ prefixSummary (getD kinds i 0) b → Leads kinds d a (i + 1) c
+pub leads-more : {kinds : List ℕ} {d : ℕ} {a : Summary} (i : ℕ) {b : Summary} → SummaryLeads kinds d a i b → isPrefix (getD kinds i 0) ≡ true
+    → {c : Summary} → c ≡ prefixSummary (getD kinds i 0) b → SummaryLeads kinds d a (i + 1) c
 leads-more {kinds} i {b} m t q =
     record {
       summary = λ N lows highs s r.

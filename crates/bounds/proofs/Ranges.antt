@@ -23,7 +23,7 @@ use Rattle.nodes.specs.declared.Range.{Range}
 use Rattle.nodes.proofs.Parts.{and-true-left, and-true-right}
 use Rattle.arithmetic.proofs.Machine.{held, held-both, small-fits, number-natural, number-negative}
 use Rattle.arithmetic.proofs.Operators.{inBound-Small}
-use Rattle.bounds.specs.Span.{span, spanValues}
+use Rattle.bounds.specs.Span.{spanOfFour, spanValues}
 
 abbrev pub between : ℤ → ℤ → Interval
 between l h = record { low = l; high = h }
@@ -105,50 +105,50 @@ beyond I v l h e = by (inBound (I .low)) (inBound (I .high)) refl refl
     by false q p r = refl
 
 module _ (p q r s : ℤ) where
-  low-p : span p q r s .low ≤ℤ p
+  low-p : spanOfFour p q r s .low ≤ℤ p
   low-p = ≤ℤ-trans (least-≤-left (least p q) (least r s)) (least-≤-left p q)
 
-  low-q : span p q r s .low ≤ℤ q
+  low-q : spanOfFour p q r s .low ≤ℤ q
   low-q = ≤ℤ-trans (least-≤-left (least p q) (least r s)) (least-≤-right p q)
 
-  low-r : span p q r s .low ≤ℤ r
+  low-r : spanOfFour p q r s .low ≤ℤ r
   low-r = ≤ℤ-trans (least-≤-right (least p q) (least r s)) (least-≤-left r s)
 
-  low-s : span p q r s .low ≤ℤ s
+  low-s : spanOfFour p q r s .low ≤ℤ s
   low-s = ≤ℤ-trans (least-≤-right (least p q) (least r s)) (least-≤-right r s)
 
-  high-p : p ≤ℤ span p q r s .high
+  high-p : p ≤ℤ spanOfFour p q r s .high
   high-p = ≤ℤ-trans (greatest-≥-left p q) (greatest-≥-left (greatest p q) (greatest r s))
 
-  high-q : q ≤ℤ span p q r s .high
+  high-q : q ≤ℤ spanOfFour p q r s .high
   high-q = ≤ℤ-trans (greatest-≥-right p q) (greatest-≥-left (greatest p q) (greatest r s))
 
-  high-r : r ≤ℤ span p q r s .high
+  high-r : r ≤ℤ spanOfFour p q r s .high
   high-r = ≤ℤ-trans (greatest-≥-left r s) (greatest-≥-right (greatest p q) (greatest r s))
 
-  high-s : s ≤ℤ span p q r s .high
+  high-s : s ≤ℤ spanOfFour p q r s .high
   high-s = ≤ℤ-trans (greatest-≥-right r s) (greatest-≥-right (greatest p q) (greatest r s))
 
   -- The span of four numbers is within the bound exactly if all four are.
-  pub span-bounded : spanValues (bounded p) (bounded q) (bounded r) (bounded s) ≡ rangeWithin (span p q r s)
+  pub span-bounded : spanValues (bounded p) (bounded q) (bounded r) (bounded s) ≡ rangeWithin (spanOfFour p q r s)
   span-bounded = by (inBound p) (inBound q) (inBound r) (inBound s) refl refl refl refl
     where
-      by : (a b c d : Bool) → inBound p ≡ a → inBound q ≡ b → inBound r ≡ c → inBound s ≡ d → spanValues (cond a (someValue p) noValue) (cond b (someValue q) noValue) (cond c (someValue r) noValue) (cond d (someValue s) noValue) ≡ rangeWithin (span p q r s)
+      by : (a b c d : Bool) → inBound p ≡ a → inBound q ≡ b → inBound r ≡ c → inBound s ≡ d → spanValues (cond a (someValue p) noValue) (cond b (someValue q) noValue) (cond c (someValue r) noValue) (cond d (someValue s) noValue) ≡ rangeWithin (spanOfFour p q r s)
       by true true true true ea eb ec ed = refl
-      by true true true false ea eb ec ed = beyond (span p q r s) s low-s high-s ed
-      by true true false d ea eb ec ed = beyond (span p q r s) r low-r high-r ec
-      by true false c d ea eb ec ed = beyond (span p q r s) q low-q high-q eb
-      by false b c d ea eb ec ed = beyond (span p q r s) p low-p high-p ea
+      by true true true false ea eb ec ed = beyond (spanOfFour p q r s) s low-s high-s ed
+      by true true false d ea eb ec ed = beyond (spanOfFour p q r s) r low-r high-r ec
+      by true false c d ea eb ec ed = beyond (spanOfFour p q r s) q low-q high-q eb
+      by false b c d ea eb ec ed = beyond (spanOfFour p q r s) p low-p high-p ea
 
 -- What `span_values` answers, by its tests.
 module _ (p q r s : Evaluated) (ep : p .ok ≡ true) where
   module _ (eq : q .ok ≡ true) where
     module _ (er : r .ok ≡ true) where
       pub span-there : s .ok ≡ true → SFits w64 (p .value) → SFits w64 (q .value) → SFits w64 (r .value) → SFits w64 (s .value)
-          → rangeWithin (span (held (p .value)) (held (q .value)) (held (r .value)) (held (s .value))) ≡ spanValues p q r s
+          → rangeWithin (spanOfFour (held (p .value)) (held (q .value)) (held (r .value)) (held (s .value))) ≡ spanValues p q r s
       span-there es fp fq fr fs =
-          held-both (λ x y. rangeWithin (span x y (held (r .value)) (held (s .value)))) (p .value) (q .value) fp fq
-          ∙ held-both (λ x y. rangeWithin (span (p .value) (q .value) x y)) (r .value) (s .value) fr fs ∙ sym (simp (ep, eq, er, es))
+          held-both (λ x y. rangeWithin (spanOfFour x y (held (r .value)) (held (s .value)))) (p .value) (q .value) fp fq
+          ∙ held-both (λ x y. rangeWithin (spanOfFour (p .value) (q .value) x y)) (r .value) (s .value) fr fs ∙ sym (simp (ep, eq, er, es))
 
       pub span-no-fourth : s .ok ≡ false → noRange ≡ spanValues p q r s
       span-no-fourth es = sym (simp (ep, eq, er, es))

@@ -24,5 +24,5 @@ pub record Prefixes (kinds : List ℕ) (d e : ℕ) : Type 0 where
   pub each : (i : ℕ) → d ≤ i → i < e → isPrefix (getD kinds i 0) ≡ true
 
 -- From a, the summary of the part that ends at d, comes b, the summary of the part that ends at e, whatever else is stored.
-pub record Leads (kinds : List ℕ) (d : ℕ) (a : Summary) (e : ℕ) (b : Summary) : Type 0 where
+pub record SummaryLeads (kinds : List ℕ) (d : ℕ) (a : Summary) (e : ℕ) (b : Summary) : Type 0 where
   pub summary : (N : Nodes) (lows highs : List ℤ) → N .kinds ≡ kinds → a ≡ summaryBefore N lows highs d → b ≡ summaryBefore N lows highs e

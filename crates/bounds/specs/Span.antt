@@ -7,9 +7,9 @@ use Rattle.nodes.specs.declared.Evaluated.{Evaluated}
 use Rattle.nodes.specs.declared.Range.{Range}
 
 -- From the least to the greatest of four numbers.
-abbrev pub span : ℤ → ℤ → ℤ → ℤ → Interval
-span p q r s = record { low = least (least p q) (least r s); high = greatest (greatest p q) (greatest r s) }
+abbrev pub spanOfFour : ℤ → ℤ → ℤ → ℤ → Interval
+spanOfFour p q r s = record { low = least (least p q) (least r s); high = greatest (greatest p q) (greatest r s) }
 
 -- The same of four values, where all are there.
 abbrev pub spanValues : Evaluated → Evaluated → Evaluated → Evaluated → Range
-spanValues p q r s = cond (p .ok && (q .ok && (r .ok && s .ok))) (rangeWithin (span (p .value) (q .value) (r .value) (s .value))) noRange
+spanValues p q r s = cond (p .ok && (q .ok && (r .ok && s .ok))) (rangeWithin (spanOfFour (p .value) (q .value) (r .value) (s .value))) noRange

@@ -15,8 +15,8 @@ ghost use Rattle.meaning.specs.Arithmetic.{least, greatest, hull, overEnds, aro
 ghost use Rattle.nodes.specs.Bounded.{inBound, operatorAt};
 ghost use Rattle.nodes.specs.Evaluate.{stored, HoldsParts};
 ghost use Rattle.nodes.specs.Bounds.{noRange, rangeWithin, intervalOf, usable, combined, truthRange, operatorRange, branchRange, streamRange, limited, noSummary, leafSummary, firstSummary, nextSummary, negationSummary, operatorSummary, conditionalSummary, fbySummary, summaryBefore, nodeSummary};
-ghost use Rattle.bounds.specs.Prefix.{isPrefix, prefixSummary, Prefixes, Leads};
-ghost use Rattle.bounds.specs.Span.{span, spanValues};
+ghost use Rattle.bounds.specs.Prefix.{isPrefix, prefixSummary, Prefixes, SummaryLeads};
+ghost use Rattle.bounds.specs.Span.{spanOfFour, spanValues};
 
 fn no_range() -> Range
     ensures { λ r. ⌜ r ≡ noRange ⌝ }
@@ -90,8 +90,8 @@ fn hull(a: Range, b: Range) -> Range
 }
 
 // From the least to the greatest of four numbers.
-fn span(p: i64, q: i64, r: i64, s: i64) -> Range
-    ensures { λ x. ⌜ x ≡ rangeWithin (span p q r s) ⌝ }
+fn span_of_four(p: i64, q: i64, r: i64, s: i64) -> Range
+    ensures { λ x. ⌜ x ≡ rangeWithin (spanOfFour p q r s) ⌝ }
 {
     range_within(
         least(least(p, q), least(r, s)),
@@ -107,7 +107,7 @@ fn span_values(p: Evaluated, q: Evaluated, r: Evaluated, s: Evaluated) -> Range
         if q.ok {
             if r.ok {
                 if s.ok {
-                    span(p.value, q.value, r.value, s.value)
+                    span_of_four(p.value, q.value, r.value, s.value)
                 } else {
                     no_range()
                 }
@@ -251,7 +251,7 @@ fn leaf(range: Range) -> Summary
         reach: 0,
         back: 0,
         firsts: 0,
-        ahead: 0,
+        furthest: 0,
     }
 }
 
@@ -264,7 +264,7 @@ fn after_first(a: Summary) -> Summary
         reach: a.reach,
         back: 0,
         firsts: one_more(a.firsts),
-        ahead: larger(a.reach, a.ahead),
+        furthest: larger(a.reach, a.furthest),
     }
 }
 
@@ -277,7 +277,7 @@ fn after_next(a: Summary) -> Summary
         reach: one_more(a.reach),
         back: one_less(a.back),
         firsts: a.firsts,
-        ahead: a.ahead,
+        furthest: a.furthest,
     }
 }
 
@@ -290,7 +290,7 @@ fn after_not(a: Summary) -> Summary
         reach: a.reach,
         back: a.back,
         firsts: a.firsts,
-        ahead: a.ahead,
+        furthest: a.furthest,
     }
 }
 
@@ -303,7 +303,7 @@ fn operator(kind: u8, a: Summary, b: Summary) -> Summary
         reach: larger(a.reach, b.reach),
         back: larger(a.back, b.back),
         firsts: sum(a.firsts, b.firsts),
-        ahead: larger(a.ahead, b.ahead),
+        furthest: larger(a.furthest, b.furthest),
     }
 }
 
@@ -322,7 +322,7 @@ fn conditional(c: Summary, a: Summary, b: Summary) -> Summary
         reach: larger(c.reach, larger(a.reach, b.reach)),
         back: larger(c.back, larger(a.back, b.back)),
         firsts: sum(c.firsts, sum(a.firsts, b.firsts)),
-        ahead: larger(c.ahead, larger(a.ahead, b.ahead)),
+        furthest: larger(c.furthest, larger(a.furthest, b.furthest)),
     }
 }
 
@@ -336,7 +336,7 @@ fn followed(a: Summary, b: Summary) -> Summary
         reach: larger(a.reach, right),
         back: one_more(b.back),
         firsts: sum(a.firsts, b.firsts),
-        ahead: larger(a.ahead, b.ahead),
+        furthest: larger(a.furthest, b.furthest),
     }
 }
 
@@ -388,7 +388,7 @@ fn inner_end(kinds: &[u8], end: usize) -> usize
 // line may have a thousand of them, and each call of the recursion takes room of the caller's stack.
 fn after_prefixes(kinds: &[u8], from: usize, end: usize, inner: Summary) -> Summary
     requires { ⌜ (end ≤ length (now kinds)) × Prefixes (now kinds) from end ⌝ }
-    ensures { λ r. ⌜ Leads (now (kinds .entry)) from inner end r ⌝ }
+    ensures { λ r. ⌜ SummaryLeads (now (kinds .entry)) from inner end r ⌝ }
 {
     let mut summary = inner;
     let mut at = from;

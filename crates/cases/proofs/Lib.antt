@@ -1,1 +1,3 @@
 pub mod FourBytes
+pub mod Counted
+pub mod Nonzeros

@@ -3,7 +3,7 @@ use mathlib.Core.Path.{_≡_}
 use mathlib.Core.List.{List}
 use Prim.Native.Nat.{ℕ}
 use lib.ListN.{length, replicate}
-use Rattle.marks.specs.Clearing.{ClearedFrom}
+use Rattle.basics.specs.Clearing.{ClearedFrom}
 
 pub record AreCleared (used states : ℕ) (entries flags live class next heads links shared entries′ flags′ live′ class′ next′ heads′ links′ shared′ : List ℕ) : Type 0 where
   pub entries-beyond : ClearedFrom entries entries′ used

@@ -16,12 +16,12 @@ pub fn clear_tables(
 )
     ensures { λ r. ⌜ AreCleared used states (now (entries .entry)) (now (flags .entry)) (now (live .entry)) (now (class .entry)) (now (next .entry)) (now (heads .entry)) (now (links .entry)) (now (shared .entry)) (now (entries .exit)) (now (flags .exit)) (now (live .exit)) (now (class .exit)) (now (next .exit)) (now (heads .exit)) (now (links .exit)) (now (shared .exit)) ⌝ }
 {
-    marks::clear_entries(entries, used);
-    marks::clear_bytes(flags, states);
-    marks::fill(live, 0);
-    marks::fill(class, 0);
-    marks::fill(next, 0);
-    marks::fill(heads, 0);
-    marks::fill(links, 0);
-    marks::fill(shared, 0);
+    basics::clear_entries(entries, used);
+    basics::clear_bytes(flags, states);
+    basics::fill(live, 0);
+    basics::fill(class, 0);
+    basics::fill(next, 0);
+    basics::fill(heads, 0);
+    basics::fill(links, 0);
+    basics::fill(shared, 0);
 }

@@ -20,9 +20,6 @@ pub fewest-hold : (n : ℕ) (t : LentTable) (ts : List LentTable) → n ≤ fewe
 fewest-hold n t [] h = rows-fit n (t .perRow) (t .size) h
 fewest-hold n t (u ∷ us) h = (rows-fit n (t .perRow) (t .size) (omega arith), fewest-hold n u us (omega arith))
 
-pub le-of-not-lt : {m n : ℕ} → (m < n → ⊥) → n ≤ m
-le-of-not-lt h = omega arith
-
 -- The limit of a search is the rows lent or the bound, whichever is less.
 module _ (rows bound limit : ℕ) (cut : limit ≡ min rows bound) where
   pub limit-rows : rows < bound → limit ≡ rows

@@ -12,6 +12,7 @@ use lib.Dec.{ltb}
 use lib.ListN.{length, getD, drop, length-drop}
 use lib.Seq.{getD-drop}
 use borrow.Author.Tests.{lt-ltb, le-ltb}
+use Rattle.sheet.proofs.Accepted.{not-over}
 use Rattle.automaton.specs.Solutions.{SameSolutions}
 use Rattle.automaton.specs.Graph.{Language}
 use Rattle.automaton.proofs.Transfer.{table-transfer}
@@ -25,7 +26,7 @@ use Rattle.explore.proofs.GraphLaws.{row-bits, row-targets, row-flags-stay, row
 use Rattle.stored_graph.specs.StoredGraph.{IsStoredGraph, storedGraph}
 use Rattle.minimise.specs.Outcome.{GraphTables, cleared, IsAccepted, IsRefusal, NoWord, TableGiven, MinimiseOutcome}
 use Rattle.minimise.specs.declared.Minimised.{Minimised}
-use Rattle.marks.proofs.Clearing.{all-zero}
+use Rattle.basics.proofs.Clearing.{all-zero}
 use Rattle.outcome.specs.Room.{zeros, zeroTables}
 use Rattle.outcome.specs.Compile.{refusedAnswer, Room, roomRows, Tables, allZero, SituationsFit, SheetOutcome, tooManySituations, tooFewRows, noSolution, compiled, situationBound}
 use Rattle.compiled.specs.declared.Compiled.{Compiled}
@@ -33,7 +34,7 @@ use Rattle.compile.specs.Lent.{roomOf, answerOf}
 use Rattle.compiled.specs.Answer.{refusedWith, madeOf}
 use Rattle.compiled.proofs.Counted.{all-counted}
 use Rattle.situations.specs.Found.{SituationsFound, RoomFor}
-use Rattle.compile.proofs.Rows.{Holds, fewest-hold, le-of-not-lt, limit-rows, limit-bound, within-rows, within-bound, rows-lent}
+use Rattle.compile.proofs.Rows.{Holds, fewest-hold, limit-rows, limit-bound, within-rows, within-bound, rows-lent}
 
 -- ---- the rows are a graph
 
@@ -117,7 +118,7 @@ module _ (entries finals keys live class next heads links shared : List ℕ) whe
               (rw (lt-ltb R situationBound h) (tooFewRows h (subst (MoreSituations s) (limit-rows R situationBound limit cut h) more)))
           by (no h) =
               subst (SheetOutcome s room (answerOf (cond (ltb R situationBound) (refusedWith 10) (refusedWith 8)))) (all-zeros z)
-              (rw (le-ltb R situationBound (le-of-not-lt h)) (tooManySituations (le-of-not-lt h) (subst (MoreSituations s) (limit-bound R situationBound limit cut (le-of-not-lt h)) more)))
+              (rw (le-ltb R situationBound (not-over h)) (tooManySituations (not-over h) (subst (MoreSituations s) (limit-bound R situationBound limit cut (not-over h)) more)))
 
       -- The rows found are a graph in tables with room for them.
       module _ (within : n ≤ limit) (counted : SituationCount s n) (rows : ExploredRows s n entries₁ finals₁) where

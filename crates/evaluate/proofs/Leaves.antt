@@ -15,7 +15,7 @@ use mir.Val.{SFits}
 use mir.ValLaws.{toZ-ofZ}
 use Rattle.meaning.specs.Value.{nonzero, bit}
 use Rattle.nodes.specs.Bounded.{inBound, noValue, bounded}
-use Rattle.nodes.specs.Evaluate.{lookup, streamAt, negatedResult}
+use Rattle.nodes.specs.Evaluate.{lookup, streamEvaluated, negatedResult}
 use Rattle.arithmetic.specs.Coded.{coded}
 use Rattle.arithmetic.proofs.Machine.{held, number-natural, number-negative}
 use Rattle.evaluate.specs.Leaf.{isLeaf, leafValue}
@@ -78,5 +78,5 @@ module _ (kinds : List ℕ) (e : ℕ) where
       pub leaf-integer : getD kinds (e - 1) 0 ≡ 0 → bounded (held (getD values (e - 1) (pos 0))) ≡ leafValue kinds values window streams e p
       leaf-integer q = ap bounded (toZ-ofZ w64 _ f) ∙ sym (simp (ne-eqb e 0 h, eq-eqb (getD kinds (e - 1) 0) 0 q))
 
-      pub leaf-name : (getD kinds (e - 1) 0 ≡ 0 → ⊥) → streamAt window streams p (held (getD values (e - 1) (pos 0))) ≡ leafValue kinds values window streams e p
-      leaf-name q = ap (streamAt window streams p) (toZ-ofZ w64 _ f) ∙ sym (simp (ne-eqb e 0 h, ne-eqb (getD kinds (e - 1) 0) 0 q))
+      pub leaf-name : (getD kinds (e - 1) 0 ≡ 0 → ⊥) → streamEvaluated window streams p (held (getD values (e - 1) (pos 0))) ≡ leafValue kinds values window streams e p
+      leaf-name q = ap (streamEvaluated window streams p) (toZ-ofZ w64 _ f) ∙ sym (simp (ne-eqb e 0 h, ne-eqb (getD kinds (e - 1) 0) 0 q))

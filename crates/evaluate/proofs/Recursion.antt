@@ -128,12 +128,12 @@ module _ (N : Nodes) (W : View) (p : ℕ) where
 -- ---- the value of a node
 
 -- The lists of nodes are those of arrays, of 1024 elements each.
-pub record Arrays (N : Nodes) : Type 0 where
+pub record HasArrays (N : Nodes) : Type 0 where
   pub kinds : length (N .kinds) ≡ 1024
   pub values : length (N .values) ≡ 1024
   pub starts : length (N .starts) ≡ 1024
 
-module _ {N : Nodes} (arrays : Arrays N) (W : View) (root p : ℕ) where
+module _ {N : Nodes} (arrays : HasArrays N) (W : View) (root p : ℕ) where
   pub no-node : 1024 ≤ root → noValue ≡ nodeValue N W root p
   unfolding nodeValue
   no-node h = sym (simp (le-ltb root (length (N .kinds)) (omega arith)))

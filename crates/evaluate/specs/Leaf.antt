@@ -6,7 +6,7 @@ use lib.Dec.{leb, eqb}
 use lib.IntN.{ℤ, pos}
 use lib.ListN.{getD}
 use Rattle.nodes.specs.Bounded.{noValue, bounded}
-use Rattle.nodes.specs.Evaluate.{streamAt}
+use Rattle.nodes.specs.Evaluate.{streamEvaluated}
 use Rattle.nodes.specs.declared.Evaluated.{Evaluated}
 
 -- Whether the part that ends before e is a leaf, by the kind of its last node.
@@ -17,4 +17,4 @@ isLeaf kinds e = cond (eqb e 0) true (leb (getD kinds (e - 1) 0) 1)
 abbrev pub leafValue : List ℕ → List ℤ → List ℤ → ℕ → ℕ → ℕ → Evaluated
 leafValue kinds values window streams e p =
     cond (eqb e 0) noValue
-    (cond (eqb (getD kinds (e - 1) 0) 0) (bounded (getD values (e - 1) (pos 0))) (streamAt window streams p (getD values (e - 1) (pos 0))))
+    (cond (eqb (getD kinds (e - 1) 0) 0) (bounded (getD values (e - 1) (pos 0))) (streamEvaluated window streams p (getD values (e - 1) (pos 0))))

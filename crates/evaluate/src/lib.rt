@@ -12,7 +12,7 @@ ghost use mathlib.Core.Path.{_≡_};
 ghost use Prim.Native.Nat.{_/_, _≤_, _<_};
 ghost use lib.ListN.{length};
 ghost use Rattle.nodes.specs.Bounded.{bounded};
-ghost use Rattle.nodes.specs.Evaluate.{stored, view, places, numbered, streamAt, negatedResult, valueBefore, nodeValue};
+ghost use Rattle.nodes.specs.Evaluate.{stored, view, places, numbered, streamEvaluated, negatedResult, valueBefore, nodeValue};
 ghost use Rattle.arithmetic.specs.Coded.{coded};
 ghost use Rattle.evaluate.specs.Leaf.{isLeaf, leafValue};
 ghost use Rattle.evaluate.specs.Negation.{negatedBy, Negates};
@@ -48,7 +48,7 @@ fn places(length: usize, streams: usize) -> usize
 // The value of the stream with a number at a place of the window.
 fn stream_at(window: &[i64], streams: usize, place: usize, number: i64) -> i64
     requires { ⌜ place < length (now window) / streams ⌝ }
-    ensures { λ r. ⌜ r ≡ coded (streamAt (now (window .entry)) streams place number) ⌝ }
+    ensures { λ r. ⌜ r ≡ coded (streamEvaluated (now (window .entry)) streams place number) ⌝ }
 {
     if number < 0 {
         return absent();

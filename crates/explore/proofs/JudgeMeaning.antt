@@ -15,7 +15,7 @@ use Rattle.nodes.specs.Code.{relationCode, signAt}
 use Rattle.nodes.proofs.SignCodes.{sign-code}
 use Rattle.extend.specs.Key.{digit, marksNumber}
 use Rattle.sides.specs.Mark.{odd}
-use Rattle.extend.specs.Step.{unlawful, marked, withDigit, judgedFrom}
+use Rattle.extend.specs.Step.{unlawful, lawfulWith, withDigit, judgedFrom}
 use Rattle.extend.specs.declared.judge.Judged.{Judged}
 
 first-digit : (b : Bool) (m : ℕ) → odd (digit b + 2 * m) ≡ b
@@ -53,12 +53,12 @@ module _ (relations lefts rights : List ℕ) (value : ℕ → Value) (left right
   and-unlawful true q r = refl
   and-unlawful false q r = refl
 
-  digit-unlawful : (d q : Bool) (m : ℕ) → withDigit d (cond q (marked m) unlawful) ≡ cond q (marked (digit d + 2 * m)) unlawful
+  digit-unlawful : (d q : Bool) (m : ℕ) → withDigit d (cond q (lawfulWith m) unlawful) ≡ cond q (lawfulWith (digit d + 2 * m)) unlawful
   digit-unlawful d true m = refl
   digit-unlawful d false m = refl
 
   pub judged-meaning : (cs : List Constraint) (j : ℕ) (bs : List Bool) → length bs ≡ length (allUntils cs) → Reads j cs
-      → judged j (length cs) (marksNumber bs) ≡ cond (permitted cs bs) (marked (marksNumber (marksNow cs bs))) unlawful
+      → judged j (length cs) (marksNumber bs) ≡ cond (permitted cs bs) (lawfulWith (marksNumber (marksNow cs bs))) unlawful
   unfolding judgedFrom permitted marksNow marksNumber
   judged-meaning [] j bs h r = refl
   judged-meaning (always s a b ∷ cs) j bs h r =
@@ -68,8 +68,8 @@ module _ (relations lefts rights : List ℕ) (value : ℕ → Value) (left right
       (cond (holds (signAt (r .0 i)) (r .1 i) (r .2 i)) (judged-meaning cs (suc j) bs h (r .3) i) unlawful))
       ∙ (λ i. cond (sign-code s .1 i)
       (cond ((odd (marksNumber bs) || truth (value (getD rights j 0))) || truth (value (getD lefts j 0))) (withDigit (odd (marksNumber bs) || truth (value (getD rights j 0))) (judged (suc j) (length cs) (marksNumber bs / 2))) unlawful)
-      (cond (holds (sign-code s .0 i) (left c) (right c)) (cond (permitted cs bs) (marked (marksNumber (marksNow cs bs))) unlawful) unlawful))
-      ∙ and-unlawful (holds s (left c) (right c)) (permitted cs bs) (marked (marksNumber (marksNow cs bs)))
+      (cond (holds (sign-code s .0 i) (left c) (right c)) (cond (permitted cs bs) (lawfulWith (marksNumber (marksNow cs bs))) unlawful) unlawful))
+      ∙ and-unlawful (holds s (left c) (right c)) (permitted cs bs) (lawfulWith (marksNumber (marksNow cs bs)))
   judged-meaning (until a b ∷ cs) j [] h r = absurd (omega arith)
   judged-meaning (until a b ∷ cs) j (m ∷ bs) h r =
       let c = until a b in
@@ -79,4 +79,4 @@ module _ (relations lefts rights : List ℕ) (value : ℕ → Value) (left right
       (cond (holds (signAt (getD relations j 0)) (value (getD lefts j 0)) (value (getD rights j 0))) (judged (suc j) (length cs) (digit m + 2 * marksNumber bs)) unlawful))
       ∙ ap (λ x. cond (d || truth (left c)) (withDigit d x) unlawful) (judged-meaning cs (suc j) bs (omega arith) (r .3))
       ∙ ap (λ x. cond (d || truth (left c)) x unlawful) (digit-unlawful d (permitted cs bs) (marksNumber (marksNow cs bs)))
-      ∙ and-unlawful (d || truth (left c)) (permitted cs bs) (marked (digit d + 2 * marksNumber (marksNow cs bs)))
+      ∙ and-unlawful (d || truth (left c)) (permitted cs bs) (lawfulWith (digit d + 2 * marksNumber (marksNow cs bs)))

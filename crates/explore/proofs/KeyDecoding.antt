@@ -26,7 +26,7 @@ use Rattle.extend.specs.Step.{windowOf, lettersAfter, viewAfter}
 use Rattle.explore.specs.Rows.{letterNumbers}
 use Rattle.nodes.specs.FirstPlaces.{allFirstPlaces}
 use Rattle.nodes.proofs.FirstPlaces.{allPlaces-long}
-use Rattle.explore.specs.StoredSheet.{storedSheet, HasLetters}
+use Rattle.explore.specs.StoredSheet.{storeFor, HasLetters}
 use Rattle.extend.proofs.KeyLists.{length-padded}
 use Rattle.explore.proofs.KeySituations.{padded-take, lowered-all, drop-below, firsts-long, key-cut}
 use Rattle.explore.proofs.StoredFirsts.{firsts-bounded}
@@ -88,19 +88,19 @@ module _ (s : Sheet) (accepted : Accepted s) (behind : List Node) (values : List
       ∙ encoded-firsts (suc w) (recent r) (map raised (firstValues (s .constraints) (recordOf (s .streams) r))) _ _ (allPlaces-long 0 (s .constraints) ∙ sym long) (omega (arith, long, accepted .firsts))
 
   module _ (r : List ℕ) (a : ℕ) (below : AllBelow (letterNumbers s) r) (here : a < letterNumbers s) where
-    pub after-letters : lettersAfter (storedSheet s behind values) (keyOf s r) a ≡ recent r ++ (a ∷ [])
+    pub after-letters : lettersAfter (storeFor s behind values) (keyOf s r) a ≡ recent r ++ (a ∷ [])
     after-letters = ap (_++ (a ∷ [])) (key-letters r)
 
     -- As many letters of the record are there as it has, up to D+B.
-    pub after-known : length (lettersAfter (storedSheet s behind values) (keyOf s r) a) - 1 ≡ min (length r) w
+    pub after-known : length (lettersAfter (storeFor s behind values) (keyOf s r) a) - 1 ≡ min (length r) w
     after-known = omega (arith, ap length after-letters, length-snoc (recent r) a, recent-long r)
 
-    after-window : windowOf (length (s .streams)) values (lettersAfter (storedSheet s behind values) (keyOf s r) a) ≡ flat (recordOf (s .streams) (recent r ++ (a ∷ [])))
+    after-window : windowOf (length (s .streams)) values (lettersAfter (storeFor s behind values) (keyOf s r) a) ≡ flat (recordOf (s .streams) (recent r ++ (a ∷ [])))
     after-window = ap (windowOf (length (s .streams)) values) after-letters ∙ window-flat s values has (recent r ++ (a ∷ [])) (below-snoc (letterNumbers s) (recent r) a (drop-below (letterNumbers s) (length r - w) r below) here)
 
     -- A whole record's letters are all there, and the firsts are evaluated.
     pub view-whole : length r ≤ w
-        → viewAfter (storedSheet s behind values) (keyOf s r) a
+        → viewAfter (storeFor s behind values) (keyOf s r) a
         ≡ view (flat (recordOf (s .streams) (r ++ (a ∷ [])))) (length (s .streams)) (map lowered (firstsIn (length (allFirstPlaces 0 (s .constraints))) (keyOf s r))) true
     view-whole h =
         let none : length r - w ≡ 0 = omega arith in
@@ -110,7 +110,7 @@ module _ (s : Sheet) (accepted : Accepted s) (behind : List Node) (values : List
 
     -- Of a cut record the last letters and the values of the firsts are there.
     pub view-cut : w < length r
-        → viewAfter (storedSheet s behind values) (keyOf s r) a
+        → viewAfter (storeFor s behind values) (keyOf s r) a
         ≡ view (flat (recordOf (s .streams) (recent r ++ (a ∷ [])))) (length (s .streams)) (firstValues (s .constraints) (recordOf (s .streams) r)) false
     view-cut h =
         let size : leb (sizeIn (keyOf s r)) w ≡ false = lt-leb (sizeIn (keyOf s r)) w (omega (arith, key-size r)) in

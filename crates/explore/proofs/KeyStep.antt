@@ -10,6 +10,7 @@ use lib.Dec.{leb}
 use lib.IntN.{ℤ}
 use lib.ListN.{length, length-map}
 use borrow.Author.Tests.{le-leb, lt-leb}
+use Rattle.nodes.proofs.Postfix.{stored-length}
 use Rattle.basics.proofs.Tests.{true-of-T}
 use Rattle.automaton.specs.Words.{AllBelow}
 use Rattle.meaning.specs.Value.{Value, truth, Streams}
@@ -22,14 +23,14 @@ use Rattle.meaning.proofs.Lawful.{append-begins, lawful-short, lawful-snoc, unt
 use Rattle.sheet.specs.Accepted.{Accepted}
 use Rattle.nodes.specs.Postfix.{Node, StoredConstraint, storedConstraints}
 use Rattle.extend.specs.Key.{marksNumber, marksIn, keyOf}
-use Rattle.extend.specs.Step.{Store, unlawful, marked, judgedFrom, viewAfter, lettersAfter, valueAt, judgedAfter}
+use Rattle.extend.specs.Step.{Store, unlawful, lawfulWith, judgedFrom, viewAfter, lettersAfter, valueAt, judgedAfter}
 use Rattle.explore.specs.Rows.{isLawful, letterNumbers}
-use Rattle.explore.specs.StoredSheet.{storedSheet, HasLetters}
+use Rattle.explore.specs.StoredSheet.{storeFor, HasLetters}
 use Rattle.explore.proofs.KeySituations.{record-long}
 use Rattle.explore.proofs.KeyMarks.{key-marks}
 use Rattle.explore.proofs.JudgeMeaning.{permitted, marksNow, judged-meaning}
 use Rattle.explore.proofs.KeyDecoding.{after-known}
-use Rattle.explore.proofs.StoredSides.{constraints-long, constraints-read}
+use Rattle.explore.proofs.StoredSides.{constraints-read}
 
 or-swap : (x y : Bool) → (x || y) ≡ (y || x)
 or-swap true true = refl
@@ -76,7 +77,7 @@ module _ (s : Sheet) (accepted : Accepted s) (behind : List Node) (values : List
   cs = s .constraints
 
   abbrev K : Store
-  K = storedSheet s behind values
+  K = storeFor s behind values
 
   abbrev longer : Record
   longer = recordOf ss (r ++ (a ∷ []))
@@ -112,27 +113,27 @@ module _ (s : Sheet) (accepted : Accepted s) (behind : List Node) (values : List
   unfolding untilMarks
   longer-marks h = let e : suc now ≡ length longer - D cs = omega (arith, longer-long) in ap (λ n. map (λ c. done (streamsOf longer) c n) (allUntils cs)) e
 
-  pub judged-after : judgedAfter K (keyOf s r) a ≡ cond (isLawful s (r ++ (a ∷ []))) (marked (marksNumber (untilMarks cs longer))) unlawful
+  pub judged-after : judgedAfter K (keyOf s r) a ≡ cond (isLawful s (r ++ (a ∷ []))) (lawfulWith (marksNumber (untilMarks cs longer))) unlawful
   unfolding judgedAfter
   judged-after = by (decLe (D cs) (length r))
     where
-      by : Dec (D cs ≤ length r) → judgedAfter K (keyOf s r) a ≡ cond (isLawful s (r ++ (a ∷ []))) (marked (marksNumber (untilMarks cs longer))) unlawful
+      by : Dec (D cs ≤ length r) → judgedAfter K (keyOf s r) a ≡ cond (isLawful s (r ++ (a ∷ []))) (lawfulWith (marksNumber (untilMarks cs longer))) unlawful
       by (yes h) =
           let known = length (lettersAfter K (keyOf s r) a) - 1 in
           let val = valueAt K (viewAfter K (keyOf s r) a) (known - D cs) in
           let some : leb (D cs) known ≡ true = le-leb (D cs) known (omega (arith, after-known s accepted behind values has r a below here)) in
-          let long : length (K .relations) ≡ length cs = length-map (storedConstraints 0 0 cs) (λ (t : StoredConstraint). t .relation) ∙ constraints-long 0 0 cs in
-          ap (λ b. cond b (judgedFrom (K .relations) (K .lefts) (K .rights) val 0 (length (K .relations)) (marksIn (keyOf s r))) (marked (marksIn (keyOf s r)))) some
+          let long : length (K .relations) ≡ length cs = length-map (storedConstraints 0 0 cs) (λ (t : StoredConstraint). t .relation) ∙ stored-length 0 0 cs in
+          ap (λ b. cond b (judgedFrom (K .relations) (K .lefts) (K .rights) val 0 (length (K .relations)) (marksIn (keyOf s r))) (lawfulWith (marksIn (keyOf s r)))) some
           ∙ (λ i. judgedFrom (K .relations) (K .lefts) (K .rights) val 0 (long i) ((key-marks s r ∙ ap marksNumber marks-before) i))
           ∙ judged-meaning (K .relations) (K .lefts) (K .rights) val (left (streamsOf longer) now (K .relations) (K .lefts) (K .rights) val) (right (streamsOf longer) now (K .relations) (K .lefts) (K .rights) val) cs 0 marksBefore
           (length-map (allUntils cs) (λ c. done (streamsOf longer) c now)) (constraints-read s accepted behind values has r a below here h)
           ∙ (λ i. cond ((permitted-all (streamsOf longer) now (K .relations) (K .lefts) (K .rights) val cs ∙ sym (longer-lawful h)) i)
-          (marked (marksNumber ((marks-now (streamsOf longer) now (K .relations) (K .lefts) (K .rights) val cs ∙ longer-marks h) i))) unlawful)
+          (lawfulWith (marksNumber ((marks-now (streamsOf longer) now (K .relations) (K .lefts) (K .rights) val cs ∙ longer-marks h) i))) unlawful)
       by (no h) =
           let known = length (lettersAfter K (keyOf s r) a) - 1 in
           let val = valueAt K (viewAfter K (keyOf s r) a) (known - D cs) in
           let none : leb (D cs) known ≡ false = lt-leb (D cs) known (omega (arith, after-known s accepted behind values has r a below here)) in
           let all-lawful : isLawful s (r ++ (a ∷ [])) ≡ true = true-of-T (isLawful s (r ++ (a ∷ []))) (lawful-short cs longer (omega (arith, longer-long))) in
-          ap (λ b. cond b (judgedFrom (K .relations) (K .lefts) (K .rights) val 0 (length (K .relations)) (marksIn (keyOf s r))) (marked (marksIn (keyOf s r)))) none
-          ∙ ap marked (key-marks s r ∙ ap marksNumber (no-marks s r (omega arith) ∙ sym (no-marks s (r ++ (a ∷ [])) (omega (arith, length-snoc r a)))))
-          ∙ sym (ap (λ b. cond b (marked (marksNumber (untilMarks cs longer))) unlawful) all-lawful)
+          ap (λ b. cond b (judgedFrom (K .relations) (K .lefts) (K .rights) val 0 (length (K .relations)) (marksIn (keyOf s r))) (lawfulWith (marksIn (keyOf s r)))) none
+          ∙ ap lawfulWith (key-marks s r ∙ ap marksNumber (no-marks s r (omega arith) ∙ sym (no-marks s (r ++ (a ∷ [])) (omega (arith, length-snoc r a)))))
+          ∙ sym (ap (λ b. cond b (lawfulWith (marksNumber (untilMarks cs longer))) unlawful) all-lawful)

@@ -4,19 +4,20 @@ use Prim.Native.Nat.{ℕ, _<_}
 use native.Mathlib.Omega.{arith}
 use mathlib.Core.Path.{_≡_, refl, sym, _∙_, ap, subst}
 use mathlib.Core.Bool.{Bool, true, false, cond}
-use mathlib.Core.List.{List, [], _∷_, _++_, map, map-append, List·Memᴰ·head, List·Memᴰ·tail, List·Memᴰ·not-nil}
+use mathlib.Core.List.{List, [], _∷_, _++_, map-append, List·Memᴰ·head, List·Memᴰ·tail, List·Memᴰ·not-nil}
 use lib.Dec.{T}
+use Rattle.outcome.proofs.RecordNumbers.{letterNumbersOf, letterNumbersOf-record, letterNumbersOf-below}
 use Rattle.basics.proofs.Tests.{T-of-true}
 use Rattle.basics.proofs.Tests.{true-of-T}
 use Rattle.automaton.specs.Words.{AllBelow}
-use Rattle.automaton.specs.ReachedRows.{IsThing, Reads}
+use Rattle.automaton.specs.ReachedRows.{IsThing, KeysStand}
 use Rattle.automaton.proofs.ReachedRows.{searched-rows, searched-things, searched-more-things}
 use Rattle.meaning.specs.Expression.{Stream, Sheet}
-use Rattle.meaning.specs.Letter.{Record, IsLetter, OfLetters, letterCount, letterNumber, letterOf, recordOf}
+use Rattle.meaning.specs.Letter.{IsLetter, OfLetters, letterCount, letterOf, recordOf}
 use Rattle.meaning.specs.Situation.{Situation, lawful, situation, IsSituation}
 use Rattle.meaning.specs.Evaluation.{allDone}
 use Rattle.meaning.proofs.Lawful.{lawful-short, lawful-beginning}
-use Rattle.meaning.proofs.Letter.{letterOf-letter, letterNumber-bound, letterOf-letterNumber}
+use Rattle.meaning.proofs.Letter.{letterOf-letter}
 use Rattle.extend.specs.Key.{digit, keyOf}
 use Rattle.extend.specs.Step.{Store, judgedAfter, keyAfter}
 use Rattle.explore.specs.Search.{startKey, flagOf, keySystem, Searched}
@@ -28,20 +29,6 @@ pub below-letters : (ss : List Stream) (r : List ℕ) → AllBelow (letterCount 
 below-letters ss [] h l m = absurd (List·Memᴰ·not-nil m)
 below-letters ss (a ∷ r) h l (List·Memᴰ·head e) = subst (IsLetter ss) (sym e) (letterOf-letter ss a (h .0))
 below-letters ss (a ∷ r) h l (List·Memᴰ·tail m) = below-letters ss r (h .1) l m
-
-module _ (ss : List Stream) where
-  numbersOf : Record → List ℕ
-  numbersOf r = map (letterNumber ss) r
-
-  numbersOf-record : (r : Record) → OfLetters ss r → recordOf ss (numbersOf r) ≡ r
-  unfolding numbersOf
-  numbersOf-record [] h = refl
-  numbersOf-record (l ∷ r) h = λ i. letterOf-letterNumber (h l (List·Memᴰ·head refl)) i ∷ numbersOf-record r (λ m k. h m (List·Memᴰ·tail k)) i
-
-  numbersOf-below : (r : Record) → OfLetters ss r → AllBelow (letterCount ss) (numbersOf r)
-  unfolding numbersOf
-  numbersOf-below [] h = tt
-  numbersOf-below (l ∷ r) h = (letterNumber-bound (h l (List·Memᴰ·head refl)), numbersOf-below r (λ m k. h m (List·Memᴰ·tail k)))
 
 same-bit : (b c : Bool) → _≡_ {A = ℕ} (cond b 1 0) (cond c 1 0) → b ≡ c
 same-bit true true e = refl
@@ -67,10 +54,10 @@ module _ (s : Sheet) where
 
   situation-thing : (t : Situation) → IsSituation s t → IsThing (letterNumbers s) lawfulNumbers (situationOf s) t
   situation-thing t x =
-      let e = numbersOf-record ss (x .lawfulRecord) (x .letters) in
+      let e = letterNumbersOf-record ss (x .lawfulRecord) (x .letters) in
       record {
-        shown = numbersOf ss (x .lawfulRecord);
-        letters = numbersOf-below ss (x .lawfulRecord) (x .letters);
+        shown = letterNumbersOf ss (x .lawfulRecord);
+        letters = letterNumbersOf-below ss (x .lawfulRecord) (x .letters);
         is-lawful = true-of-T _ (subst (λ r. T (lawful (s .constraints) r)) (sym e) (x .isLawful));
         same = ap (situation (s .constraints)) e ∙ x .same;
       }
@@ -89,7 +76,7 @@ module _ (s : Sheet) where
     pub flagged : (r : List ℕ) → AllBelow (letterNumbers s) r → flagOf every (keyOf s r) ≡ digit (allDone (s .constraints) (situationOf s r))
 
   module _ (K : Store) (every : ℕ) (laws : KeyLaws K every) where
-    keys-read : Reads (keySystem K (letterNumbers s) every) lawfulNumbers (keyOf s) (situationOf s) (allDone (s .constraints))
+    keys-read : KeysStand (keySystem K (letterNumbers s) every) lawfulNumbers (keyOf s) (situationOf s) (allDone (s .constraints))
     keys-read =
         record {
           start-lawful = true-of-T (isLawful s []) (lawful-short (s .constraints) [] (omega arith));

@@ -2,7 +2,7 @@
 use Prim.Native.Nat.{ℕ, suc, _+_, _-_, _*_, _^_, _≤_, _<_}
 use native.Mathlib.Omega.{arith}
 use native.Mathlib.Numerals.{add-one}
-use native.Mathlib.Nat.{mul-le-mul-right, suc-mul, not-suc-le-zero, pow-suc}
+use native.Mathlib.Nat.{not-suc-le-zero, pow-suc}
 use native.Mathlib.Decide.{decLt}
 use lib.Pow.{pow-mono}
 use mathlib.Core.Path.{_≡_, refl, sym, _∙_, ap, subst}
@@ -13,6 +13,7 @@ use lib.Dec.{eqb}
 use lib.ListN.{length, getD, drop, set, length-set, drop-of-length-le}
 use lib.Seq.{getD-set-same, getD-set-other, drop-cons}
 use borrow.Author.Tests.{eq-eqb, ne-eqb}
+use Rattle.basics.proofs.Lists.{row-fits}
 use Rattle.sheet.specs.Refusal.{windowBound, streamBound}
 use Rattle.automaton.specs.Table.{noState}
 use Rattle.automaton.specs.Stored.{entryAt, finalAt}
@@ -125,14 +126,6 @@ settled-row {limit} {every} {n} {key} {keys} {flags} {heads′} {links′} {keys
     by (no a) (yes b) = t .added (omega (arith, t .within)) b .1 .old i h
     by (no a) (no b) = ap (λ k. rowAt k i) (t .kept (inr (omega arith)) .1)
 
--- ---- places
-
-pub row-fits : (s n l m : ℕ) → s < n → n * l ≤ m → s * l + l ≤ m
-row-fits s n l m h k =
-    let step : suc s * l ≤ n * l = mul-le-mul-right l h in
-    let eq : suc s * l ≡ s * l + l = suc-mul s l in
-    omega arith
-
 -- ---- what stands behind the present place
 
 pub kept-refl : (entries flags : List ℕ) (at n : ℕ) → Kept entries flags at n entries flags at n
@@ -236,8 +229,8 @@ module _ (K : Store) (letters limit every : ℕ) where
             record {
               tables = tables;
               here = omega (arith, t .here);
-              turn = subst (λ k. Reachable.Turn S limit (rowAt k) (entryAt letters (set entries at r)) (finalAt flags′) n s (a + 1)) (sym ek)
-                  (subst (λ y. Reachable.Turn S limit (rowAt keys) (entryAt letters (set entries at r)) (finalAt y) n s (a + 1)) (sym ef) (turn-old S (t .turn) in-rows letter put is));
+              turn = subst (λ k. Reachable.SearchTurn S limit (rowAt k) (entryAt letters (set entries at r)) (finalAt flags′) n s (a + 1)) (sym ek)
+                  (subst (λ y. Reachable.SearchTurn S limit (rowAt keys) (entryAt letters (set entries at r)) (finalAt y) n s (a + 1)) (sym ef) (turn-old S (t .turn) in-rows letter put is));
             }
 
     pub kept-old : {entries₀ flags₀ : List ℕ} {at₀ n₀ : ℕ} → (r ≡ n → ⊥) → Kept entries₀ flags₀ at₀ n₀ entries flags at n → Kept entries₀ flags₀ at₀ n₀ (set entries at r) flags′ (at + 1) n

@@ -8,6 +8,8 @@ use mathlib.Core.Bool.{Bool, true, false}
 use mathlib.Core.List.{List, map}
 use lib.IntN.{ℤ}
 use lib.ListN.{length, length-map}
+use Rattle.nodes.proofs.Postfix.{stored-length}
+use Rattle.basics.proofs.Answers.{says-holds}
 use Rattle.sheet.specs.Refusal.{streamBound}
 use Rattle.meaning.specs.Expression.{Constraint, Stream, Sheet}
 use Rattle.meaning.specs.Letter.{letterCount}
@@ -21,18 +23,16 @@ use Rattle.extend.specs.Step.{Store, IsReady}
 use Rattle.explore.specs.Search.{everyMark, Searched}
 use Rattle.explore.specs.Exploration.{ExploreTables, IsExplorable, ExploresStored}
 use Rattle.explore.specs.Rows.{ExploreOutcome}
-use Rattle.explore.specs.StoredSheet.{storedSheet, HasLetters, IsStored}
+use Rattle.explore.specs.StoredSheet.{storeFor, HasLetters, IsStored}
 use Rattle.nodes.proofs.FirstPlaces.{allPlaces-long}
-use Rattle.explore.proofs.StoredSides.{constraints-long}
 use Rattle.explore.proofs.StoredKeys.{stored-outcome}
-use Rattle.marks.proofs.Laws.{says-holds}
 
 -- ---- the stored sheet
 
 part-long : (cs : List Constraint) (f : StoredConstraint → ℕ) → length (map f (storedConstraints 0 0 cs)) ≡ length cs
-part-long cs f = length-map (storedConstraints 0 0 cs) f ∙ constraints-long 0 0 cs
+part-long cs f = length-map (storedConstraints 0 0 cs) f ∙ stored-length 0 0 cs
 
-pub accepted-ready : (s : Sheet) (behind : List Node) (values : List ℤ) → Accepted s → IsReady (storedSheet s behind values)
+pub accepted-ready : (s : Sheet) (behind : List Node) (values : List ℤ) → Accepted s → IsReady (storeFor s behind values)
 accepted-ready s behind values accepted =
     let cs = s .constraints in
     let relations = part-long cs (λ (t : StoredConstraint). t .relation) in
@@ -51,7 +51,7 @@ module _ (s : Sheet) (accepted : Accepted s) where
 
   -- The sheet can be explored in tables with room for as many rows as the limit.
   pub accepted-explorable : (behind : List Node) (values : List ℤ) (limit : ℕ) (t : ExploreTables) → letterCount ss * length ss + streamBound ≤ length values → 0 < limit → limit ≤ 4096 → limit * keySize ≤ length (t .keys)
-      → limit ≤ length (t .heads) → limit ≤ length (t .links) → limit * letterCount ss ≤ length (t .entries) → limit ≤ length (t .flags) → IsExplorable (storedSheet s behind values) (letterCount ss) limit t
+      → limit ≤ length (t .heads) → limit ≤ length (t .links) → limit * letterCount ss ≤ length (t .entries) → limit ≤ length (t .flags) → IsExplorable (storeFor s behind values) (letterCount ss) limit t
   accepted-explorable behind values limit t letters some few keys heads links entries flags = (
     accepted-ready s behind values accepted,
     record {

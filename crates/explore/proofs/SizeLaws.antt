@@ -11,8 +11,8 @@ use Rattle.sizes.specs.Room.{keySize}
 use Rattle.extend.specs.Step.{Store, IsReady}
 use Rattle.explore.specs.Search.{everyMark, Searched, KeptBehind, IsLent}
 use Rattle.explore.specs.Exploration.{ExploreTables, IsExplorable, Explores, Discards, WorkZero, GraphZero, ExploresStored}
-use Rattle.marks.specs.Clearing.{ClearedFrom}
-use Rattle.marks.proofs.Clearing.{zeroed, cleared-all}
+use Rattle.basics.specs.Clearing.{ClearedFrom}
+use Rattle.basics.proofs.Clearing.{zeroed, cleared-all}
 use Rattle.explore.proofs.SearchLaws.{true-not-false}
 
 -- ---- sizes

@@ -24,11 +24,11 @@ use Rattle.sheet.specs.Accepted.{Accepted}
 use Rattle.nodes.specs.Postfix.{Node}
 use Rattle.nodes.specs.Evaluate.{View, nodeValue}
 use Rattle.extend.specs.Key.{encodedKey, raised, marksNumber, sizeIn, firstsIn, width, keyOf}
-use Rattle.extend.specs.Step.{Store, unlawful, marked, viewAfter, lettersAfter, firstsFrom, judgedAfter, keyAfter}
+use Rattle.extend.specs.Step.{Store, unlawful, lawfulWith, viewAfter, lettersAfter, firstsFrom, judgedAfter, keyAfter}
 use Rattle.explore.specs.Search.{everyMark, Searched}
 use Rattle.explore.specs.Rows.{isLawful, letterNumbers, ExploreOutcome}
 use Rattle.nodes.specs.FirstPlaces.{allFirstPlaces}
-use Rattle.explore.specs.StoredSheet.{storedSheet, HasLetters, IsStored}
+use Rattle.explore.specs.StoredSheet.{storeFor, HasLetters, IsStored}
 use Rattle.explore.proofs.KeySituations.{key-whole, key-cut, key-situation, situation-key}
 use Rattle.explore.proofs.KeyMarks.{ones, everyMark-ones, key-flag, key-empty}
 use Rattle.explore.proofs.KeyDecoding.{key-size, key-firsts, after-letters, view-whole}
@@ -38,7 +38,7 @@ use Rattle.explore.proofs.StoredFirsts.{firsts-bounded}
 use Rattle.explore.proofs.StoredFirstNodes.{first-nodes}
 use Rattle.explore.proofs.RowLaws.{KeyLaws, searched-outcome, below-letters}
 
-answer-ok : (b : Bool) (m : ℕ) → cond b (marked m) unlawful .ok ≡ b
+answer-ok : (b : Bool) (m : ℕ) → cond b (lawfulWith m) unlawful .ok ≡ b
 answer-ok true m = refl
 answer-ok false m = refl
 
@@ -56,7 +56,7 @@ module _ (s : Sheet) (accepted : Accepted s) (behind : List Node) (values : List
   w = width s
 
   abbrev K : Store
-  K = storedSheet s behind values
+  K = storeFor s behind values
 
   abbrev key : List ℕ
   key = keyOf s r
@@ -80,7 +80,7 @@ module _ (s : Sheet) (accepted : Accepted s) (behind : List Node) (values : List
     new-marks : judgedAfter K key a .marks ≡ marksNumber (untilMarks cs longer)
     new-marks =
         ap (λ x. x .marks) (judged-after s accepted behind values has r a below here is-lawful)
-        ∙ ap (λ b. cond b (marked (marksNumber (untilMarks cs longer))) unlawful .marks) more-lawful
+        ∙ ap (λ b. cond b (lawfulWith (marksNumber (untilMarks cs longer))) unlawful .marks) more-lawful
 
     -- The new key, from its letters and the numbers of its firsts.
     new-key : (letters firsts : List ℕ) → lettersAfter K key a ≡ letters → firstsFrom K W (sizeIn key) numbers ≡ firsts
@@ -142,14 +142,14 @@ module _ (s : Sheet) (accepted : Accepted s) (behind : List Node) (values : List
 
 -- ---- the laws of keys
 
-every-mark : (s : Sheet) → everyMark 0 (storedSheet s [] [] .relations) ≡ ones (length (allUntils (s .constraints)))
+every-mark : (s : Sheet) → everyMark 0 (storeFor s [] [] .relations) ≡ ones (length (allUntils (s .constraints)))
 unfolding ones
 every-mark s =
     let e : 0 + length (allUntils (s .constraints)) ≡ length (allUntils (s .constraints)) = omega arith in
     ap (everyMark 0) (stored-relations 0 0 (s .constraints)) ∙ everyMark-ones (s .constraints) 0 ∙ ap ones e
 
 module _ {s : Sheet} (accepted : Accepted s) where
-  sheet-laws : (behind : List Node) (values : List ℤ) → HasLetters s values → KeyLaws s (storedSheet s behind values) (everyMark 0 (storedSheet s behind values .relations))
+  sheet-laws : (behind : List Node) (values : List ℤ) → HasLetters s values → KeyLaws s (storeFor s behind values) (everyMark 0 (storeFor s behind values .relations))
   sheet-laws behind values has =
       record {
         empty = key-empty s;
@@ -157,7 +157,7 @@ module _ {s : Sheet} (accepted : Accepted s) where
         leads = λ r h l a b m. key-leads s accepted behind values has r a h b l m;
         key-situation = key-situation s (accepted .window) (accepted .firsts) (firsts-bounded s accepted);
         situation-key = situation-key s;
-        flagged = λ r h. key-flag s (everyMark 0 (storedSheet s behind values .relations)) (every-mark s) r;
+        flagged = λ r h. key-flag s (everyMark 0 (storeFor s behind values .relations)) (every-mark s) r;
       }
 
   pub key-laws : {K : Store} → IsStored s K → KeyLaws s K (everyMark 0 (K .relations))
@@ -171,8 +171,8 @@ module _ {s : Sheet} (accepted : Accepted s) where
 -- ---- lists that are a stored sheet
 
 -- A store is the stored form of a sheet if each of its parts is that part of it.
-pub parts-stored : (s : Sheet) (behind : List Node) (K : Store) → (K .nodes ≡ storedSheet s behind [] .nodes) → (K .relations ≡ storedSheet s behind [] .relations) → (K .lefts ≡ storedSheet s behind [] .lefts) → (K .rights ≡ storedSheet s behind [] .rights)
-    → (K .firstNodes ≡ storedSheet s behind [] .firstNodes) → (K .streams ≡ storedSheet s behind [] .streams) → (K .ahead ≡ storedSheet s behind [] .ahead) → (K .width ≡ storedSheet s behind [] .width) → HasLetters s (K .letterValues) → IsStored s K
+pub parts-stored : (s : Sheet) (behind : List Node) (K : Store) → (K .nodes ≡ storeFor s behind [] .nodes) → (K .relations ≡ storeFor s behind [] .relations) → (K .lefts ≡ storeFor s behind [] .lefts) → (K .rights ≡ storeFor s behind [] .rights)
+    → (K .firstNodes ≡ storeFor s behind [] .firstNodes) → (K .streams ≡ storeFor s behind [] .streams) → (K .ahead ≡ storeFor s behind [] .ahead) → (K .width ≡ storeFor s behind [] .width) → HasLetters s (K .letterValues) → IsStored s K
 parts-stored s behind K nodes relations lefts rights firstNodes streams ahead width letters =
     record {
       behind = behind;

@@ -28,13 +28,13 @@ use Rattle.sheet.specs.Accepted.{Accepted}
 use Rattle.nodes.specs.Code.{relationCode}
 use Rattle.nodes.specs.Postfix.{Node, StoredConstraint, allNodes, storedConstraints}
 use Rattle.nodes.specs.Evaluate.{Nodes, nodesOf, View, view, nodeValue}
-use Rattle.nodes.proofs.Postfix.{firstsBefore}
+use Rattle.nodes.proofs.Postfix.{firstsBefore, stored-length}
 use Rattle.nodes.proofs.Accepted.{FirstsWithin, IsSide, leftOf, rightOf, accepted-value, accepted-windowValue}
 use Rattle.nodes.proofs.Record.{flat, record-places, record-letters}
 use Rattle.extend.specs.Key.{width, keyOf}
 use Rattle.extend.specs.Step.{viewAfter, lettersAfter, valueAt}
 use Rattle.explore.specs.Rows.{letterNumbers}
-use Rattle.explore.specs.StoredSheet.{storedSheet, HasLetters}
+use Rattle.explore.specs.StoredSheet.{storeFor, HasLetters}
 use Rattle.explore.proofs.KeySituations.{drop-below, drop-record}
 use Rattle.explore.proofs.RowLaws.{below-letters}
 use Rattle.explore.proofs.StoredFirsts.{first-value}
@@ -99,11 +99,6 @@ side-looks cs (rightOf j b) =
 
 -- ---- the stored constraints
 
-pub constraints-long : (n f : ℕ) (cs : List Constraint) → length (storedConstraints n f cs) ≡ length cs
-unfolding storedConstraints
-constraints-long n f [] = refl
-constraints-long n f (c ∷ cs) = ap suc (constraints-long _ _ cs)
-
 pub stored-relations : (n f : ℕ) (cs : List Constraint) → map (λ (t : StoredConstraint). t .relation) (storedConstraints n f cs) ≡ map relationCode cs
 unfolding storedConstraints
 stored-relations n f [] = refl
@@ -150,7 +145,7 @@ module _ (s : Sheet) (accepted : Accepted s) (behind : List Node) (values : List
   window = recordOf ss (recent ++ (a ∷ []))
 
   abbrev known : ℕ
-  known = length (lettersAfter (storedSheet s behind values) (keyOf s r) a) - 1
+  known = length (lettersAfter (storeFor s behind values) (keyOf s r) a) - 1
 
   known-is : known ≡ min (length r) w
   known-is = after-known s accepted behind values has r a below here
@@ -162,7 +157,7 @@ module _ (s : Sheet) (accepted : Accepted s) (behind : List Node) (values : List
   window-long = length-map (recent ++ (a ∷ [])) (letterOf ss) ∙ length-snoc recent a ∙ omega (arith, length-drop (length r - w) r)
 
   abbrev W : View
-  W = viewAfter (storedSheet s behind values) (keyOf s r) a
+  W = viewAfter (storeFor s behind values) (keyOf s r) a
 
   abbrev nodes : Nodes
   nodes = nodesOf (allNodes 0 0 cs ++ behind)
@@ -231,16 +226,16 @@ module _ (s : Sheet) (accepted : Accepted s) (behind : List Node) (values : List
   rightNow c = value (streamsOf longer) (rightSide c) (length r - D cs)
 
   -- Every stored constraint reads as the sheet's, with the values of its sides at the time newly judged.
-  pub constraints-read : Reads (storedSheet s behind values .relations) (storedSheet s behind values .lefts) (storedSheet s behind values .rights) (valueAt (storedSheet s behind values) W (known - D cs)) leftNow rightNow 0 cs
+  pub constraints-read : Reads (storeFor s behind values .relations) (storeFor s behind values .lefts) (storeFor s behind values .rights) (valueAt (storeFor s behind values) W (known - D cs)) leftNow rightNow 0 cs
   constraints-read =
-      reads-all (storedSheet s behind values .relations) (storedSheet s behind values .lefts) (storedSheet s behind values .rights) (valueAt (storedSheet s behind values) W (known - D cs)) leftNow rightNow cs 0
+      reads-all (storeFor s behind values .relations) (storeFor s behind values .lefts) (storeFor s behind values .rights) (valueAt (storeFor s behind values) W (known - D cs)) leftNow rightNow cs 0
       (λ j b.
       let stored = storedConstraints 0 0 cs in
       let e : 0 + j ≡ j = omega arith in
-      let l : j < length stored = omega (arith, constraints-long 0 0 cs) in (
+      let l : j < length stored = omega (arith, stored-length 0 0 cs) in (
         ap₂ (λ l k. getD l k 0) (stored-relations 0 0 cs) e ∙ getD-map relationCode cs j c₀ 0 b,
-        ap (λ k. nodeValue nodes W (getD (storedSheet s behind values .lefts) k 0) (known - D cs) .value) e
+        ap (λ k. nodeValue nodes W (getD (storeFor s behind values .lefts) k 0) (known - D cs) .value) e
             ∙ ap (λ i. nodeValue nodes W i (known - D cs) .value) (getD-map (λ (t : StoredConstraint). t .left) stored j t₀ 0 l) ∙ side-value (leftOf j b),
-        ap (λ k. nodeValue nodes W (getD (storedSheet s behind values .rights) k 0) (known - D cs) .value) e
+        ap (λ k. nodeValue nodes W (getD (storeFor s behind values .rights) k 0) (known - D cs) .value) e
             ∙ ap (λ i. nodeValue nodes W i (known - D cs) .value) (getD-map (λ (t : StoredConstraint). t .right) stored j t₀ 0 l) ∙ side-value (rightOf j b),
       ))

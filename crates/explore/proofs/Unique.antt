@@ -10,13 +10,13 @@ use mathlib.Core.Bool.{Bool, true, false}
 use mathlib.Core.List.{List}
 use lib.ListN.{length, getD}
 use lib.Seq.{ext-getD}
+use Rattle.basics.proofs.Answers.{says-yes}
 use Rattle.basics.proofs.Count.{count-excludes-more}
 use Rattle.automaton.specs.Table.{SameRows}
 use Rattle.automaton.specs.Stored.{entryAt, finalAt}
 use Rattle.automaton.proofs.Reachable.{searched-count, searched-more}
 use Rattle.automaton.proofs.ReachedOnce.{searched-unique}
-use Rattle.marks.specs.Answers.{Says}
-use Rattle.marks.proofs.Laws.{says-yes}
+use Rattle.basics.specs.Answers.{Says}
 use Rattle.extend.specs.Step.{Store}
 use Rattle.explore.specs.Search.{keySystem, Searched}
 use Rattle.explore.specs.Exploration.{ExploreTables, IsExplorable, FindsRows, GraphZero, ExploresStored}

@@ -4,7 +4,7 @@ use mathlib.Core.Path.{_≡_}
 use mathlib.Core.Bool.{Bool, true, false}
 use mathlib.Core.List.{List}
 use lib.ListN.{length, replicate}
-use Rattle.marks.specs.Answers.{Says}
+use Rattle.basics.specs.Answers.{Says}
 use Rattle.extend.specs.Step.{Store, IsReady}
 use Rattle.explore.specs.Search.{everyMark, Searched, KeptBehind, IsLent}
 

@@ -14,8 +14,8 @@ use Rattle.nodes.specs.Evaluate.{nodesOf}
 use Rattle.extend.specs.Step.{Store, letterAt}
 
 -- The stored sheet with these nodes behind its own and these values of its letters. No side of a constraint reads what stands behind its nodes.
-abbrev pub storedSheet : Sheet → List Node → List ℤ → Store
-storedSheet s behind values =
+abbrev pub storeFor : Sheet → List Node → List ℤ → Store
+storeFor s behind values =
     record {
       nodes = nodesOf (allNodes 0 0 (s .constraints) ++ behind);
       relations = map (λ (t : StoredConstraint). t .relation) (storedConstraints 0 0 (s .constraints));
@@ -34,5 +34,5 @@ pub record HasLetters (s : Sheet) (values : List ℤ) : Type 0 where
 
 pub record IsStored (s : Sheet) (K : Store) : Type 0 where
   pub behind : List Node
-  pub same : K ≡ storedSheet s behind (K .letterValues)
+  pub same : K ≡ storeFor s behind (K .letterValues)
   pub letters : HasLetters s (K .letterValues)

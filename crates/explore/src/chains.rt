@@ -1,8 +1,9 @@
 // Keys in rows, found again by chains of rows in the same bucket.
+use sizes::KEY_SIZE;
 ghost use mathlib.Core.Path.{_≡_};
 ghost use Prim.Native.Nat.{_+_, _*_, _<_, _≤_};
 ghost use lib.ListN.{length};
-ghost use Rattle.marks.specs.Answers.{Says};
+ghost use Rattle.basics.specs.Answers.{Says};
 ghost use Rattle.sizes.specs.Room.{keySize};
 ghost use Rattle.explore.specs.Chains.{mixOf, hashFrom, bucketOf, KeyTables, Finds, Inserts};
 
@@ -58,8 +59,8 @@ pub fn find(heads: &[u32], links: &[u32], keys: &[u32], n: usize, h: usize, key:
     let mut j = heads[h] as usize;
     while j != 0 {
         let i = j - 1;
-        let at = i * 16;
-        let end = at + 16;
+        let at = i * KEY_SIZE;
+        let end = at + KEY_SIZE;
         if same(&keys[at..end], key) {
             return j;
         }
@@ -83,7 +84,7 @@ pub fn insert(
     ensures { λ r. ⌜ KeyTables (now (heads .exit)) (now (links .exit)) (now (keys .exit)) (n + 1) ⌝ }
     ensures { λ r. ⌜ Inserts (now (keys .entry)) (now (keys .exit)) n (now (key .entry)) ⌝ }
 {
-    marks::put(keys, n * 16, key);
+    basics::put(keys, n * KEY_SIZE, key);
     links[n] = heads[h];
     heads[h] = (n + 1) as u32;
 }

@@ -7,7 +7,10 @@ use chains::insert;
 use extend::Dimensions;
 use extend::extend;
 use extend::prepare;
+use sizes::KEY_SIZE;
 use sizes::Lengths;
+use sizes::MARKS_PLACE;
+use sizes::PREPARED_SIZE;
 use sizes::is_lent;
 use sizes::is_ready;
 ghost use mathlib.Core.Path.{_≡_};
@@ -15,12 +18,11 @@ ghost use mathlib.Core.Bool.{false};
 ghost use Prim.Native.Nat.{_+_, _*_, _≤_, _<_};
 ghost use lib.Dec.{eqb};
 ghost use lib.ListN.{length};
-ghost use Rattle.sheet.specs.Refusal.{windowBound, firstBound, streamBound};
 ghost use Rattle.sizes.specs.Room.{keySize};
 ghost use Rattle.extend.specs.Key.{digit};
-ghost use Rattle.extend.specs.Step.{storeOf, IsReady, HasValues, IsKey, lettersStore, preparedSize, Prepared};
+ghost use Rattle.extend.specs.Step.{storeOf, Prepared, IsPreparable};
 ghost use Rattle.explore.specs.Chains.{rowAt, KeyTables};
-ghost use Rattle.explore.specs.Search.{everyMark, Settled, Known, LetterFollowed, Searched, KeptBehind, IsLent};
+ghost use Rattle.explore.specs.Search.{everyMark, Settled, CanFollow, Follows, CanSearch, Searched, KeptBehind};
 ghost use Rattle.explore.specs.Exploration.{exploreTables, Explores, Discards, ExploresStored};
 
 // The number of situations, or that there are more than the limit.
@@ -87,7 +89,7 @@ fn settle(
     }
     if n < limit {
         insert(heads, links, keys, n, h, key);
-        flags[n] = flag(key[15], every);
+        flags[n] = flag(key[MARKS_PLACE], every);
     }
     n
 }
@@ -112,19 +114,14 @@ fn follow(
     n: usize,
     s: usize,
     a: u32,
-    prepared: &mut [i64; 64],
+    prepared: &mut [i64; PREPARED_SIZE],
 ) -> usize
-    requires { ⌜ IsReady (storeOf (now kinds) (now values) (now starts) (now relations) (now lefts) (now rights) (now «first_nodes») (now «letter_values») (dimensions .streams) (dimensions .ahead) (dimensions .width)) ⌝ }
-    requires { ⌜ IsKey (storeOf (now kinds) (now values) (now starts) (now relations) (now lefts) (now rights) (now «first_nodes») (now «letter_values») (dimensions .streams) (dimensions .ahead) (dimensions .width)) (rowAt (now keys) s) × HasValues (storeOf (now kinds) (now values) (now starts) (now relations) (now lefts) (now rights) (now «first_nodes») (now «letter_values») (dimensions .streams) (dimensions .ahead) (dimensions .width)) a × (s < n) ⌝ }
-    requires { ⌜ KeyTables (now heads) (now links) (now keys) n ⌝ }
-    requires { ⌜ (bounds .limit ≤ 4096) × (bounds .limit ≤ length (now links)) × (bounds .limit * keySize ≤ length (now keys)) × (bounds .limit ≤ length (now flags)) ⌝ }
-    requires { ⌜ Prepared (now «letter_values») (dimensions .streams) (dimensions .width) (length (now «first_nodes»)) (rowAt (now keys) s) (now prepared) ⌝ }
-    ensures { λ r. ⌜ LetterFollowed (storeOf (now (kinds .entry)) (now (values .entry)) (now (starts .entry)) (now (relations .entry)) (now (lefts .entry)) (now (rights .entry)) (now («first_nodes» .entry)) (now («letter_values» .entry)) (dimensions .streams) (dimensions .ahead) (dimensions .width)) (bounds .limit) (bounds .every) n s a (now (keys .entry)) (now (flags .entry)) (now (heads .exit)) (now (links .exit)) (now (keys .exit)) (now (flags .exit)) r ⌝ }
-    ensures { λ r. ⌜ Prepared (now («letter_values» .entry)) (dimensions .streams) (dimensions .width) (length (now («first_nodes» .entry))) (rowAt (now (keys .exit)) s) (now (prepared .exit)) ⌝ }
+    requires { ⌜ CanFollow (storeOf (now kinds) (now values) (now starts) (now relations) (now lefts) (now rights) (now «first_nodes») (now «letter_values») (dimensions .streams) (dimensions .ahead) (dimensions .width)) (bounds .limit) n s a (now keys) (now heads) (now links) (now flags) (now prepared) ⌝ }
+    ensures { λ r. ⌜ Follows (storeOf (now (kinds .entry)) (now (values .entry)) (now (starts .entry)) (now (relations .entry)) (now (lefts .entry)) (now (rights .entry)) (now («first_nodes» .entry)) (now («letter_values» .entry)) (dimensions .streams) (dimensions .ahead) (dimensions .width)) (bounds .limit) (bounds .every) n s a (now (keys .entry)) (now (flags .entry)) (now (heads .exit)) (now (links .exit)) (now (keys .exit)) (now (flags .exit)) (now (prepared .exit)) r ⌝ }
 {
-    let start = s * 16;
-    let end = start + 16;
-    let mut fresh = [0u32; 16];
+    let start = s * KEY_SIZE;
+    let end = start + KEY_SIZE;
+    let mut fresh = [0u32; KEY_SIZE];
     if extend(
         kinds,
         values,
@@ -161,14 +158,13 @@ fn prepare_row(
     count: usize,
     keys: &[u32],
     s: usize,
-    prepared: &mut [i64; 64],
+    prepared: &mut [i64; PREPARED_SIZE],
 )
-    requires { ⌜ (dimensions .width ≤ windowBound) × (dimensions .streams ≤ streamBound) × (count ≤ firstBound) ⌝ }
-    requires { ⌜ IsKey (lettersStore (now «letter_values») (dimensions .streams) (dimensions .width)) (rowAt (now keys) s) × (s * keySize + keySize ≤ length (now keys)) × (length (now prepared) ≡ preparedSize) ⌝ }
+    requires { ⌜ IsPreparable (length (now «letter_values»)) (dimensions .streams) (dimensions .width) count (rowAt (now keys) s) (length (now prepared)) × (s * keySize + keySize ≤ length (now keys)) ⌝ }
     ensures { λ r. ⌜ Prepared (now («letter_values» .entry)) (dimensions .streams) (dimensions .width) count (rowAt (now (keys .entry)) s) (now (prepared .exit)) ⌝ }
 {
-    let start = s * 16;
-    let end = start + 16;
+    let start = s * KEY_SIZE;
+    let end = start + KEY_SIZE;
     prepare(
         letter_values,
         dimensions,
@@ -197,9 +193,7 @@ fn search(
     entries: &mut [u16],
     flags: &mut [u8],
 ) -> Explored
-    requires { ⌜ IsReady (storeOf (now kinds) (now values) (now starts) (now relations) (now lefts) (now rights) (now «first_nodes») (now «letter_values») (dimensions .streams) (dimensions .ahead) (dimensions .width)) ⌝ }
-    requires { ⌜ IsLent (storeOf (now kinds) (now values) (now starts) (now relations) (now lefts) (now rights) (now «first_nodes») (now «letter_values») (dimensions .streams) (dimensions .ahead) (dimensions .width)) (bounds .letters) (bounds .limit) (now keys) (now heads) (now links) (now entries) (now flags) ⌝ }
-    requires { ⌜ KeyTables (now heads) (now links) (now keys) 1 × Known (storeOf (now kinds) (now values) (now starts) (now relations) (now lefts) (now rights) (now «first_nodes») (now «letter_values») (dimensions .streams) (dimensions .ahead) (dimensions .width)) (bounds .letters) (bounds .every) (now keys) (now flags) 1 ⌝ }
+    requires { ⌜ CanSearch (storeOf (now kinds) (now values) (now starts) (now relations) (now lefts) (now rights) (now «first_nodes») (now «letter_values») (dimensions .streams) (dimensions .ahead) (dimensions .width)) (bounds .letters) (bounds .limit) (bounds .every) (now keys) (now heads) (now links) (now entries) (now flags) ⌝ }
     ensures { λ r. ⌜ Searched (storeOf (now (kinds .entry)) (now (values .entry)) (now (starts .entry)) (now (relations .entry)) (now (lefts .entry)) (now (rights .entry)) (now («first_nodes» .entry)) (now («letter_values» .entry)) (dimensions .streams) (dimensions .ahead) (dimensions .width)) (bounds .letters) (bounds .limit) (bounds .every) (now (keys .exit)) (now (entries .exit)) (now (flags .exit)) (r .full) (r .count) ⌝ }
     ensures { λ r. ⌜ (r .full ≡ false → KeptBehind (bounds .letters) (r .count) (now (entries .entry)) (now (flags .entry)) (now (entries .exit)) (now (flags .exit))) ⌝ }
 {
@@ -210,7 +204,7 @@ fn search(
     let mut s = 0;
     let mut at = 0;
     'rows: while s < n {
-        let mut prepared = [0i64; 64];
+        let mut prepared = [0i64; PREPARED_SIZE];
         prepare_row(
             letter_values,
             dimensions,
@@ -310,8 +304,8 @@ fn explore(
         };
     }
     let every = every_mark(relations);
-    let empty = [0u32; 16];
-    marks::fill(heads, 0);
+    let empty = [0u32; KEY_SIZE];
+    basics::fill(heads, 0);
     settle(heads, links, keys, flags, 0, limit, every, &empty);
     let found = search(
         kinds,
@@ -354,8 +348,8 @@ fn discard(found: Exploration, entries: &mut [u16], flags: &mut [u8])
             return;
         }
     }
-    marks::clear_entries(entries, 0);
-    marks::clear_bytes(flags, 0);
+    basics::clear_entries(entries, 0);
+    basics::clear_bytes(flags, 0);
 }
 
 // Explores a stored sheet in the lent tables, if the sheet keeps the bounds and the tables have room. The keys and the chains are 0 afterwards.
@@ -402,9 +396,9 @@ pub fn explore_stored(
         entries,
         flags,
     );
-    marks::fill(keys, 0);
-    marks::fill(heads, 0);
-    marks::fill(links, 0);
+    basics::fill(keys, 0);
+    basics::fill(heads, 0);
+    basics::fill(links, 0);
     discard(found, entries, flags);
     found
 }

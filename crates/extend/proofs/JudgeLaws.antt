@@ -10,7 +10,7 @@ use mathlib.Core.List.{List}
 use lib.ListN.{length, getD}
 use borrow.Author.Tests.{eq-eqb, ne-eqb}
 use Rattle.meaning.specs.Value.{Value, truth}
-use Rattle.extend.specs.Step.{unlawful, marked, withDigit, untilDone, untilPermitted, signHolds, judgedFrom}
+use Rattle.extend.specs.Step.{unlawful, lawfulWith, withDigit, untilDone, untilPermitted, signHolds, judgedFrom}
 use Rattle.extend.specs.Marking.{begun, grown, marksJoined}
 use Rattle.extend.specs.declared.judge.Judged.{Judged}
 use Rattle.extend.specs.declared.judge.Marking.{Marking}
@@ -30,11 +30,11 @@ joined-digit m done r = by done (r .ok) (r .marks)
     by true true marks =
         let e : m .told + m .weight * (1 + 2 * marks) ≡ m .told + m .weight + m .weight * 2 * marks =
         rw (mul-add, mul-assoc (m .weight) 2 marks) (omega arith) in
-        ap marked e
+        ap lawfulWith e
     by false true marks =
         let e : m .told + m .weight * (0 + 2 * marks) ≡ m .told + m .weight * 2 * marks =
         rw (mul-add, mul-assoc (m .weight) 2 marks) (omega arith) in
-        ap marked e
+        ap lawfulWith e
 
 module _ (relations lefts rights : List ℕ) (value : ℕ → Value) (marks : ℕ) where
   abbrev judged : ℕ → ℕ → ℕ → Judged
@@ -54,7 +54,7 @@ module _ (relations lefts rights : List ℕ) (value : ℕ → Value) (marks : �
   unfolding judgedFrom
   judged-sign j n m e = simp (ne-eqb (getD relations j 0) 7 e)
 
-  judged-none : (j m : ℕ) → judged j 0 m ≡ marked 0
+  judged-none : (j m : ℕ) → judged j 0 m ≡ lawfulWith 0
   unfolding judgedFrom
   judged-none j m = refl
 
@@ -71,7 +71,7 @@ module _ (relations lefts rights : List ℕ) (value : ℕ → Value) (marks : �
       record { within = omega arith; below = omega arith; weight-le = omega arith; same = rw e (begun-joined (answer .ok) (answer .marks)) }
     where
       begun-joined : (ok : Bool) (m : ℕ) → _≡_ {A = Judged} (record { ok = ok; marks = m }) (marksJoined (begun marks) (record { ok = ok; marks = m }))
-      begun-joined true m = ap marked (omega arith)
+      begun-joined true m = ap lawfulWith (omega arith)
       begun-joined false m = refl
 
   module _ (m : Marking) (j : ℕ) (more : j < length relations) (t : Told m j) where
@@ -133,7 +133,7 @@ module _ (relations lefts rights : List ℕ) (value : ℕ → Value) (marks : �
     pub told-fits : length relations ≤ 32 → m .told < 4294967296
     told-fits h = let p : 2 ^ j ≤ 2 ^ 32 = pow-mono {j = 32} (omega (arith, t .within)) in omega (arith, t .weight-le, t .below)
 
-    pub told-end : marked (m .told) ≡ answer
+    pub told-end : lawfulWith (m .told) ≡ answer
     told-end =
         let e : length relations - j ≡ 0 = omega arith in
-        sym (t .same ∙ ap (λ n. marksJoined m (judged j n (m .rest))) e ∙ ap (marksJoined m) (judged-none j (m .rest)) ∙ ap marked (rw mul-zero (add-zero (m .told))))
+        sym (t .same ∙ ap (λ n. marksJoined m (judged j n (m .rest))) e ∙ ap (marksJoined m) (judged-none j (m .rest)) ∙ ap lawfulWith (rw mul-zero (add-zero (m .told))))

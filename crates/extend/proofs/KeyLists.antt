@@ -2,12 +2,13 @@
 -- lists alone.
 use Prim.Native.Nat.{ℕ, suc, _+_, _-_, _*_, _≤_, _<_}
 use native.Mathlib.Omega.{arith}
+use native.Mathlib.Nat.{zero-mul, suc-mul}
 use native.Mathlib.Numerals.{add-one}
 use native.Mathlib.Decide.{decLt}
 use mathlib.Core.Path.{_≡_, refl, sym, _∙_, ap}
 use mathlib.Core.List.{List, [], _∷_, _++_, map, map-append, append-assoc, append-nil}
 use lib.IntN.{ℤ}
-use lib.ListN.{length, getD, take, drop, set, replicate, length-append, length-replicate, length-set, getD-replicate, replicate-append-replicate, List·getD-append, List·getD-eq-default, drop-of-length-le}
+use lib.ListN.{length, getD, take, drop, set, replicate, length-append, length-drop, length-replicate, length-set, getD-replicate, replicate-append-replicate, List·getD-append, List·getD-eq-default, drop-of-length-le}
 use lib.Seq.{take-suc, take-suc-set, take-set-lt, set-split, getD-take, getD-append-add, getD-append-seam, length-take-le, take-all, take-length, take-take, take-at, drop-at, drop-drop, take-append-add, paste, paste-suc, take-paste, drop-paste, length-paste}
 use Rattle.sheet.specs.Refusal.{windowBound, firstBound}
 use Rattle.sizes.specs.Room.{keySize}
@@ -174,6 +175,14 @@ module _ (streams : ℕ) (values : List ℤ) where
   unfolding windowOf
   windowOf-none = refl
 
+  -- As many values as the letters have, if they are there.
+  pub windowOf-long : (l : List ℕ) → ((p : ℕ) → p < length l → getD l p 0 * streams + streams ≤ length values) → length (windowOf streams values l) ≡ length l * streams
+  unfolding windowOf
+  windowOf-long [] h = sym (zero-mul streams)
+  windowOf-long (a ∷ l) h =
+      let here : length (letterAt streams values a) ≡ streams = length-take-le streams (drop (a * streams) values) (omega (arith, length-drop (a * streams) values, h 0 (omega arith))) in
+      omega (arith, length-append (letterAt streams values a) (windowOf streams values l), here, windowOf-long l (λ p b. h (suc p) (omega arith)), suc-mul (length l) streams)
+
   -- One letter's values are put into a window, as the first of those that are copied.
   module _ (copied a at from : ℕ) (window : List ℤ) (few : streams ≤ copied) (is : from ≡ a * streams) (inside : from + copied ≤ length values) (room : at + copied ≤ length window) where
     abbrev part : List ℤ
@@ -199,6 +208,15 @@ module _ (streams : ℕ) (values : List ℤ) where
 
     pub window-long : length (paste window at part (length part)) ≡ length window
     window-long = length-paste window at part (length part) (omega (arith, long)) (omega arith)
+
+  -- What stands behind the values that are put there is as it was.
+  pub behind-more : (a at from : ℕ) (window₀ window : List ℤ) → from ≡ a * streams → from + streams ≤ length values → at + streams ≤ length window → drop at window ≡ drop at window₀
+      → drop (at + streams) (paste window at (take (from + streams - from) (drop from values)) (length (take (from + streams - from) (drop from values)))) ≡ drop (at + streams) window₀
+  behind-more a at from window₀ window is inside room so-far =
+      let put = take (from + streams - from) (drop from values) in
+      let size : length put ≡ streams = part-long values from streams inside in
+      ap (λ n. drop (at + n) (paste window at put (length put))) (sym size) ∙ drop-paste window at put (length put) (omega arith) (omega arith)
+      ∙ ap (λ n. drop (at + n) window) size ∙ sym (drop-drop streams at window) ∙ ap (drop streams) so-far ∙ drop-drop streams at window₀
 
   pub window-more : (letters : List ℕ) (p at from : ℕ) (window : List ℤ) → p < length letters → from ≡ getD letters p 0 * streams → from + streams ≤ length values
       → at + streams ≤ length window → take at window ≡ windowOf streams values (take p letters)

@@ -4,3 +4,5 @@ pub mod KeyLists
 pub mod KeyNumbers
 pub mod PreparedLaws
 pub mod StepLaws
+pub mod ExtendLaws
+pub mod Unique

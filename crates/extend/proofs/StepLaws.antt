@@ -1,20 +1,15 @@
--- One more letter after the record of a key: the letters of the longer record, that the new key is a key again, and that what `finish` makes of
--- the decoded parts of a key is what the key's step is. From the laws of lists.
+-- One more letter after the record of a key: the letters of the longer record, and that the new key is a key again. From the laws of lists.
 use Prim.Native.Nat.{ℕ, suc, _+_, _-_, _≤_, _<_, min}
 use native.Mathlib.Omega.{arith}
 use native.Mathlib.Decide.{decLt}
 use mathlib.Core.Path.{_≡_, refl, sym, _∙_, ap, subst}
-use mathlib.Core.Bool.{Bool}
-use mathlib.Core.List.{List, [], _∷_, _++_, map}
-use lib.Dec.{leb}
-use lib.IntN.{ℤ}
+use mathlib.Core.List.{List, [], _∷_, _++_}
 use lib.ListN.{length, getD, take, drop, length-append, length-drop, drop-of-length-le, List·getD-append}
 use lib.Seq.{take-all, drop-append-le, length-take-le, getD-take, getD-drop, getD-append-seam}
 use Rattle.sheet.specs.Refusal.{windowBound, firstBound}
-use Rattle.nodes.specs.Evaluate.{view}
 use Rattle.sizes.specs.Room.{keySize}
-use Rattle.extend.specs.Key.{withZeros, encodedKey, lowered, sizeIn, lettersIn, firstsIn, marksIn}
-use Rattle.extend.specs.Step.{Store, storeOf, windowOf, lettersAfter, viewAfter, judgedIn, firstsFrom, judgedAfter, keyAfter, IsReady, HasValues, IsKey, Finished, Extended}
+use Rattle.extend.specs.Key.{withZeros, encodedKey, sizeIn, lettersIn, firstsIn, marksIn}
+use Rattle.extend.specs.Step.{Store, lettersAfter, viewAfter, judgedIn, firstsFrom, keyAfter, HasValues, IsKey}
 use Rattle.extend.proofs.KeyLists.{length-padded, getD-padded}
 
 -- The letters that the longer record's key holds: the known ones from `from` on with the newest, or none if a key holds none.
@@ -73,39 +68,6 @@ module _ (K : Store) (key : List ℕ) (a : ℕ) (k : IsKey K key) (room : K .wid
           let i : p ≡ length (lettersIn (K .width) key) = omega (arith, after-long, letters-long) in
           let e : getD (lettersAfter K key a) p 0 ≡ a = ap (λ n. getD (lettersAfter K key a) n 0) i ∙ getD-append-seam (lettersIn (K .width) key) a [] 0 in
           rw e h
-
--- What `finish` is asked for the parts of a key, and what it gives.
-module _ (kinds : List ℕ) (values : List ℤ) (starts relations lefts rights firstNodes : List ℕ) (letterValues : List ℤ) (streams ahead width : ℕ) where
-  abbrev whole-store : Store
-  whole-store = storeOf kinds values starts relations lefts rights firstNodes letterValues streams ahead width
-
-  abbrev part-store : Store
-  part-store = storeOf kinds values starts relations lefts rights firstNodes [] streams ahead width
-
-  pub part-ready : IsReady whole-store → IsReady part-store
-  part-ready r =
-      record {
-        few-letters = r .few-letters;
-        few-streams = r .few-streams;
-        lefts-long = r .lefts-long;
-        rights-long = r .rights-long;
-        few-constraints = r .few-constraints;
-        few-firsts = r .few-firsts;
-      }
-
-  pub finished-extended : (key : List ℕ) (a : ℕ) {window : List ℤ} {firsts : List ℤ} {letters numbers : List ℕ} {ok : Bool} {fresh : List ℕ}
-      → window ≡ windowOf streams letterValues (lettersAfter whole-store key a) → firsts ≡ map lowered (firstsIn (length firstNodes) key)
-      → letters ≡ lettersAfter whole-store key a → numbers ≡ firstsIn (length firstNodes) key
-      → Finished part-store (view window streams firsts (leb (sizeIn key) width)) (sizeIn key) letters (marksIn key) numbers ok fresh
-      → Extended whole-store key a ok fresh
-  unfolding judgedAfter keyAfter
-  finished-extended key a {window} {firsts} {letters} {numbers} {ok} {fresh} ew ef el en f =
-      let g : Finished part-store (view (windowOf streams letterValues (lettersAfter whole-store key a)) streams (map lowered (firstsIn (length firstNodes) key)) (leb (sizeIn key) width)) (sizeIn key) (lettersAfter whole-store key a) (marksIn key) (firstsIn (length firstNodes) key) ok fresh =
-      subst (λ n. Finished part-store (view (windowOf streams letterValues (lettersAfter whole-store key a)) streams (map lowered (firstsIn (length firstNodes) key)) (leb (sizeIn key) width)) (sizeIn key) (lettersAfter whole-store key a) (marksIn key) n ok fresh) en
-      (subst (λ l. Finished part-store (view (windowOf streams letterValues (lettersAfter whole-store key a)) streams (map lowered (firstsIn (length firstNodes) key)) (leb (sizeIn key) width)) (sizeIn key) l (marksIn key) numbers ok fresh) el
-      (subst (λ x. Finished part-store (view (windowOf streams letterValues (lettersAfter whole-store key a)) streams x (leb (sizeIn key) width)) (sizeIn key) letters (marksIn key) numbers ok fresh) ef
-      (subst (λ w. Finished part-store (view w streams firsts (leb (sizeIn key) width)) (sizeIn key) letters (marksIn key) numbers ok fresh) ew f))) in
-      record { answer = g .answer; new = g .new }
 
 -- ---- the new key is a key
 

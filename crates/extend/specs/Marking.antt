@@ -1,7 +1,7 @@
 -- The marks of untils, told one after the other.
 use Prim.Native.Nat.{ℕ, _+_, _*_, _/_, _<_}
 use mathlib.Core.Bool.{Bool, cond}
-use Rattle.extend.specs.Step.{marked}
+use Rattle.extend.specs.Step.{lawfulWith}
 use Rattle.extend.specs.declared.judge.Judged.{Judged}
 use Rattle.extend.specs.declared.judge.Marking.{Marking}
 
@@ -17,4 +17,4 @@ IsSmall m = (m .told < m .weight) × (m .weight < 4294967296)
 
 -- the answer for what comes later, with what is told before its marks
 abbrev pub marksJoined : Marking → Judged → Judged
-marksJoined m r = cond (r .ok) (marked (m .told + m .weight * r .marks)) r
+marksJoined m r = cond (r .ok) (lawfulWith (m .told + m .weight * r .marks)) r

@@ -7,13 +7,14 @@ use mathlib.Core.List.{List, [], _∷_, _++_, map}
 use lib.Dec.{leb, ltb, eqb}
 use lib.IntN.{ℤ}
 use lib.ListN.{length, getD, take, drop}
-use Rattle.sheet.specs.Refusal.{windowBound, firstBound, streamBound}
+use lib.Seq.{paste}
+use Rattle.sheet.specs.Refusal.{streamBound, constraintBound, firstBound, windowBound}
 use Rattle.meaning.specs.Value.{Value, truth}
 use Rattle.meaning.specs.Expression.{holds}
 use Rattle.nodes.specs.Code.{signAt}
 use Rattle.nodes.specs.Evaluate.{Nodes, stored, View, view, nodeValue}
 use Rattle.sides.specs.Mark.{odd}
-use Rattle.sizes.specs.Room.{keySize}
+use Rattle.sizes.specs.Room.{keySize, windowRoom, preparedSize}
 use Rattle.extend.specs.Key.{encodedKey, raised, lowered, digit, sizeIn, lettersIn, firstsIn, marksIn}
 use Rattle.extend.specs.declared.judge.Judged.{Judged}
 
@@ -49,12 +50,12 @@ storeOf kinds values starts relations lefts rights firstNodes letterValues strea
 abbrev pub unlawful : Judged
 unlawful = record { ok = false; marks = 0 }
 
-abbrev pub marked : ℕ → Judged
-marked m = record { ok = true; marks = m }
+abbrev pub lawfulWith : ℕ → Judged
+lawfulWith m = record { ok = true; marks = m }
 
 -- the answer for what comes later, with a digit before its marks
 abbrev pub withDigit : Bool → Judged → Judged
-withDigit b r = cond (r .ok) (marked (digit b + 2 * r .marks)) r
+withDigit b r = cond (r .ok) (lawfulWith (digit b + 2 * r .marks)) r
 
 -- `value` has the value of a node. The next n constraints from the one numbered j on are judged; `marks` are those of their untils so far. The
 -- answer has the marks afterwards.
@@ -70,7 +71,7 @@ module _ (relations lefts rights : List ℕ) (value : ℕ → Value) where
   signHolds j = holds (signAt (getD relations j 0)) (value (getD lefts j 0)) (value (getD rights j 0))
 
   unfoldable pub judgedFrom : ℕ → ℕ → ℕ → Judged
-  judgedFrom j zero marks = marked 0
+  judgedFrom j zero marks = lawfulWith 0
   judgedFrom j (suc n) marks =
       cond (eqb (getD relations j 0) 7)
       (cond (untilPermitted j marks) (withDigit (untilDone j marks) (judgedFrom (suc j) n (marks / 2))) unlawful)
@@ -107,7 +108,7 @@ module _ (K : Store) where
   judgedIn W known marks =
       cond (leb (K .ahead) known)
       (judgedFrom (K .relations) (K .lefts) (K .rights) (valueAt W (known - K .ahead)) 0 (length (K .relations)) marks)
-      (marked marks)
+      (lawfulWith marks)
 
   -- The firsts have values from the cut on, and keep them.
   abbrev pub firstsFrom : View → ℕ → List ℕ → List ℕ
@@ -133,8 +134,27 @@ pub record IsReady (K : Store) : Type 0 where
   pub few-streams : K .streams ≤ streamBound
   pub lefts-long : length (K .lefts) ≡ length (K .relations)
   pub rights-long : length (K .rights) ≡ length (K .relations)
-  pub few-constraints : length (K .relations) ≤ 32
+  pub few-constraints : length (K .relations) ≤ constraintBound
   pub few-firsts : length (K .firstNodes) ≤ firstBound
+
+-- how many constraints have both sides, as far as the bound goes
+abbrev pub constraintsWithin : Store → ℕ
+constraintsWithin K = min (min (length (K .relations)) constraintBound) (min (length (K .lefts)) (length (K .rights)))
+
+-- A stored sheet with what is longer than the bounds allow cut off. One that keeps the bounds is not cut.
+unfoldable pub withinBounds : Store → Store
+withinBounds K =
+    record {
+      nodes = K .nodes;
+      relations = take (constraintsWithin K) (K .relations);
+      lefts = take (constraintsWithin K) (K .lefts);
+      rights = take (constraintsWithin K) (K .rights);
+      firstNodes = take (min (length (K .firstNodes)) firstBound) (K .firstNodes);
+      letterValues = K .letterValues;
+      streams = min (K .streams) streamBound;
+      ahead = K .ahead;
+      width = min (K .width) windowBound;
+    }
 
 -- The letter's values are there, and room for 8 from the first of them on: always so many are read, since a copy of a fixed size is quick.
 pub record HasValues (K : Store) (a : ℕ) : Type 0 where
@@ -144,16 +164,7 @@ pub record IsKey (K : Store) (key : List ℕ) : Type 0 where
   pub long : length key ≡ keySize
   pub letters : (p : ℕ) → p < min (sizeIn key) (K .width) → HasValues K (getD key (suc p) 0)
 
--- A store that has letters only.
-abbrev pub lettersStore : (letterValues : List ℤ) (streams width : ℕ) → Store
-lettersStore letterValues streams width = storeOf [] [] [] [] [] [] [] letterValues streams 0 width
-
--- how many values the letters of a key and one more have at most, and how many values are prepared: those and the firsts'
-abbrev pub windowRoom : ℕ
-windowRoom = 56
-
-abbrev pub preparedSize : ℕ
-preparedSize = 64
+-- ---- what is prepared for the letters after a key
 
 -- The list holds what every letter after a key needs: the values of the key's letters, and from place 56 on those of its firsts, of which there are
 -- `count`. What stands after either is free.
@@ -162,12 +173,67 @@ pub record Prepared (letterValues : List ℤ) (streams width count : ℕ) (key :
   pub values : take (min (sizeIn key) width * streams) prepared ≡ windowOf streams letterValues (lettersIn width key)
   pub numbers : take count (drop windowRoom prepared) ≡ map lowered (firstsIn count key)
 
--- The answer and the key for these letters, values, marks and numbers of firsts.
-pub record Finished (K : Store) (W : View) (size : ℕ) (letters : List ℕ) (marks : ℕ) (numbers : List ℕ) (ok : Bool) (fresh : List ℕ) : Type 0 where
+abbrev pub PreparedFor : Store → List ℕ → List ℤ → Type 0
+PreparedFor K key prepared = Prepared (K .letterValues) (K .streams) (K .width) (length (K .firstNodes)) key prepared
+
+-- The sheet is small, and a key and the list for what is prepared have their sizes.
+abbrev pub PreparableSizes : (streams width count key room : ℕ) → Type 0
+PreparableSizes streams width count key room = (width ≤ windowBound) × (streams ≤ streamBound) × (count ≤ firstBound) × (key ≡ keySize) × (room ≡ preparedSize)
+
+-- What the letters after a key need can be prepared: the sizes fit, and the values of the key's letters are there, as `HasValues` has it. `values` is
+-- how many values there are, `room` how long the list is.
+pub record IsPreparable (values streams width count : ℕ) (key : List ℕ) (room : ℕ) : Type 0 where
+  pub sizes : PreparableSizes streams width count (length key) room
+  pub letters : (p : ℕ) → p < min (sizeIn key) width → getD key (suc p) 0 * streams + streamBound ≤ values
+
+-- The list with what is prepared written over it. What stands between the letters' values and the firsts', and behind these, is as it was.
+unfoldable pub preparedOver : (letterValues : List ℤ) (streams width count : ℕ) (key : List ℕ) → List ℤ → List ℤ
+preparedOver letterValues streams width count key list =
+    paste (windowOf streams letterValues (lettersIn width key) ++ drop (min (sizeIn key) width * streams) list) windowRoom (map lowered (firstsIn count key)) count
+
+-- What `prepare` leaves of a list: what is prepared, or the list as it was if that cannot be prepared. So nothing is left open
+-- (`Rattle.extend.proofs.Unique`).
+pub record Prepares (letterValues : List ℤ) (streams width count : ℕ) (key : List ℕ) (list list′ : List ℤ) : Type 0 where
+  pub done : IsPreparable (length letterValues) streams width count key (length list) → list′ ≡ preparedOver letterValues streams width count key list
+  pub refused : ¬ IsPreparable (length letterValues) streams width count key (length list) → list′ ≡ list
+
+-- The list with a letter's values, if they are there, after those of the letters that are held. As many values are copied as a letter can have, so that
+-- the copy has one size.
+unfoldable pub withLetterAfter : (streams : ℕ) (letterValues : List ℤ) (held a : ℕ) → List ℤ → List ℤ
+withLetterAfter streams letterValues held a list =
+    cond (leb (a * streams + streamBound) (length letterValues)) (paste list (held * streams) (take streamBound (drop (a * streams) letterValues)) streamBound) list
+
+-- ---- the answer and the key that one more letter leads to
+
+-- The answer for these letters, values, marks and numbers of firsts; `fresh` becomes the longer record's key if the answer is yes, and stays if it is no.
+pub record Finished (K : Store) (W : View) (size : ℕ) (letters : List ℕ) (marks : ℕ) (numbers fresh : List ℕ) (ok : Bool) (fresh′ : List ℕ) : Type 0 where
   pub answer : ok ≡ judgedIn K W (length letters - 1) marks .ok
-  pub new : ok ≡ true → fresh ≡ keyFrom K W size letters marks numbers
+  pub new : ok ≡ true → fresh′ ≡ keyFrom K W size letters marks numbers
+  pub kept : ok ≡ false → fresh′ ≡ fresh
 
 -- The answer and the key that one more letter leads to.
-pub record Extended (K : Store) (key : List ℕ) (a : ℕ) (ok : Bool) (fresh : List ℕ) : Type 0 where
+pub record Extended (K : Store) (key : List ℕ) (a : ℕ) (fresh : List ℕ) (ok : Bool) (fresh′ : List ℕ) : Type 0 where
   pub answer : ok ≡ judgedAfter K key a .ok
-  pub new : ok ≡ true → fresh ≡ keyAfter K key a
+  pub new : ok ≡ true → fresh′ ≡ keyAfter K key a
+  pub kept : ok ≡ false → fresh′ ≡ fresh
+
+-- A key, what is prepared for it, and the list for the new key have their sizes.
+abbrev pub SizesFit : (key prepared fresh : ℕ) → Type 0
+SizesFit key prepared fresh = (key ≡ keySize) × (prepared ≡ preparedSize) × (fresh ≡ keySize)
+
+-- What the nodes' values are taken from, in a list that holds the values of the key's letters, of one more, and of the firsts.
+abbrev pub viewIn : Store → List ℕ → List ℤ → View
+viewIn K key prepared =
+    view (take ((min (sizeIn key) (K .width) + 1) * K .streams) prepared) (K .streams) (take (length (K .firstNodes)) (drop windowRoom prepared))
+    (leb (sizeIn key) (K .width))
+
+-- The letter's values are put after those that are prepared, and the answer is that for the values that the list holds then.
+pub record Continues (K : Store) (key : List ℕ) (a : ℕ) (prepared : List ℤ) (fresh : List ℕ) (prepared′ : List ℤ) (fresh′ : List ℕ) (ok : Bool) : Type 0 where
+  pub put : prepared′ ≡ withLetterAfter (K .streams) (K .letterValues) (min (sizeIn key) (K .width)) a prepared
+  pub finished : Finished K (viewIn K key prepared′) (sizeIn key) (lettersAfter K key a) (marksIn key) (firstsIn (length (K .firstNodes)) key) fresh ok fresh′
+
+-- What `extend` makes of a key and a letter: the answer, what is prepared and the new key. Nothing is left open (`Rattle.extend.proofs.Unique`). For a
+-- stored sheet, a key and a letter as they should be, and what is prepared for the key, this is `Extended` (`Rattle.extend.proofs.ExtendLaws`).
+pub record Extends (K : Store) (key : List ℕ) (a : ℕ) (prepared : List ℤ) (fresh : List ℕ) (prepared′ : List ℤ) (fresh′ : List ℕ) (ok : Bool) : Type 0 where
+  pub done : SizesFit (length key) (length prepared) (length fresh) → Continues (withinBounds K) key a prepared fresh prepared′ fresh′ ok
+  pub refused : ¬ SizesFit (length key) (length prepared) (length fresh) → (ok ≡ false) × (prepared′ ≡ prepared) × (fresh′ ≡ fresh)

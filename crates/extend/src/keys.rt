@@ -2,6 +2,10 @@
 use arithmetic::in_bound;
 use basics::fewer;
 use sides::value_of;
+use sizes::FIRSTS_PLACE;
+use sizes::MARKS_PLACE;
+use sizes::STREAM_BOUND;
+use sizes::WINDOW_ROOM;
 ghost use mathlib.Core.Path.{_≡_};
 ghost use mathlib.Core.List.{[], _∷_, _++_, map};
 ghost use Prim.Native.Nat.{ℕ, _+_, _*_, _<_, _≤_, min};
@@ -9,10 +13,10 @@ ghost use lib.ListN.{length, getD, take, drop};
 ghost use lib.Seq.{paste};
 ghost use Rattle.sheet.specs.Refusal.{windowBound, firstBound, streamBound};
 ghost use Rattle.nodes.specs.Evaluate.{stored, view, nodeValue};
-ghost use Rattle.marks.specs.Answers.{Says};
-ghost use Rattle.sizes.specs.Room.{keySize};
+ghost use Rattle.basics.specs.Answers.{Says};
+ghost use Rattle.sizes.specs.Room.{keySize, windowRoom};
 ghost use Rattle.extend.specs.Key.{encodedKey, raised, lowered};
-ghost use Rattle.extend.specs.Step.{windowRoom, letterAt, windowOf};
+ghost use Rattle.extend.specs.Step.{windowOf, withLetterAfter};
 
 // A value within the magnitude bound as a natural number, and back.
 fn raised(z: i64) -> u32
@@ -43,14 +47,14 @@ pub fn write_key(
     requires { ⌜ (length (now key) ≡ keySize) × (count ≤ windowBound) × (length (now firsts) ≤ firstBound) × (0 < count → count ≡ length (now letters) + 1) × (count ≡ 0 → length (now letters) ≡ 0) ⌝ }
     ensures { λ r. ⌜ now (key .exit) ≡ encodedKey size (take count (now (letters .entry) ++ (letter ∷ []))) (now (firsts .entry)) marks ⌝ }
 {
-    marks::fill(key, 0);
-    marks::put(key, 1, letters);
+    basics::fill(key, 0);
+    basics::put(key, 1, letters);
     if count != 0 {
         key[count] = letter;
     }
-    marks::put(key, 7, firsts);
+    basics::put(key, FIRSTS_PLACE, firsts);
     key[0] = size;
-    key[15] = marks;
+    key[MARKS_PLACE] = marks;
 }
 
 // Copies values into a window from a place on.
@@ -70,7 +74,7 @@ fn copy_values(to: &mut [i64], at: usize, from: &[i64])
 pub fn has_values(letter: u32, streams: usize, values: usize) -> bool
     ensures { λ r. ⌜ Says r (letter * min streams streamBound + streamBound ≤ values) ⌝ }
 {
-    if values < letter as usize * fewer(streams, 8) + 8 {
+    if values < letter as usize * fewer(streams, STREAM_BOUND) + STREAM_BOUND {
         return false;
     }
     true
@@ -91,11 +95,11 @@ pub fn have_values(letters: &[u32], streams: usize, values: usize) -> bool
     true
 }
 
-// The values of the letters, one letter after the other.
+// The values of the letters, one letter after the other. What stands behind them is as it was.
 pub fn fill_window(window: &mut [i64], letter_values: &[i64], streams: usize, letters: &[u32])
     requires { ⌜ length (now letters) * streams ≤ length (now window) ⌝ }
     requires { ⌜ ((p : ℕ) → p < length (now letters) → getD (now letters) p 0 * streams + streams ≤ length (now «letter_values»)) ⌝ }
-    ensures { λ r. ⌜ take (length (now (letters .entry)) * streams) (now (window .exit)) ≡ windowOf streams (now («letter_values» .entry)) (now (letters .entry)) ⌝ }
+    ensures { λ r. ⌜ now (window .exit) ≡ windowOf streams (now («letter_values» .entry)) (now (letters .entry)) ++ drop (length (now (letters .entry)) * streams) (now (window .entry)) ⌝ }
 {
     let mut p = 0;
     let mut at = 0;
@@ -108,8 +112,8 @@ pub fn fill_window(window: &mut [i64], letter_values: &[i64], streams: usize, le
     }
 }
 
-// Puts the values of a letter, if they are there, after those of the letters that are held. As many values are copied as a letter can have, so that the copy has one
-// size; what stands behind the letter's own is free.
+// Puts the values of a letter, if they are there, after those of the letters that are held. As many values are copied as a letter can have, so that
+// the copy has one size.
 pub fn add_letter(
     window: &mut [i64],
     letter_values: &[i64],
@@ -118,12 +122,11 @@ pub fn add_letter(
     letter: u32,
 )
     requires { ⌜ (streams ≤ streamBound) × (held ≤ windowBound) × (windowRoom ≤ length (now window)) ⌝ }
-    ensures { λ r. ⌜ (letter * streams + streamBound ≤ length (now («letter_values» .entry)) → take ((held + 1) * streams) (now (window .exit)) ≡ take (held * streams) (now (window .entry)) ++ letterAt streams (now («letter_values» .entry)) letter) ⌝ }
-    ensures { λ r. ⌜ drop windowRoom (now (window .exit)) ≡ drop windowRoom (now (window .entry)) ⌝ }
+    ensures { λ r. ⌜ now (window .exit) ≡ withLetterAfter streams (now («letter_values» .entry)) held letter (now (window .entry)) ⌝ }
 {
     if has_values(letter, streams, letter_values.len()) {
         let from = letter as usize * streams;
-        let end = from + 8;
+        let end = from + STREAM_BOUND;
         copy_values(window, held * streams, &letter_values[from..end]);
     }
 }
@@ -135,7 +138,7 @@ pub fn lower_all(prepared: &mut [i64], numbers: &[u32])
 {
     let mut i = 0;
     while i < numbers.len() {
-        prepared[56 + i] = lowered(numbers[i]);
+        prepared[WINDOW_ROOM + i] = lowered(numbers[i]);
         i += 1;
     }
 }

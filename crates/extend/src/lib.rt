@@ -11,6 +11,15 @@ use keys::have_values;
 use keys::lower_all;
 use keys::raise_all;
 use keys::write_key;
+use sizes::CONSTRAINT_BOUND;
+use sizes::FIRST_BOUND;
+use sizes::FIRSTS_PLACE;
+use sizes::KEY_SIZE;
+use sizes::MARKS_PLACE;
+use sizes::PREPARED_SIZE;
+use sizes::STREAM_BOUND;
+use sizes::WINDOW_BOUND;
+use sizes::WINDOW_ROOM;
 ghost use mathlib.Core.Path.{_≡_};
 ghost use mathlib.Core.Bool.{cond};
 ghost use mathlib.Core.List.{[], _∷_, _++_, map};
@@ -19,10 +28,10 @@ ghost use lib.Dec.{leb, ltb};
 ghost use lib.ListN.{length, take};
 ghost use Rattle.sheet.specs.Refusal.{windowBound, firstBound, streamBound};
 ghost use Rattle.nodes.specs.Evaluate.{stored, view, nodeValue};
-ghost use Rattle.marks.specs.Answers.{Says};
+ghost use Rattle.basics.specs.Answers.{Says};
 ghost use Rattle.sizes.specs.Room.{keySize};
 ghost use Rattle.extend.specs.Key.{raised};
-ghost use Rattle.extend.specs.Step.{marked, judgedFrom, storeOf, IsReady, HasValues, IsKey, lettersStore, preparedSize, Prepared, Finished, Extended};
+ghost use Rattle.extend.specs.Step.{lawfulWith, judgedFrom, storeOf, IsReady, PreparableSizes, IsPreparable, Prepares, Finished, SizesFit, Extends};
 
 // How many streams a sheet has, D, and D+B.
 pub struct Dimensions {
@@ -48,7 +57,7 @@ fn judge_letter(
     marks: u32,
 ) -> Judged
     requires { ⌜ (length (now lefts) ≡ length (now relations)) × (length (now rights) ≡ length (now relations)) × (length (now relations) ≤ 32) ⌝ }
-    ensures { λ r. ⌜ r ≡ cond (leb ahead held) (judgedFrom (now (relations .entry)) (now (lefts .entry)) (now (rights .entry)) (λ node. nodeValue (stored (now (kinds .entry)) (now (values .entry)) (now (starts .entry))) (view (now (window .entry)) streams (now (firsts .entry)) whole) node (held - ahead) .value) 0 (length (now (relations .entry))) marks) (marked marks) ⌝ }
+    ensures { λ r. ⌜ r ≡ cond (leb ahead held) (judgedFrom (now (relations .entry)) (now (lefts .entry)) (now (rights .entry)) (λ node. nodeValue (stored (now (kinds .entry)) (now (values .entry)) (now (starts .entry))) (view (now (window .entry)) streams (now (firsts .entry)) whole) node (held - ahead) .value) 0 (length (now (relations .entry))) marks) (lawfulWith marks) ⌝ }
 {
     if held < ahead {
         return Judged { ok: true, marks };
@@ -105,11 +114,12 @@ fn firsts_after(
         );
         return first_nodes.len();
     }
-    marks::put(numbers, 0, held_firsts);
+    basics::put(numbers, 0, held_firsts);
     held_firsts.len()
 }
 
-// Whether a lawful record stays lawful with its newest letter; if so, `fresh` gets the longer record's key. `letters` are those before it that are known.
+// Whether a lawful record stays lawful with its newest letter; if so, `fresh` gets the longer record's key, and if not, it stays. `letters` are those
+// before it that are known.
 fn finish(
     kinds: &[u8; 1024],
     values: &[i64; 1024],
@@ -130,7 +140,7 @@ fn finish(
 ) -> bool
     requires { ⌜ IsReady (storeOf (now kinds) (now values) (now starts) (now relations) (now lefts) (now rights) (now «first_nodes») [] (dimensions .streams) (dimensions .ahead) (dimensions .width)) ⌝ }
     requires { ⌜ (length (now letters) ≤ dimensions .width) × (length (now «held_firsts») ≤ firstBound) × (length (now fresh) ≡ keySize) ⌝ }
-    ensures { λ r. ⌜ Finished (storeOf (now (kinds .entry)) (now (values .entry)) (now (starts .entry)) (now (relations .entry)) (now (lefts .entry)) (now (rights .entry)) (now («first_nodes» .entry)) [] (dimensions .streams) (dimensions .ahead) (dimensions .width)) (view (now (window .entry)) (dimensions .streams) (now (firsts .entry)) (leb size (dimensions .width))) size (now (letters .entry) ++ (letter ∷ [])) marks (now («held_firsts» .entry)) r (now (fresh .exit)) ⌝ }
+    ensures { λ r. ⌜ Finished (storeOf (now (kinds .entry)) (now (values .entry)) (now (starts .entry)) (now (relations .entry)) (now (lefts .entry)) (now (rights .entry)) (now («first_nodes» .entry)) [] (dimensions .streams) (dimensions .ahead) (dimensions .width)) (view (now (window .entry)) (dimensions .streams) (now (firsts .entry)) (leb size (dimensions .width))) size (now (letters .entry) ++ (letter ∷ [])) marks (now («held_firsts» .entry)) (now (fresh .entry)) r (now (fresh .exit)) ⌝ }
 {
     let streams = dimensions.streams;
     let width = dimensions.width;
@@ -154,7 +164,7 @@ fn finish(
     if !judged.ok {
         return false;
     }
-    let mut numbers = [0u32; 8];
+    let mut numbers = [0u32; FIRST_BOUND];
     let filled = firsts_after(
         kinds,
         values,
@@ -185,30 +195,48 @@ fn finish(
     true
 }
 
-// Whether a key and the values prepared for it have their sizes, and the sheet is small.
-fn is_preparable(dimensions: Dimensions, firsts: usize, key: usize, prepared: usize) -> bool
-    ensures { λ r. ⌜ Says r ((dimensions .width ≤ windowBound) × (dimensions .streams ≤ streamBound) × (firsts ≤ firstBound) × (key ≡ keySize) × (prepared ≡ preparedSize)) ⌝ }
+// Whether the sheet is small, and a key and the list for what is prepared have their sizes.
+fn are_preparable(dimensions: Dimensions, count: usize, key: usize, room: usize) -> bool
+    ensures { λ r. ⌜ Says r (PreparableSizes (dimensions .streams) (dimensions .width) count key room) ⌝ }
 {
-    if 6 < dimensions.width {
+    if WINDOW_BOUND < dimensions.width {
         return false;
     }
-    if 8 < dimensions.streams {
+    if STREAM_BOUND < dimensions.streams {
         return false;
     }
-    if 8 < firsts {
+    if FIRST_BOUND < count {
         return false;
     }
-    if key != 16 {
+    if key != KEY_SIZE {
         return false;
     }
-    if prepared != 64 {
+    if room != PREPARED_SIZE {
         return false;
     }
     true
 }
 
+// Whether what the letters after a key need can be prepared. `values` is how many values there are, `room` how long the list is.
+fn is_preparable(
+    values: usize,
+    dimensions: Dimensions,
+    count: usize,
+    key: &[u32],
+    room: usize,
+) -> bool
+    ensures { λ r. ⌜ Says r (IsPreparable values (dimensions .streams) (dimensions .width) count (now (key .entry)) room) ⌝ }
+{
+    if !are_preparable(dimensions, count, key.len(), room) {
+        return false;
+    }
+    let held = fewer(key[0] as usize, dimensions.width);
+    let end = held + 1;
+    have_values(&key[1..end], dimensions.streams, values)
+}
+
 // What every letter after a key needs, in one list: the values of the key's letters, and behind the room for one more those of its firsts, of which
-// there are `count`. If something has not its size, or a letter's values are not there, nothing is prepared.
+// there are `count`. If something has not its size, or a letter's values are not there, the list stays.
 pub fn prepare(
     letter_values: &[i64],
     dimensions: Dimensions,
@@ -216,33 +244,34 @@ pub fn prepare(
     key: &[u32],
     prepared: &mut [i64],
 )
-    ensures { λ r. ⌜ ((dimensions .width ≤ windowBound) × (dimensions .streams ≤ streamBound) × (count ≤ firstBound) → IsKey (lettersStore (now («letter_values» .entry)) (dimensions .streams) (dimensions .width)) (now (key .entry)) → length (now (prepared .entry)) ≡ preparedSize → Prepared (now («letter_values» .entry)) (dimensions .streams) (dimensions .width) count (now (key .entry)) (now (prepared .exit))) ⌝ }
+    ensures { λ r. ⌜ Prepares (now («letter_values» .entry)) (dimensions .streams) (dimensions .width) count (now (key .entry)) (now (prepared .entry)) (now (prepared .exit)) ⌝ }
 {
-    if !is_preparable(dimensions, count, key.len(), prepared.len()) {
+    if !is_preparable(letter_values.len(), dimensions, count, key, prepared.len()) {
         return;
     }
-    let streams = dimensions.streams;
     let held = fewer(key[0] as usize, dimensions.width);
-    let end = held + 1;
-    if !have_values(&key[1..end], streams, letter_values.len()) {
-        return;
-    }
-    fill_window(prepared, letter_values, streams, &key[1..end]);
-    let firsts_end = 7 + count;
-    lower_all(prepared, &key[7..firsts_end]);
+    let letters_end = held + 1;
+    fill_window(
+        prepared,
+        letter_values,
+        dimensions.streams,
+        &key[1..letters_end],
+    );
+    let firsts_end = FIRSTS_PLACE + count;
+    lower_all(prepared, &key[FIRSTS_PLACE..firsts_end]);
 }
 
 // Whether the key, the prepared values and the new key have their sizes.
-fn has_room(key: usize, prepared: usize, fresh: usize) -> bool
-    ensures { λ r. ⌜ Says r ((key ≡ keySize) × (prepared ≡ preparedSize) × (fresh ≡ keySize)) ⌝ }
+fn has_sizes(key: usize, prepared: usize, fresh: usize) -> bool
+    ensures { λ r. ⌜ Says r (SizesFit key prepared fresh) ⌝ }
 {
-    if key != 16 {
+    if key != KEY_SIZE {
         return false;
     }
-    if prepared != 64 {
+    if prepared != PREPARED_SIZE {
         return false;
     }
-    if fresh != 16 {
+    if fresh != KEY_SIZE {
         return false;
     }
     true
@@ -253,15 +282,15 @@ fn bounded(dimensions: Dimensions) -> Dimensions
     ensures { λ r. ⌜ (r .streams ≡ min (dimensions .streams) streamBound) × (r .ahead ≡ dimensions .ahead) × (r .width ≡ min (dimensions .width) windowBound) ⌝ }
 {
     Dimensions {
-        streams: fewer(dimensions.streams, 8),
+        streams: fewer(dimensions.streams, STREAM_BOUND),
         ahead: dimensions.ahead,
-        width: fewer(dimensions.width, 6),
+        width: fewer(dimensions.width, WINDOW_BOUND),
     }
 }
 
-// Whether the record of a key stays lawful with one more letter; if so, `fresh` gets the longer record's key. What is prepared for the key stays
-// so: only the letter's values are put after those of the key's letters. If the key or a list has not its size, the answer is no. What is longer than
-// the bounds allow is cut: a branch for it would keep the compiler from inlining the evaluation.
+// Whether the record of a key stays lawful with one more letter; if so, `fresh` gets the longer record's key, and if not, it stays. What is prepared for
+// the key stays so: only the letter's values, if they are there, are put after those of the key's letters. If the key or a list has not its size, the
+// answer is no, and the lists stay. What is longer than the bounds allow is cut: a branch for it would keep the compiler from inlining the evaluation.
 pub fn extend(
     kinds: &[u8; 1024],
     values: &[i64; 1024],
@@ -277,23 +306,26 @@ pub fn extend(
     prepared: &mut [i64],
     fresh: &mut [u32],
 ) -> bool
-    ensures { λ r. ⌜ (IsReady (storeOf (now (kinds .entry)) (now (values .entry)) (now (starts .entry)) (now (relations .entry)) (now (lefts .entry)) (now (rights .entry)) (now («first_nodes» .entry)) (now («letter_values» .entry)) (dimensions .streams) (dimensions .ahead) (dimensions .width)) → IsKey (storeOf (now (kinds .entry)) (now (values .entry)) (now (starts .entry)) (now (relations .entry)) (now (lefts .entry)) (now (rights .entry)) (now («first_nodes» .entry)) (now («letter_values» .entry)) (dimensions .streams) (dimensions .ahead) (dimensions .width)) (now (key .entry)) → HasValues (storeOf (now (kinds .entry)) (now (values .entry)) (now (starts .entry)) (now (relations .entry)) (now (lefts .entry)) (now (rights .entry)) (now («first_nodes» .entry)) (now («letter_values» .entry)) (dimensions .streams) (dimensions .ahead) (dimensions .width)) letter → length (now (fresh .entry)) ≡ keySize → Prepared (now («letter_values» .entry)) (dimensions .streams) (dimensions .width) (length (now («first_nodes» .entry))) (now (key .entry)) (now (prepared .entry)) → Extended (storeOf (now (kinds .entry)) (now (values .entry)) (now (starts .entry)) (now (relations .entry)) (now (lefts .entry)) (now (rights .entry)) (now («first_nodes» .entry)) (now («letter_values» .entry)) (dimensions .streams) (dimensions .ahead) (dimensions .width)) (now (key .entry)) letter r (now (fresh .exit)) × Prepared (now («letter_values» .entry)) (dimensions .streams) (dimensions .width) (length (now («first_nodes» .entry))) (now (key .entry)) (now (prepared .exit))) ⌝ }
+    ensures { λ r. ⌜ Extends (storeOf (now (kinds .entry)) (now (values .entry)) (now (starts .entry)) (now (relations .entry)) (now (lefts .entry)) (now (rights .entry)) (now («first_nodes» .entry)) (now («letter_values» .entry)) (dimensions .streams) (dimensions .ahead) (dimensions .width)) (now (key .entry)) letter (now (prepared .entry)) (now (fresh .entry)) (now (prepared .exit)) (now (fresh .exit)) r ⌝ }
 {
-    if !has_room(key.len(), prepared.len(), fresh.len()) {
+    if !has_sizes(key.len(), prepared.len(), fresh.len()) {
         return false;
     }
     let few = bounded(dimensions);
     let streams = few.streams;
-    let count = fewer(fewer(relations.len(), 32), fewer(lefts.len(), rights.len()));
-    let firsts_count = fewer(first_nodes.len(), 8);
+    let count = fewer(
+        fewer(relations.len(), CONSTRAINT_BOUND),
+        fewer(lefts.len(), rights.len()),
+    );
+    let firsts_count = fewer(first_nodes.len(), FIRST_BOUND);
     let size = key[0] as usize;
     let held = fewer(size, few.width);
     add_letter(prepared, letter_values, streams, held, letter);
     let letters_end = held + 1;
     let window_end = letters_end * streams;
-    let numbers_end = 7 + firsts_count;
-    let firsts_end = 56 + firsts_count;
-    let marks = key[15];
+    let numbers_end = FIRSTS_PLACE + firsts_count;
+    let firsts_end = WINDOW_ROOM + firsts_count;
+    let marks = key[MARKS_PLACE];
     let known = &prepared[..];
     finish(
         kinds,
@@ -304,13 +336,13 @@ pub fn extend(
         &rights[..count],
         &first_nodes[..firsts_count],
         &known[..window_end],
-        &known[56..firsts_end],
+        &known[WINDOW_ROOM..firsts_end],
         &key[1..letters_end],
         letter,
         few,
         size,
         marks,
-        &key[7..numbers_end],
+        &key[FIRSTS_PLACE..numbers_end],
         fresh,
     )
 }

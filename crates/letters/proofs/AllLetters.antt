@@ -71,18 +71,18 @@ module _ (lows highs out : List ℤ) where
   filled n = lettersBelow streams n ++ drop (n * length streams) out
 
   -- The two parts of the answer: whether there is room, and the list.
-  abbrev Answer : Bool → List ℤ → Type 0
-  Answer r l = (r ≡ hasRoom streams (length out)) × (l ≡ withLetters streams out)
+  abbrev FillAnswer : Bool → List ℤ → Type 0
+  FillAnswer r l = (r ≡ hasRoom streams (length out)) × (l ≡ withLetters streams out)
 
-  none-of : hasRoom streams (length out) ≡ false → Answer false out
+  none-of : hasRoom streams (length out) ≡ false → FillAnswer false out
   unfolding withLetters
   none-of e = (sym e, sym (simp e))
 
-  all-of : hasRoom streams (length out) ≡ true → Answer true (filled count)
+  all-of : hasRoom streams (length out) ≡ true → FillAnswer true (filled count)
   unfolding withLetters
   all-of e = (sym e, sym (simp e))
 
-  pub too-many : {r : ℕ} → r ≡ cutCount count → 1024 < r → Answer false out
+  pub too-many : {r : ℕ} → r ≡ cutCount count → 1024 < r → FillAnswer false out
   unfolding hasRoom
   too-many e h = none-of (simp (lt-leb count letterBound (omega arith)))
 
@@ -92,7 +92,7 @@ module _ (lows highs out : List ℤ) where
   filled-start = ap (λ x. drop x out) (sym (zero-mul (length streams)))
 
   module _ {r : ℕ} (e : r ≡ cutCount count) (h : r ≤ 1024) where
-    pub no-letter : r ≡ 0 → Answer true out
+    pub no-letter : r ≡ 0 → FillAnswer true out
     no-letter z =
         let n : 0 ≡ count = omega arith in
         let w : count * length streams ≤ length out = omega (arith, ap (λ x. x * length streams) n, zero-mul (length streams)) in
@@ -108,7 +108,7 @@ module _ (lows highs out : List ℤ) where
       turned : n * r ≡ count * length streams
       turned = (λ i. width i * exact i) ∙ mul-comm (length streams) count
 
-      pub no-room : length out / r < n → Answer false out
+      pub no-room : length out / r < n → FillAnswer false out
       unfolding hasRoom
       no-room l =
           let b : length out < n * r = div-lt-iff-lt-mul {k = r} {x = length out} {y = n} (omega arith) .0 l in
@@ -150,7 +150,7 @@ module _ (lows highs out : List ℤ) where
             ∙ ap (λ x. first ++ (letterOf streams a ++ x)) (drop-drop k (a * k) out ∙ ap (λ x. drop x out) (sym (suc-mul a k)))
             ∙ sym (append-assoc first (letterOf streams a) (drop (suc a * k) out))
 
-        pub all-filled : {now : List ℤ} {a : ℕ} → a ≡ r → now ≡ filled a → Answer true now
+        pub all-filled : {now : List ℤ} {a : ℕ} → a ≡ r → now ≡ filled a → FillAnswer true now
         all-filled s f = let t = all-of (room-there streams (length out) (omega arith) fits) in (t .0, f ∙ ap filled (s ∙ exact) ∙ t .1)
 
 -- ---- the sheet's streams

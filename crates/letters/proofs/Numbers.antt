@@ -154,24 +154,24 @@ module _ (lows highs : List ℤ) where
     streams = described lows highs
 
     -- The two parts of the answer: whether the letter is there, and the list.
-    abbrev Answer : Bool → List ℤ → Type 0
-    Answer r l = (r ≡ hasLetter streams number (length out)) × (l ≡ withLetter streams number out)
+    abbrev ValuesAnswer : Bool → List ℤ → Type 0
+    ValuesAnswer r l = (r ≡ hasLetter streams number (length out)) × (l ≡ withLetter streams number out)
 
-    none-of : hasLetter streams number (length out) ≡ false → Answer false out
+    none-of : hasLetter streams number (length out) ≡ false → ValuesAnswer false out
     unfolding withLetter
     none-of e = (sym e, sym (simp e))
 
-    pub too-many : {r : ℕ} → r ≡ cutCount (letterCount streams) → 1024 < r → Answer false out
+    pub too-many : {r : ℕ} → r ≡ cutCount (letterCount streams) → 1024 < r → ValuesAnswer false out
     unfolding hasLetter
     too-many e h = none-of (simp (lt-leb (letterCount streams) letterBound (omega arith)))
 
     module _ {r : ℕ} (e : r ≡ cutCount (letterCount streams)) (h : r ≤ 1024) where
-      pub not-number : r ≤ number → Answer false out
+      pub not-number : r ≤ number → ValuesAnswer false out
       unfolding hasLetter
       not-number k = none-of (simp (le-leb (letterCount streams) letterBound (omega arith), le-ltb number (letterCount streams) (omega arith)))
 
       module _ (k : number < r) where
-        pub no-room : {n : ℕ} → n ≡ width → length out < n → Answer false out
+        pub no-room : {n : ℕ} → n ≡ width → length out < n → ValuesAnswer false out
         unfolding hasLetter
         no-room q l =
             let d = length-described lows highs in
@@ -180,7 +180,7 @@ module _ (lows highs : List ℤ) where
         pub some-letter : (0 < count 0) × (count 0 ≤ 1024)
         some-letter = (omega arith, omega arith)
 
-        pub all-written : {n : ℕ} → n ≡ width → n ≤ length out → {l : List ℤ} {i : ℕ} → i ≡ 0 → l ≡ written number out i → Answer true l
+        pub all-written : {n : ℕ} → n ≡ width → n ≤ length out → {l : List ℤ} {i : ℕ} → i ≡ 0 → l ≡ written number out i → ValuesAnswer true l
         unfolding hasLetter withLetter
         all-written q b {l} {i} z w =
             let d = length-described lows highs in

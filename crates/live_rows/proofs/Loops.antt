@@ -9,7 +9,7 @@ use native.Mathlib.Decide.{ℕ-discrete, decLt}
 use lib.ListN.{getD, length, set, replicate, length-set, List·getD-eq-default}
 use Rattle.automaton.specs.Table.{IsFlag}
 use Rattle.marks.specs.Marks.{Marked, Pruned, Grown, IfFits}
-use Rattle.marks.proofs.Lists.{below-set, set-other}
+use Rattle.basics.proofs.Lists.{below-set, set-other}
 use Rattle.live_rows.specs.Sets.{IsFlagged, FindsLive, IsSet, LiveWithout, SameBeyond, FindsFinals}
 
 -- a set gets its next row

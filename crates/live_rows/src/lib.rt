@@ -3,7 +3,7 @@
 ghost use mathlib.Core.Path.{_≡_};
 ghost use Prim.Native.Nat.{_*_, _≤_};
 ghost use lib.ListN.{length};
-ghost use Rattle.marks.specs.Answers.{Says};
+ghost use Rattle.basics.specs.Answers.{Says};
 ghost use Rattle.live_rows.specs.Sets.{IsFlagged, IsSet, LiveWithout, SameBeyond, LiveOutcome, FinalsOutcome};
 
 // Whether tables of `entries` and `flags` numbers have room for the rows.
@@ -13,7 +13,7 @@ fn has_room(rows: usize, letters: usize, entries: usize, flags: usize) -> bool
     if flags < rows {
         return false;
     }
-    marks::rows_fit(rows, letters, entries)
+    basics::rows_fit(rows, letters, entries)
 }
 
 // Clears the mark of each row whose flag is not 1.
@@ -38,7 +38,7 @@ pub fn find_live(entries: &[u16], flags: &[u8], letters: usize, live: &mut [u32]
     if !has_room(live.len(), letters, entries.len(), flags.len()) {
         return;
     }
-    marks::fill(live, 1);
+    basics::fill(live, 1);
     marks::prune(entries, letters, live);
     keep_flagged(flags, live);
     marks::grow(entries, letters, live);

@@ -1,49 +1,14 @@
--- What an answer says, where a row's entries lie, and what clearing or setting one mark does to a set of marks. From the definitions
+-- What clearing or setting one mark does to a set of marks. From the definitions
 -- of marks alone.
 use mathlib.Core.Path.{_≡_, refl, sym, _∙_}
 use mathlib.Core.Logic.{_⊎_, inl, inr, ⊎-elim, _≢_}
-use mathlib.Core.Bool.{Bool, true, false}
 use mathlib.Core.List.{List, [], _∷_}
-use Prim.Native.Nat.{ℕ, zero, suc, _+_, _*_, _≤_, _<_}
-use native.Mathlib.Nat.{mul-le-mul-right, suc-mul}
+use Prim.Native.Nat.{ℕ, zero, suc, _<_}
 use native.Mathlib.Omega.{arith}
 use native.Mathlib.Decide.{ℕ-discrete}
 use lib.ListN.{length, getD, set}
 use lib.Seq.{getD-set-same, getD-set-other}
-use Rattle.marks.specs.Answers.{Says}
 use Rattle.marks.specs.Marks.{Marked, OnlyCleared, OnlyMarked}
-
--- answers
-
-pub says-yes : {b : Bool} {P : Type 0} → b ≡ true → Says b P → P
-says-yes e h = rw e at h
-
-pub says-no : {b : Bool} {P : Type 0} → b ≡ false → Says b P → ¬ P
-says-no e h = rw e at h
-
--- A property that holds has the answer true.
-pub says-holds : {P : Type 0} (b : Bool) → Says b P → P → b ≡ true
-says-holds true h p = refl
-says-holds false h p = absurd (h p)
-
--- The answer from what it means in either case.
-pub says-either : (b : Bool) {P : Type 0} → (b ≡ true → P) → (b ≡ false → ¬ P) → Says b P
-says-either true f g = f refl
-says-either false f g = g refl
-
--- A property that is the same as another has its answer.
-pub says-both : (b : Bool) {P Q : Type 0} → (P → Q) → (Q → P) → Says b P → Says b Q
-says-both true f g h = f h
-says-both false f g h = λ q. h (g q)
-
--- rows
-
--- row s lies within n rows
-pub row-fits : (s n letters room : ℕ) → s < n → n * letters ≤ room → s * letters + letters ≤ room
-row-fits s n letters room h g =
-    let step : suc s * letters ≤ n * letters = mul-le-mul-right letters h in
-    let e : suc s * letters ≡ s * letters + letters = suc-mul s letters in
-    omega arith
 
 -- marks
 

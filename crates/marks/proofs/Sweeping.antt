@@ -12,10 +12,11 @@ use lib.ListN.{length, getD, set, length-set}
 use lib.Seq.{getD-set-other}
 use lib.Dec.{eqb}
 use borrow.Author.Tests.{eqb-true, eqb-false}
-use Rattle.marks.specs.Answers.{Says}
-use Rattle.marks.specs.Marks.{Marked, target, Supported, Ends, ends, Leads, here, there}
-use Rattle.marks.specs.Sweeps.{mark, differ, rows-left, Settled, Grows, Prunes, Turns, Outcome, Swept, Closed}
-use Rattle.marks.proofs.Laws.{says-yes, says-no, marked-inside, cleared-refl, cleared-trans, cleared-set, marked-refl, marked-trans, marked-set}
+use Rattle.basics.proofs.Answers.{says-yes, says-no}
+use Rattle.basics.specs.Answers.{Says}
+use Rattle.marks.specs.Marks.{Marked, target, Supported, Ends, ends, LeadsToMarked, here, there}
+use Rattle.marks.specs.Sweeps.{mark, differ, rowsLeft, SweepSettled, Grows, Prunes, Turns, SweepOutcome, Swept, Closed}
+use Rattle.marks.proofs.Laws.{marked-inside, cleared-refl, cleared-trans, cleared-set, marked-refl, marked-trans, marked-set}
 
 -- ---- tests and counts
 
@@ -32,14 +33,14 @@ beq-other false true e = refl
 beq-other false false e = sym e
 
 -- turning one row leaves one row fewer
-fewer-left : (to : Bool) (marks : List ℕ) (s : ℕ) → s < length marks → Bool·beq (eqb (getD marks s 0) 1) to ≡ false → suc (rows-left to (set marks s (mark to))) ≡ rows-left to marks
+fewer-left : (to : Bool) (marks : List ℕ) (s : ℕ) → s < length marks → Bool·beq (eqb (getD marks s 0) 1) to ≡ false → suc (rowsLeft to (set marks s (mark to))) ≡ rowsLeft to marks
 fewer-left to [] s h e = absurd (not-suc-le-zero h)
 fewer-left to (x ∷ xs) zero h e = go to (eqb x 1) e
   where
-    go : (to b : Bool) → Bool·beq b to ≡ false → suc (differ (eqb (mark to) 1) to + rows-left to xs) ≡ differ b to + rows-left to xs
+    go : (to b : Bool) → Bool·beq b to ≡ false → suc (differ (eqb (mark to) 1) to + rowsLeft to xs) ≡ differ b to + rowsLeft to xs
     go true b e = rw (beq-other b true e) (omega arith)
     go false b e = rw (beq-other b false e) (omega arith)
-fewer-left to (x ∷ xs) (suc s) h e = let g : suc (rows-left to (set xs s (mark to))) ≡ rows-left to xs = fewer-left to xs s (omega arith) e in omega arith
+fewer-left to (x ∷ xs) (suc s) h e = let g : suc (rowsLeft to (set xs s (mark to))) ≡ rowsLeft to xs = fewer-left to xs s (omega arith) e in omega arith
 
 -- ---- clearing
 
@@ -72,14 +73,14 @@ module _ {letters : ℕ} {entries : List ℕ} where
 
   -- ---- marking
 
-  leads-through : {first old : List ℕ} → length old ≡ length first → ((t : ℕ) → Marked old t → Leads letters entries first t) → {s : ℕ} → Leads letters entries old s → Leads letters entries first s
+  leads-through : {first old : List ℕ} → length old ≡ length first → ((t : ℕ) → Marked old t → LeadsToMarked letters entries first t) → {s : ℕ} → LeadsToMarked letters entries old s → LeadsToMarked letters entries first s
   leads-through e r {s} (here m) = r s m
   leads-through e r (there a ha h l) = there a ha (rw e at h) (leads-through e r l)
 
   grows-one : {marks : List ℕ} (s : ℕ) → s < length marks → ¬ Marked marks s → Supported letters entries marks s → Grows letters entries marks (set marks s 1)
   grows-one {marks} s h n p = record { marked = marked-set marks s h n; reason = λ t m. reason t m (ℕ-discrete t s) }
     where
-      reason : (t : ℕ) → Marked (set marks s 1) t → Dec (t ≡ s) → Leads letters entries marks t
+      reason : (t : ℕ) → Marked (set marks s 1) t → Dec (t ≡ s) → LeadsToMarked letters entries marks t
       reason t m (yes q) = rw q (there (p .letter) (p .is-letter) (marked-inside marks (target letters entries s (p .letter)) (p .marked)) (here (p .marked)))
       reason t m (no q) = here (sym (getD-set-other marks s t 1 0 q) ∙ m)
 
@@ -98,16 +99,16 @@ module _ (letters : ℕ) (entries : List ℕ) where
   turns-then false first old new e p q = prunes-then p q
 
   -- nothing is to be turned where the row's mark is `to`
-  pub settled-mark : (to : Bool) (marks : List ℕ) (s : ℕ) → Bool·beq (eqb (getD marks s 0) 1) to ≡ true → Settled to letters entries marks s
+  pub settled-mark : (to : Bool) (marks : List ℕ) (s : ℕ) → Bool·beq (eqb (getD marks s 0) 1) to ≡ true → SweepSettled to letters entries marks s
   settled-mark true marks s e = λ p. eqb-true (getD marks s 0) 1 (beq-same _ _ e)
   settled-mark false marks s e = λ m. absurd (eqb-false (getD marks s 0) 1 (beq-same _ _ e) m)
 
   -- nor where it has a marked successor, or none, other than `to` asks
-  pub settled-successor : (to found : Bool) (marks : List ℕ) (s : ℕ) → Bool·beq found to ≡ false → Says found (Supported letters entries marks s) → Settled to letters entries marks s
+  pub settled-successor : (to found : Bool) (marks : List ℕ) (s : ℕ) → Bool·beq found to ≡ false → Says found (Supported letters entries marks s) → SweepSettled to letters entries marks s
   settled-successor true found marks s e h = λ p. absurd (says-no (beq-other found true e) h p)
   settled-successor false found marks s e h = λ m. says-yes (beq-other found false e) h
 
-  pub swept-keep : (to : Bool) (marks : List ℕ) (s : ℕ) → Settled to letters entries marks s → Swept to letters entries (λ t. t ≡ s) marks marks false
+  pub swept-keep : (to : Bool) (marks : List ℕ) (s : ℕ) → SweepSettled to letters entries marks s → Swept to letters entries (λ t. t ≡ s) marks marks false
   swept-keep to marks s f = record { same = refl; turns = turns-none to marks; outcome = (refl, λ t q. rw q f) }
 
   pub swept-turn : (to found : Bool) (marks : List ℕ) (s : ℕ) → s < length marks → Bool·beq (eqb (getD marks s 0) 1) to ≡ false → Bool·beq found to ≡ true → Says found (Supported letters entries marks s)
@@ -126,7 +127,7 @@ module _ {letters : ℕ} {entries : List ℕ} where
   swept-none to marks n = record { same = refl; turns = turns-none letters entries to marks; outcome = (refl, λ s h. absurd (n s h)) }
 
   -- a sweep that turned something leaves fewer rows to turn
-  pub swept-fewer : {to : Bool} {Seen : ℕ → Type 0} {old new : List ℕ} {changed : Bool} → changed ≡ true → Swept to letters entries Seen old new changed → rows-left to new < rows-left to old
+  pub swept-fewer : {to : Bool} {Seen : ℕ → Type 0} {old new : List ℕ} {changed : Bool} → changed ≡ true → Swept to letters entries Seen old new changed → rowsLeft to new < rowsLeft to old
   swept-fewer {to} {Seen} {old} {new} e r = let q : Swept to letters entries Seen old new true = rw e at r in q .outcome
 
   -- the rows of P, and then those of Q: where these turned something, and where they did not
@@ -134,14 +135,14 @@ module _ {letters : ℕ} {entries : List ℕ} where
     pub swept-turned : d ≡ true → Swept to letters entries R first new true
     swept-turned e = record { same = q .same ∙ p .same; turns = turns-then letters entries to first old new (p .same) (p .turns) (q .turns); outcome = outcome c (p .outcome) (swept-fewer e q) }
       where
-        outcome : (c : Bool) → Outcome c to letters entries P first old → rows-left to new < rows-left to old → rows-left to new < rows-left to first
+        outcome : (c : Bool) → SweepOutcome c to letters entries P first old → rowsLeft to new < rowsLeft to old → rowsLeft to new < rowsLeft to first
         outcome true a b = omega arith
         outcome false a b = rw (a .0) at b
 
     pub swept-kept : d ≡ false → Swept to letters entries R first new c
     swept-kept e = record { same = q .same ∙ p .same; turns = turns-then letters entries to first old new (p .same) (p .turns) (q .turns); outcome = outcome c (p .outcome) (rw e at q) }
       where
-        outcome : (c : Bool) → Outcome c to letters entries P first old → Swept to letters entries Q old new false → Outcome c to letters entries R first new
+        outcome : (c : Bool) → SweepOutcome c to letters entries P first old → Swept to letters entries Q old new false → SweepOutcome c to letters entries R first new
         outcome true a b = rw (b .outcome .0) a
         outcome false a b = (b .outcome .0 ∙ a .0, λ s r. ⊎-elim (λ h. a .1 s h) (λ h. rw (a .0) at (b .outcome .1 s h)) (f s r))
 
@@ -149,7 +150,7 @@ module _ {letters : ℕ} {entries : List ℕ} where
   pub swept-seen : {to : Bool} {P Q : ℕ → Type 0} {old new : List ℕ} {changed : Bool} → ((s : ℕ) → Q s → P s) → Swept to letters entries P old new changed → Swept to letters entries Q old new changed
   swept-seen {to} {P} {Q} {old} {new} {changed} f p = record { same = p .same; turns = p .turns; outcome = outcome changed (p .outcome) }
     where
-      outcome : (b : Bool) → Outcome b to letters entries P old new → Outcome b to letters entries Q old new
+      outcome : (b : Bool) → SweepOutcome b to letters entries P old new → SweepOutcome b to letters entries Q old new
       outcome true a = a
       outcome false a = (a .0, λ s h. a .1 s (f s h))
 

@@ -29,9 +29,9 @@ pub data Ends (letters : ℕ) (entries marks : List ℕ) : ℕ → Type 0 where
   ends : {s : ℕ} → ((a : ℕ) → a < letters → Marked marks (target letters entries s a) → Ends letters entries marks (target letters entries s a)) → Ends letters entries marks s
 
 -- some path through rows leads from s to a marked row
-pub data Leads (letters : ℕ) (entries marks : List ℕ) : ℕ → Type 0 where
-  here : {s : ℕ} → Marked marks s → Leads letters entries marks s
-  there : {s : ℕ} (a : ℕ) → a < letters → target letters entries s a < length marks → Leads letters entries marks (target letters entries s a) → Leads letters entries marks s
+pub data LeadsToMarked (letters : ℕ) (entries marks : List ℕ) : ℕ → Type 0 where
+  here : {s : ℕ} → Marked marks s → LeadsToMarked letters entries marks s
+  there : {s : ℕ} (a : ℕ) → a < letters → target letters entries s a < length marks → LeadsToMarked letters entries marks (target letters entries s a) → LeadsToMarked letters entries marks s
 
 -- a row is as it was, or was marked and is 0
 pub record OnlyCleared (old new : List ℕ) : Type 0 where
@@ -52,7 +52,7 @@ pub record Pruned (letters : ℕ) (entries old new : List ℕ) : Type 0 where
 pub record Grown (letters : ℕ) (entries old new : List ℕ) : Type 0 where
   pub marked : OnlyMarked old new
   pub closed : (s : ℕ) → s < length new → Supported letters entries new s → Marked new s
-  pub reason : (s : ℕ) → Marked new s → Leads letters entries old s
+  pub reason : (s : ℕ) → Marked new s → LeadsToMarked letters entries old s
 
 -- What holds in either case of a condition that is tested: P where the rows fit, and else nothing changed.
 pub record IfFits (letters : ℕ) (entries old new : List ℕ) (P : Type 0) : Type 0 where

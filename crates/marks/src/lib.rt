@@ -1,73 +1,12 @@
 // Sets of rows of a stored graph: a number for each row, 1 where the row is marked. Each row of the graph has one entry for each
-// letter; an entry that is no row's number names no row. And lists that are filled, copied into or cleared.
+// letter; an entry that is no row's number names no row.
+use basics::rows_fit;
 ghost use mathlib.Core.Path.{_≡_};
 ghost use Prim.Native.Nat.{_+_, _*_, _<_, _≤_};
 ghost use lib.ListN.{length, getD, replicate};
-ghost use Rattle.marks.specs.Answers.{Says};
-ghost use Rattle.marks.specs.Clearing.{ClearedFrom};
-ghost use Rattle.marks.specs.Copying.{Put};
+ghost use Rattle.basics.specs.Answers.{Says};
 ghost use Rattle.marks.specs.Marks.{HasMarked, Pruned, Grown, IfFits};
 ghost use Rattle.marks.specs.Sweeps.{Swept, Closed};
-
-// Whether `rows` rows of `letters` entries fit into `room` entries. Tested by a division, since the product can be too large.
-pub fn rows_fit(rows: usize, letters: usize, room: usize) -> bool
-    ensures { λ r. ⌜ Says r (rows * letters ≤ room) ⌝ }
-{
-    if letters == 0 {
-        return true;
-    }
-    rows <= room / letters
-}
-
-// Sets every number of the list to `value`.
-pub fn fill(list: &mut [u32], value: u32)
-    ensures { λ r. ⌜ now (list .exit) ≡ replicate (length (now (list .entry))) value ⌝ }
-{
-    let mut i = 0;
-    while i < list.len() {
-        list[i] = value;
-        i += 1;
-    }
-}
-
-// Copies numbers into the list from a place on. If they do not fit there, nothing changes.
-pub fn put(list: &mut [u32], at: usize, numbers: &[u32])
-    ensures { λ r. ⌜ Put (now (list .entry)) at (now (numbers .entry)) (now (list .exit)) ⌝ }
-{
-    if list.len() < at {
-        return;
-    }
-    if list.len() - at < numbers.len() {
-        return;
-    }
-    let mut i = 0;
-    while i < numbers.len() {
-        list[at + i] = numbers[i];
-        i += 1;
-    }
-}
-
-// Sets every entry from `from` on to 0.
-pub fn clear_entries(list: &mut [u16], from: usize)
-    ensures { λ r. ⌜ ClearedFrom (now (list .entry)) (now (list .exit)) from ⌝ }
-{
-    let mut i = from;
-    while i < list.len() {
-        list[i] = 0;
-        i += 1;
-    }
-}
-
-// Sets every byte from `from` on to 0.
-pub fn clear_bytes(list: &mut [u8], from: usize)
-    ensures { λ r. ⌜ ClearedFrom (now (list .entry)) (now (list .exit)) from ⌝ }
-{
-    let mut i = from;
-    while i < list.len() {
-        list[i] = 0;
-        i += 1;
-    }
-}
 
 // The number of the row that an entry names, 0 for none.
 pub fn number_at(numbers: &[u32], entry: u16) -> u32

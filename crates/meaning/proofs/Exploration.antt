@@ -71,7 +71,7 @@ module _ (s : Sheet) where
       record { lawfulRecord = h .lawfulRecord ++ (x ∷ []); letters = OfLetters-snoc ss (h .lawfulRecord) x (h .letters) (letterOf-letter ss a l); isLawful = p .0; same = p .1 }
 
   -- A list of situations, each once, that of the empty record among them.
-  pub record Explored (list : List Situation) : Type 0 where
+  pub record AllReached (list : List Situation) : Type 0 where
     pub distinct : NoRepeats list
     pub found : (t : Situation) → List·Memᴰ t list → IsSituation s t
     pub start : List·Memᴰ (situation cs []) list
@@ -102,7 +102,7 @@ module _ (s : Sheet) where
     closed-every m t h = Memᴰ·cast (sym (h .same)) (reaches (h .lawfulRecord) [] (h .letters) (h .isLawful) m)
 
     -- A closed list that has been explored counts the situations.
-    pub closed-count : Explored list → SituationCount s (length list)
+    pub closed-count : AllReached list → SituationCount s (length list)
     closed-count x = record { list = list; distinct = x .distinct; found = x .found; every = closed-every (x .start); count = refl }
 
   -- Where the successor of t by the letter a is a situation that is not in the list, and where it is in the list if there is one.
@@ -135,7 +135,7 @@ module _ (s : Sheet) where
       go (inl f) = inl (record { old = f .0; member = f .1; letter = f .2 .0; below = f .2 .1; leads = f .2 .2 })
       go (inr h) = inr (record { holds = h })
 
-  grow : (list : List Situation) → Explored list → (w : WayOut list) → Explored (w .leads .0 ∷ list)
+  grow : (list : List Situation) → AllReached list → (w : WayOut list) → AllReached (w .leads .0 ∷ list)
   grow list x w = record { distinct = (w .leads .2, x .distinct); found = found; start = List·Memᴰ·tail (x .start) }
     where
       found : (t : Situation) → List·Memᴰ t (w .leads .0 ∷ list) → IsSituation s t
@@ -146,7 +146,7 @@ module _ (s : Sheet) where
   abbrev pub CountedOrMore : ℕ → Type 0
   CountedOrMore r = ((m : ℕ) × (m ≤ r) × SituationCount s m) ⊎ MoreSituations s r
 
-  explore : (r rounds : ℕ) (list : List Situation) → Explored list → length list + rounds ≡ suc r → CountedOrMore r
+  explore : (r rounds : ℕ) (list : List Situation) → AllReached list → length list + rounds ≡ suc r → CountedOrMore r
   explore r zero list x e = inr (record { list = list; distinct = x .distinct; found = x .found; longer = omega arith })
   explore r (suc rounds) list x e = go (λ w. explore r rounds (w .leads .0 ∷ list) (grow list x w) (omega arith)) (search-round list)
     where

@@ -15,7 +15,7 @@ use Rattle.automaton.specs.Fixpoints.{SomeEdge, Terminating, IsEndlessSet, Reac
 use Rattle.automaton.specs.Fixpoints.{ends as terminates, here as reached, there as leads-on}
 use Rattle.automaton.proofs.Flags.{flag-set, flag-holds}
 use Rattle.automaton.proofs.Fixpoints.{fixpoints-analysis}
-use Rattle.marks.specs.Marks.{Marked, target, Ends, ends, Leads, here, there}
+use Rattle.marks.specs.Marks.{Marked, target, Ends, ends, LeadsToMarked, here, there}
 use Rattle.marks.proofs.Laws.{marked-inside, cleared-marked}
 use Rattle.marks.specs.Tests.{isMarked}
 use Rattle.refine.specs.Classes.{edges, Refined}
@@ -79,7 +79,7 @@ module _ {entries flags : List ℕ} {letters rows : ℕ} (g : IsStoredGraph entr
       reason = λ s hs n. terminating (L .pruned .reason s (all-marked s hs) λ m. T-not (isMarked (L .kept) s) n (marked-test (L .kept) s m));
     }
 
-    reaches : {s : ℕ} → Leads letters entries (L .flagged) s → Reaches (storedGraph g) (isMarked (L .kept)) s
+    reaches : {s : ℕ} → LeadsToMarked letters entries (L .flagged) s → Reaches (storedGraph g) (isMarked (L .kept)) s
     reaches {s} (here m) = let p = flagged-both (L .is-flagged) s .0 m in reached (marked-test (L .kept) s (p .0)) (marked-test flags s (p .1))
     reaches {s} (there a ha h l) = let q : entryAt letters entries s a < rows = omega (arith, h, L .flagged-length) in leads-on a ha q (reaches l)
 

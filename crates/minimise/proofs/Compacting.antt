@@ -8,8 +8,7 @@ use native.Mathlib.Omega.{arith}
 use native.Mathlib.Decide.{ℕ-discrete}
 use lib.ListN.{getD, length, set, length-set}
 use lib.Seq.{getD-set-same}
-use Rattle.marks.proofs.Laws.{row-fits}
-use Rattle.marks.proofs.Lists.{below-set, set-other}
+use Rattle.basics.proofs.Lists.{below-set, set-other, row-fits}
 use Rattle.minimise.specs.Compacting.{IsNumbered, IsState, IsMoved, IsCompacted}
 
 -- numbering

@@ -6,10 +6,10 @@ use Prim.Native.Nat.{ℕ, _+_, _*_, _≤_}
 use native.Mathlib.Nat.{mul-le-mul-right, zero-mul}
 use native.Mathlib.Omega.{arith}
 use lib.ListN.{length}
+use Rattle.basics.proofs.Lists.{row-fits}
 use Rattle.automaton.proofs.Transfer.{rows-table}
-use Rattle.marks.proofs.Laws.{row-fits}
-use Rattle.marks.specs.Clearing.{ClearedFrom}
-use Rattle.marks.proofs.Clearing.{all-zero}
+use Rattle.basics.specs.Clearing.{ClearedFrom}
+use Rattle.basics.proofs.Clearing.{all-zero}
 use Rattle.minimise.specs.Outcome.{GraphTables, cleared, IsRefusal, MinimiseOutcome}
 use Rattle.minimise.specs.Reducing.{Ran}
 

@@ -22,7 +22,7 @@ use Rattle.stored_graph.specs.StoredGraph.{IsStoredGraph, storedGraph}
 use Rattle.live_rows.specs.Sets.{FindsLive, LiveWithout, FindsFinals}
 use Rattle.minimise.specs.Compacting.{IsNumbered, IsNameable, IsCompacted}
 use Rattle.minimise.specs.Outcome.{WorkHasRoom}
-use Rattle.minimise.specs.Reducing.{Wordless, HasWord, Judged, Tabled, Refused, Ran}
+use Rattle.minimise.specs.Reducing.{Wordless, HasWord, Judged, Tabled, ReductionRefused, Ran}
 use Rattle.minimise.proofs.Analysis.{kept-endless, live-set, class-partition, passes-analysis}
 use Rattle.minimise.proofs.Renumbering.{renumbering}
 
@@ -102,7 +102,7 @@ module _ {entries flags : List ℕ} {letters r rows : ℕ} {work : List (List �
   pub judged-ran : {refusal : ℕ} {live entries′ flags′ : List ℕ} → ¬ (refusal ≡ 0) → Judged entries flags letters r refusal live → Ran entries flags letters rows work refusal 0 entries′ flags′
   judged-ran {refusal} {live} n J = inl (refl, go (subst (λ x. Judged entries flags letters x refusal live) e J))
     where
-      go : Judged entries flags letters rows refusal live → Refused entries flags letters rows work refusal
+      go : Judged entries flags letters rows refusal live → ReductionRefused entries flags letters rows work refusal
       go (inl x) = inl (record { no-room = λ a. x .no-graph (a .0); refused = x .refused })
       go (inr (inl x)) = inr (h, x)
       go (inr (inr x)) = absurd (n (x .0))

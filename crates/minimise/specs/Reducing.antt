@@ -44,9 +44,9 @@ pub record Rejected (entries flags : List ℕ) (letters rows : ℕ) (work : List
   pub refused : refusal ≡ 11
 
 -- no table: one of the two refusals
-abbrev pub Refused : (entries flags : List ℕ) (letters rows : ℕ) (work : List (List ℕ)) (refusal : ℕ) → Type 0
-Refused entries flags letters rows work refusal = Rejected entries flags letters rows work refusal ⊎ (WorkHasRoom rows work × Wordless entries flags letters rows refusal)
+abbrev pub ReductionRefused : (entries flags : List ℕ) (letters rows : ℕ) (work : List (List ℕ)) (refusal : ℕ) → Type 0
+ReductionRefused entries flags letters rows work refusal = Rejected entries flags letters rows work refusal ⊎ (WorkHasRoom rows work × Wordless entries flags letters rows refusal)
 
 abbrev pub Ran : (entries flags : List ℕ) (letters rows : ℕ) (work : List (List ℕ)) (refusal states : ℕ) (entries′ flags′ : List ℕ) → Type 0
 Ran entries flags letters rows work refusal states entries′ flags′ =
-    ((states ≡ 0) × Refused entries flags letters rows work refusal) ⊎ ((refusal ≡ 0) × (WorkHasRoom rows work × Tabled entries flags letters rows states entries′ flags′))
+    ((states ≡ 0) × ReductionRefused entries flags letters rows work refusal) ⊎ ((refusal ≡ 0) × (WorkHasRoom rows work × Tabled entries flags letters rows states entries′ flags′))

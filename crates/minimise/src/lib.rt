@@ -4,7 +4,7 @@ ghost use mathlib.Core.Path.{_≡_};
 ghost use mathlib.Core.List.{[], _∷_};
 ghost use Prim.Native.Nat.{_+_, _*_, _<_, _≤_};
 ghost use lib.ListN.{length};
-ghost use Rattle.marks.specs.Answers.{Says};
+ghost use Rattle.basics.specs.Answers.{Says};
 ghost use Rattle.minimise.specs.Outcome.{MinimiseOutcome};
 ghost use Rattle.minimise.specs.Compacting.{IsNumbered, IsState, IsNameable, IsMoved, IsCompacted};
 ghost use Rattle.minimise.specs.Reducing.{Judged, HasWord, Tabled, Ran};

@@ -150,7 +150,7 @@ pub data IsSide (cs : List Constraint) (c₀ : Constraint) (t₀ : StoredConstra
       → IsSide cs c₀ t₀ (rightSide (getD cs j c₀)) (getD (storedConstraints 0 0 cs) j t₀ .right) (firstsBefore 0 cs j + length (firsts (leftSide (getD cs j c₀))))
 
 -- What is known of such a side, whatever nodes stand behind the sheet's.
-record Known (s : Sheet) (behind : List Node) (e : Expression) (i f : ℕ) : Type 0 where
+record KnownNode (s : Sheet) (behind : List Node) (e : Expression) (i f : ℕ) : Type 0 where
   start : ℕ
   stored : StoredAt (nodesOf (allNodes 0 0 (s .constraints) ++ behind)) start f e (suc i)
   inside : i < length (allNodes 0 0 (s .constraints) ++ behind)
@@ -158,7 +158,7 @@ record Known (s : Sheet) (behind : List Node) (e : Expression) (i f : ℕ) : Typ
   bounds : All (λ f. InBounds (interval (s .streams) f)) (subexpressions e)
 
 known : {s : Sheet} (behind : List Node) (c₀ : Constraint) (t₀ : StoredConstraint) {e : Expression} {i f : ℕ} → Accepted s → IsSide (s .constraints) c₀ t₀ e i f
-    → Known s behind e i f
+    → KnownNode s behind e i f
 known {s} behind c₀ t₀ a (leftOf j b) =
     let m = getD-member (s .constraints) j c₀ b in
     let t = allNodes-stored (s .constraints) behind c₀ t₀ j b in

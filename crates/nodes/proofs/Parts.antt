@@ -30,6 +30,9 @@ module _ (starts : List ℕ) where
           by true e = omega (arith, leb-true s t e)
           by false e = omega arith
 
+  pub left-within : (i e : ℕ) → e ≤ i → leftEnd starts e ≤ i
+  left-within i e h = omega (arith, leftEnd-≤ e)
+
   -- The three answers that reading the list at the last node of a part can lead to.
   module _ (e : ℕ) (h : e ≡ 0 → ⊥) where
     at-last : (x : ℕ) → leftEnd starts (suc (e - 1)) ≡ x → x ≡ leftEnd starts e

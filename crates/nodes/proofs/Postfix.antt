@@ -250,3 +250,9 @@ module _ (c₀ : Constraint) (t₀ : StoredConstraint) where
       let r = right-inside 0 0 cs j b in
       let e = stored-ends (allNodes-stored cs [] c₀ t₀ j b .right) in
       (omega arith, omega arith)
+
+-- There is one stored constraint for each.
+pub stored-length : (n f : ℕ) (cs : List Constraint) → length (storedConstraints n f cs) ≡ length cs
+unfolding storedConstraints
+stored-length n f [] = refl
+stored-length n f (c ∷ cs) = ap suc (stored-length (n + length (sideNodes n f c)) (f + length (sideFirsts c)) cs)

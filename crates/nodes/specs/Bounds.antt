@@ -64,21 +64,21 @@ abbrev pub limited : ℕ → ℕ
 limited n = min n countLimit
 
 abbrev pub noSummary : Summary
-noSummary = record { range = noRange; reach = 0; back = 0; firsts = 0; ahead = 0 }
+noSummary = record { range = noRange; reach = 0; back = 0; firsts = 0; furthest = 0 }
 
 -- "Reach: 0 for a name or integer"; "Back: 0 for a name, an integer and `first`".
 abbrev pub leafSummary : Range → Summary
-leafSummary r = record { range = r; reach = 0; back = 0; firsts = 0; ahead = 0 }
+leafSummary r = record { range = r; reach = 0; back = 0; firsts = 0; furthest = 0 }
 
 abbrev pub firstSummary : Summary → Summary
-firstSummary a = record { range = a .range; reach = a .reach; back = 0; firsts = limited (suc (a .firsts)); ahead = max (a .reach) (a .ahead) }
+firstSummary a = record { range = a .range; reach = a .reach; back = 0; firsts = limited (suc (a .firsts)); furthest = max (a .reach) (a .furthest) }
 
 -- "`next` adds 1"; "`next` takes 1 off, not below 0".
 abbrev pub nextSummary : Summary → Summary
-nextSummary a = record { range = a .range; reach = limited (suc (a .reach)); back = a .back - 1; firsts = a .firsts; ahead = a .ahead }
+nextSummary a = record { range = a .range; reach = limited (suc (a .reach)); back = a .back - 1; firsts = a .firsts; furthest = a .furthest }
 
 abbrev pub negationSummary : Summary → Summary
-negationSummary a = record { range = truthRange (a .range); reach = a .reach; back = a .back; firsts = a .firsts; ahead = a .ahead }
+negationSummary a = record { range = truthRange (a .range); reach = a .reach; back = a .back; firsts = a .firsts; furthest = a .furthest }
 
 -- "otherwise the largest of the parts"
 abbrev pub operatorSummary : ℕ → Summary → Summary → Summary
@@ -88,7 +88,7 @@ operatorSummary k a b =
       reach = max (a .reach) (b .reach);
       back = max (a .back) (b .back);
       firsts = limited (a .firsts + b .firsts);
-      ahead = max (a .ahead) (b .ahead);
+      furthest = max (a .furthest) (b .furthest);
     }
 
 abbrev pub conditionalSummary : Summary → Summary → Summary → Summary
@@ -98,7 +98,7 @@ conditionalSummary c a b =
       reach = max (c .reach) (max (a .reach) (b .reach));
       back = max (c .back) (max (a .back) (b .back));
       firsts = limited (c .firsts + limited (a .firsts + b .firsts));
-      ahead = max (c .ahead) (max (a .ahead) (b .ahead));
+      furthest = max (c .furthest) (max (a .furthest) (b .furthest));
     }
 
 -- "`fby` is the larger of the left's reach and the right's less 1"; "`fby` is the right's plus 1".
@@ -109,7 +109,7 @@ fbySummary a b =
       reach = max (a .reach) (b .reach - 1);
       back = limited (suc (b .back));
       firsts = limited (a .firsts + b .firsts);
-      ahead = max (a .ahead) (b .ahead);
+      furthest = max (a .furthest) (b .furthest);
     }
 
 module _ (N : Nodes) (lows highs : List ℤ) where
@@ -148,7 +148,7 @@ boundedInterval ss e =
     cond (all (λ f. endsInBound (interval ss f)) (subexpressions e)) (record { ok = true; low = interval ss e .low; high = interval ss e .high }) noRange
 
 abbrev pub summaryOf : List Stream → Expression → Summary
-summaryOf ss e = record { range = boundedInterval ss e; reach = reach e; back = back e; firsts = length (firsts e); ahead = largestOver reach (firsts e) }
+summaryOf ss e = record { range = boundedInterval ss e; reach = reach e; back = back e; firsts = length (firsts e); furthest = largestOver reach (firsts e) }
 
 -- The streams' lowest and highest values.
 abbrev pub lowsOf : List Stream → List ℤ

@@ -84,8 +84,8 @@ abbrev pub numbered : List ℤ → ℤ → Evaluated
 numbered l z = lookup (length l) (λ k. getD l k (pos 0)) z
 
 -- The value of the stream with a stored number at the place p of a window.
-abbrev pub streamAt : List ℤ → ℕ → ℕ → ℤ → Evaluated
-streamAt window streams p z = lookup streams (λ k. getD window (p * streams + k) (pos 0)) z
+abbrev pub streamEvaluated : List ℤ → ℕ → ℕ → ℤ → Evaluated
+streamEvaluated window streams p z = lookup streams (λ k. getD window (p * streams + k) (pos 0)) z
 
 abbrev pub negatedResult : Evaluated → Evaluated
 negatedResult a = cond (a .ok) (someValue (bit (not (nonzero (a .value))))) noValue
@@ -106,7 +106,7 @@ module _ (N : Nodes) (W : View) where
   -- The value of node i, a node of this kind, at the place p, from those of the parts that end up to i.
   abbrev pub valueByKind : Kind → (ℕ → ℕ → Evaluated) → ℕ → ℕ → Evaluated
   valueByKind integerNode before i p = bounded (getD (N .values) i (pos 0))
-  valueByKind nameNode before i p = streamAt (W .window) (W .streams) p (getD (N .values) i (pos 0))
+  valueByKind nameNode before i p = streamEvaluated (W .window) (W .streams) p (getD (N .values) i (pos 0))
   valueByKind firstNode before i p = cond (W .whole) (before i 0) (numbered (W .firsts) (getD (N .values) i (pos 0)))
   valueByKind nextNode before i p = cond (ltb (suc p) (places W)) (before i (suc p)) noValue
   valueByKind negationNode before i p = negatedResult (before i p)

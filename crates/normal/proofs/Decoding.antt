@@ -68,16 +68,16 @@ module _ (s : Sheet) where
 
   -- ---- expressions
 
-  abbrev Says : ℕ → Expression → Type 0
-  Says p e = (n : ℕ) → map says (rewriting p e .rows n) ≡ addedEntries n e
+  abbrev SaysAt : ℕ → Expression → Type 0
+  SaysAt p e = (n : ℕ) → map says (rewriting p e .rows n) ≡ addedEntries n e
 
-  joined-says : (p : ℕ) (a : Expression) (n : ℕ) (b : Rewriting) (entries : ℕ → List Constraint) → Says p a → ((m : ℕ) → map says (b .rows m) ≡ entries m)
+  joined-says : (p : ℕ) (a : Expression) (n : ℕ) (b : Rewriting) (entries : ℕ → List Constraint) → SaysAt p a → ((m : ℕ) → map says (b .rows m) ≡ entries m)
       → map says (rewriting p a .rows n ++ b .rows (n + rewriting p a .added)) ≡ addedEntries n a ++ entries (n + addedCount a)
   joined-says p a n b entries f g =
       map-append says (rewriting p a .rows n) (b .rows (n + rewriting p a .added))
       ∙ ap₂ _++_ (f n) (g (n + rewriting p a .added) ∙ ap (λ k. entries (n + k)) (added-counted p a))
 
-  pub rows-say : (p : ℕ) (e : Expression) → Stand L p (inPostfix e) → Says p e
+  pub rows-say : (p : ℕ) (e : Expression) → Stand L p (inPostfix e) → SaysAt p e
   unfolding rewriting addedEntries inPostfix decoded
   rows-say p (integer z) h n = refl
   rows-say p (name k) h n = refl

@@ -13,7 +13,7 @@ use borrow.Author.Tests.{eq-eqb, ne-eqb, lt-ltb, le-ltb}
 use Rattle.basics.proofs.Lists.{sets-append}
 use Rattle.nodes.specs.declared.Range.{Range}
 use Rattle.spans.specs.Stored.{spanBound}
-use Rattle.normal.specs.Table.{rowBound, sourceAt, endsOf, endsUpTo, spansFrom, withSpans, blank, rowAt, storedPlace, storedSpan, storedEntry, listed}
+use Rattle.normal.specs.Table.{rowBound, sourceAt, endsOf, endsUpTo, spansFrom, withSpans, blank, rowIn, storedPlace, storedSpan, storedEntry, listed}
 use Rattle.normal.specs.Fields.{rightIsNode, replacesIn, entryWith}
 use Rattle.normal.specs.declared.Entry.{Entry}
 
@@ -41,7 +41,7 @@ more-ends range numbers t i p q e =
 
 module _ (numbers : List ℕ) (ends : List ℤ) (i : ℕ) where
   abbrev pub read : Entry
-  read = entryWith (storedSpan numbers) (rowAt numbers i) (getD ends (i * 2) (pos 0)) (getD ends (i * 2 + 1) (pos 0))
+  read = entryWith (storedSpan numbers) (rowIn numbers i) (getD ends (i * 2) (pos 0)) (getD ends (i * 2 + 1) (pos 0))
 
   pub entry-beyond : rowBound ≤ i → blank ≡ storedEntry numbers ends i
   unfolding storedEntry

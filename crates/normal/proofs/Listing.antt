@@ -16,12 +16,12 @@ use mathlib.Core.Bool.{Bool, true, false, cond}
 use Rattle.nodes.specs.declared.Range.{Range}
 use Rattle.scan.specs.declared.Span.{Span}
 use Rattle.spans.specs.Token.{span}
-use Rattle.spans.specs.Stored.{spanBound, placesOf, putSpans, noSpans, spanTable}
+use Rattle.spans.specs.Stored.{spanBound, spanPlaces, putSpans, noSpans, spanTable}
 use Rattle.spans.specs.Spans.{spansIn}
 use Rattle.spans.proofs.Tables.{places-length, table-few}
 use Rattle.normal.specs.Rows.{Row}
 use Rattle.normal.specs.Fields.{entryWith}
-use Rattle.normal.specs.Table.{rowBound, numbersOf, flat, sourceAt, endsOf, endsUpTo, spansFrom, withSpans, blank, rowAt, storedPlace, storedSpan, storedEntry, numbersWith, endsWith, listed}
+use Rattle.normal.specs.Table.{rowBound, numbersOf, flat, sourceAt, endsOf, endsUpTo, spansFrom, withSpans, blank, rowIn, storedPlace, storedSpan, storedEntry, numbersWith, endsWith, listed}
 use Rattle.normal.specs.Encoded.{spanBefore, entryFor}
 use Rattle.normal.specs.declared.Entry.{Entry}
 use Rattle.normal.proofs.Writing.{length-flat}
@@ -101,15 +101,15 @@ listed-at f d (suc n) i h = by (decLt i n) (listed-at f d n i)
 
 -- ---- spans
 
-places-start : (ss : List Span) (n : ℕ) → n < length ss → getD (placesOf ss) (n * 2 + 0) 0 ≡ getD ss n (span 0 0) .start
+places-start : (ss : List Span) (n : ℕ) → n < length ss → getD (spanPlaces ss) (n * 2 + 0) 0 ≡ getD ss n (span 0 0) .start
 places-start [] n h = absurd (omega arith)
 places-start (s ∷ ss) zero h = refl
-places-start (s ∷ ss) (suc n) h = let e : suc n * 2 + 0 ≡ suc (suc (n * 2 + 0)) = omega arith in ap (λ j. getD (placesOf (s ∷ ss)) j 0) e ∙ places-start ss n (omega arith)
+places-start (s ∷ ss) (suc n) h = let e : suc n * 2 + 0 ≡ suc (suc (n * 2 + 0)) = omega arith in ap (λ j. getD (spanPlaces (s ∷ ss)) j 0) e ∙ places-start ss n (omega arith)
 
-places-end : (ss : List Span) (n : ℕ) → n < length ss → getD (placesOf ss) (n * 2 + 1) 0 ≡ getD ss n (span 0 0) .end
+places-end : (ss : List Span) (n : ℕ) → n < length ss → getD (spanPlaces ss) (n * 2 + 1) 0 ≡ getD ss n (span 0 0) .end
 places-end [] n h = absurd (omega arith)
 places-end (s ∷ ss) zero h = refl
-places-end (s ∷ ss) (suc n) h = let e : suc n * 2 + 1 ≡ suc (suc (n * 2 + 1)) = omega arith in ap (λ j. getD (placesOf (s ∷ ss)) j 0) e ∙ places-end ss n (omega arith)
+places-end (s ∷ ss) (suc n) h = let e : suc n * 2 + 1 ≡ suc (suc (n * 2 + 1)) = omega arith in ap (λ j. getD (spanPlaces (s ∷ ss)) j 0) e ∙ places-end ss n (omega arith)
 
 module _ (numbers text : List ℕ) (long : length numbers ≡ 30944) (few : length (spansIn text) ≤ spanBound) where
   abbrev ss : List Span
@@ -122,7 +122,7 @@ module _ (numbers text : List ℕ) (long : length numbers ≡ 30944) (few : leng
   table-at : (k : ℕ) → getD (spanTable text) k 0 ≡ getD (putSpans noSpans 0 ss) k 0
   table-at k = ap (λ t. getD t k 0) (table-few text few)
 
-  places-fit : length (placesOf ss) ≤ length zeros
+  places-fit : length (spanPlaces ss) ≤ length zeros
   places-fit = omega (arith, places-length ss, length-replicate {A = ℕ} 2048 0)
 
   -- What is stored for a node, and for none.
@@ -143,12 +143,12 @@ module _ (numbers text : List ℕ) (long : length numbers ≡ 30944) (few : leng
       table = withSpans numbers (spanTable text)
 
       start-is : Dec (n < length ss) → getD (spanTable text) (n * 2 + 0) 0 ≡ getD ss n (span 0 0) .start
-      start-is (yes l) = table-at (n * 2 + 0) ∙ stored-in zeros (placesOf ss) 0 places-fit (n * 2 + 0) (omega (arith, places-length ss)) ∙ places-start ss n l
-      start-is (no l) = table-at (n * 2 + 0) ∙ stored-out zeros (placesOf ss) 0 places-fit (n * 2 + 0) (omega (arith, places-length ss)) ∙ zeros-at {A = ℕ} 2048 (n * 2 + 0) 0 ∙ sym (ap (λ (x : Span). x .start) (List·getD-eq-default ss (span 0 0) (omega arith)))
+      start-is (yes l) = table-at (n * 2 + 0) ∙ stored-in zeros (spanPlaces ss) 0 places-fit (n * 2 + 0) (omega (arith, places-length ss)) ∙ places-start ss n l
+      start-is (no l) = table-at (n * 2 + 0) ∙ stored-out zeros (spanPlaces ss) 0 places-fit (n * 2 + 0) (omega (arith, places-length ss)) ∙ zeros-at {A = ℕ} 2048 (n * 2 + 0) 0 ∙ sym (ap (λ (x : Span). x .start) (List·getD-eq-default ss (span 0 0) (omega arith)))
 
       end-is : Dec (n < length ss) → getD (spanTable text) (n * 2 + 1) 0 ≡ getD ss n (span 0 0) .end
-      end-is (yes l) = table-at (n * 2 + 1) ∙ stored-in zeros (placesOf ss) 0 places-fit (n * 2 + 1) (omega (arith, places-length ss)) ∙ places-end ss n l
-      end-is (no l) = table-at (n * 2 + 1) ∙ stored-out zeros (placesOf ss) 0 places-fit (n * 2 + 1) (omega (arith, places-length ss)) ∙ zeros-at {A = ℕ} 2048 (n * 2 + 1) 0 ∙ sym (ap (λ (x : Span). x .end) (List·getD-eq-default ss (span 0 0) (omega arith)))
+      end-is (yes l) = table-at (n * 2 + 1) ∙ stored-in zeros (spanPlaces ss) 0 places-fit (n * 2 + 1) (omega (arith, places-length ss)) ∙ places-end ss n l
+      end-is (no l) = table-at (n * 2 + 1) ∙ stored-out zeros (spanPlaces ss) 0 places-fit (n * 2 + 1) (omega (arith, places-length ss)) ∙ zeros-at {A = ℕ} 2048 (n * 2 + 1) 0 ∙ sym (ap (λ (x : Span). x .end) (List·getD-eq-default ss (span 0 0) (omega arith)))
 
       by : Dec (n < spanBound) → Dec (n < length ss) → storedSpan table (suc n) ≡ getD ss n (span 0 0)
       by (yes h) d =
@@ -224,7 +224,7 @@ module _ (rows : List Row) (range : ℕ → Range) (interval : ℕ → Interval)
   end-out j h = stored-out noEnds (endsUpTo range (numbersWith rows) (length rows)) (pos 0) ends-fit j (omega (arith, length-endsUpTo range (numbersWith rows) (length rows))) ∙ zeros-at 8256 j (pos 0)
 
   -- The row that is read.
-  row-in : (i : ℕ) → i < length rows → rowAt numbers i ≡ getD rows i noRow
+  row-in : (i : ℕ) → i < length rows → rowIn numbers i ≡ getD rows i noRow
   row-in i h =
       let e : i * 7 ≡ i * 7 + 0 = omega arith in
       let field : (k : ℕ) → k < 7 → getD numbers (i * 7 + k) 0 ≡ getD (numbersOf (getD rows i noRow)) k 0 = λ k l. has .same (i * 7 + k) (omega arith) ∙ number-at rows fits i k h l in
@@ -238,7 +238,7 @@ module _ (rows : List Row) (range : ℕ → Range) (interval : ℕ → Interval)
         source = field 6 (omega arith) j;
       }
 
-  row-out : (i : ℕ) → i < rowBound → length rows ≤ i → rowAt numbers i ≡ noRow
+  row-out : (i : ℕ) → i < rowBound → length rows ≤ i → rowIn numbers i ≡ noRow
   row-out i l h =
       let field : (m : ℕ) → m < spansFrom → length rows * 7 ≤ m → getD numbers m 0 ≡ 0 = λ m b k. has .same m b ∙ number-out rows fits m k in
       λ j. record {

@@ -1,5 +1,5 @@
 -- What the reader's answer gives to the tables: a refusal's number, or the lists of the stored sheet, which have room and name nodes.
-use Prim.Native.Nat.{ℕ, suc, _-_, _≤_}
+use Prim.Native.Nat.{ℕ, _-_, _≤_}
 use native.Mathlib.Omega.{arith}
 use mathlib.Core.Path.{_≡_, refl, sym, _∙_, ap, subst}
 use mathlib.Core.List.{List, [], _∷_, map}
@@ -18,7 +18,7 @@ use Rattle.outcome.proofs.AcceptedCompile.{refusal-positive}
 use Rattle.nodes.specs.Postfix.{Node, StoredConstraint, allNodes, storedConstraints, kindsOf, valuesOf, startsOf}
 use Rattle.nodes.specs.Evaluate.{stored, nodesOf}
 use Rattle.nodes.specs.Bounds.{lowsOf, highsOf}
-use Rattle.nodes.proofs.Postfix.{sides-inside}
+use Rattle.nodes.proofs.Postfix.{sides-inside, stored-length}
 use Rattle.reader.specs.Stored.{padded, relationsOf, leftsOf, rightsOf, storedSheet, readingOf}
 use Rattle.reader.specs.declared.Sheet.{Sheet as StoredSheet}
 use Rattle.reader.specs.declared.Reading.{Reading}
@@ -91,11 +91,6 @@ padded-cut room n z l e = take-at l (replicate (room - length l) z) n e
 padded-holds : {X : Type 0} (room n : ℕ) (z : X) (l : List X) → length l ≡ n → n ≤ length (padded room z l)
 padded-holds room n z l e = omega (arith, length-append l (replicate (room - length l) z))
 
-stored-count : (n f : ℕ) (cs : List Constraint) → length (storedConstraints n f cs) ≡ length cs
-unfolding storedConstraints
-stored-count n f [] = refl
-stored-count n f (c ∷ cs) = ap suc (stored-count _ _ cs)
-
 module _ (s : Sheet) where
   abbrev nodes : List Node
   nodes = allNodes 0 0 (s .constraints)
@@ -109,7 +104,7 @@ module _ (s : Sheet) where
   sheet-holding : Holding (storedSheet s)
   unfolding storedSheet
   sheet-holding =
-      let k = stored-count 0 0 (s .constraints) in
+      let k = stored-length 0 0 (s .constraints) in
       record {
         kinds = padded-holds 1024 (length nodes) 0 (kindsOf nodes) (mapped (λ x. x .kind) nodes refl);
         values = padded-holds 1024 (length nodes) (pos 0) (valuesOf nodes) (mapped (λ x. x .value) nodes refl);
@@ -124,7 +119,7 @@ module _ (s : Sheet) where
   lists-are : listsOf (storedSheet s) ≡ sheetLists s
   unfolding storedSheet
   lists-are =
-      let k = stored-count 0 0 (s .constraints) in
+      let k = stored-length 0 0 (s .constraints) in
       λ i. record {
         kinds = padded-cut 1024 (length nodes) 0 (kindsOf nodes) (mapped (λ x. x .kind) nodes refl) i;
         values = padded-cut 1024 (length nodes) (pos 0) (valuesOf nodes) (mapped (λ x. x .value) nodes refl) i;
@@ -155,7 +150,7 @@ module _ (s : Sheet) where
 
   sheet-asked : Accepted s → Asked (sheetLists s)
   sheet-asked ok =
-      let k = stored-count 0 0 (s .constraints) in
+      let k = stored-length 0 0 (s .constraints) in
       let er = mapped (λ (x : StoredConstraint). x .relation) constraints k in
       let el = mapped (λ (x : StoredConstraint). x .left) constraints k in
       let et = mapped (λ (x : StoredConstraint). x .right) constraints k in

@@ -117,8 +117,8 @@ blank =
     }
 
 -- The row with the number i.
-abbrev pub rowAt : List ℕ → ℕ → Row
-rowAt numbers i =
+abbrev pub rowIn : List ℕ → ℕ → Row
+rowIn numbers i =
     record {
       kind = getD numbers (i * 7) 0;
       relation = getD numbers (i * 7 + 1) 0;
@@ -139,7 +139,7 @@ storedSpan numbers e = span (storedPlace numbers 0 e) (storedPlace numbers 1 e)
 
 -- The entry with the number i.
 unfoldable pub storedEntry : List ℕ → List ℤ → ℕ → Entry
-storedEntry numbers ends i = cond (ltb i rowBound) (entryWith (storedSpan numbers) (rowAt numbers i) (getD ends (i * 2) (pos 0)) (getD ends (i * 2 + 1) (pos 0))) blank
+storedEntry numbers ends i = cond (ltb i rowBound) (entryWith (storedSpan numbers) (rowIn numbers i) (getD ends (i * 2) (pos 0)) (getD ends (i * 2 + 1) (pos 0))) blank
 
 -- The tables with the entries of lines in them, or a refusal with tables of zeros.
 abbrev pub refusedMade : ℕ → Made

@@ -1,36 +1,10 @@
 // Prints the entries of the normal forms of the sheets that standard input gives. The enumerator wrote the input and what is expected: two
 // numbers of four bytes, low first (the length of the sheet and of the list), then the sheet's bytes, sheet after sheet. For each sheet a line
 // with the refusal's number, the number of entries and of added streams, and then a line for each entry with its fields.
-ghost use Prim.Native.Nat.{_<_};
-ghost use lib.ListN.{length};
+use cases::number;
+use cases::print;
+use cases::print_signed;
 use normal::Entry;
-
-// The kind of `-` among the operators.
-const DIFFERENCE: u8 = 8;
-
-fn print(n: u64, end: &[u8]) {
-    io::print_decimal(1, n);
-    io::write_all(1, end);
-}
-
-// The number itself, or 0 for one below 0.
-fn natural(value: i64) -> u64 {
-    if value < 0 {
-        return 0;
-    }
-    value as u64
-}
-
-// A low or high, which is within the bound of the operators.
-fn print_signed(value: i64, end: &[u8]) {
-    if value < 0 {
-        io::write_all(1, b"-");
-        let negated = arithmetic::apply(DIFFERENCE, 0, value);
-        print(natural(negated.value), end);
-    } else {
-        print(natural(value), end);
-    }
-}
 
 fn print_entry(entry: Entry) {
     print(entry.kind as u64, b" ");
@@ -58,8 +32,8 @@ fn print_entries(numbers: &[u16; 30944], ends: &[i64; 8256], count: usize) {
     }
 }
 
-fn answer(text: &[u8], room: usize) {
-    let made = normal::read_entries(text, room);
+fn answer(heading: &[u8], text: &[u8]) {
+    let made = normal::read_entries(text, number(heading, 4) as usize);
     let form = made.answer;
     print(form.refusal as u64, b" ");
     print(form.entries as u64, b" ");
@@ -69,34 +43,22 @@ fn answer(text: &[u8], room: usize) {
     print_entries(&numbers, &ends, form.entries as usize);
 }
 
-// One sheet; the place after it, or the end of the input where no whole sheet is left.
-fn one(all: &[u8], at: usize) -> usize
-    requires { ⌜ at < length (now all) ⌝ }
-    ensures { λ r. ⌜ at < r ⌝ }
-{
-    let end = all.len();
-    if end - at < 8 {
-        return end;
+// One case; whether there was one.
+fn one() -> bool {
+    let mut space = io::large_buffer();
+    let case = cases::read_case(8, &mut space);
+    let size = case.size;
+    let heading = case.heading;
+    if case.found {
+        answer(&heading, &space[..size]);
     }
-    let start = at + 8;
-    let size = cases::number(all, at) as usize;
-    if end - start < size {
-        return end;
-    }
-    let next = start + size;
-    answer(&all[start..next], cases::number(all, at + 4) as usize);
-    next
-}
-
-fn run(all: &[u8]) {
-    let mut at = 0;
-    while at < all.len() {
-        at = one(all, at);
-    }
+    case.found
 }
 
 fn main() {
-    let mut space = io::large_buffer();
-    let n = io::read_full(0, &mut space);
-    run(&space[..n]);
+    for _ in 0..65536u32 {
+        if !one() {
+            return;
+        }
+    }
 }

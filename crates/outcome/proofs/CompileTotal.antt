@@ -9,6 +9,7 @@ use mathlib.Core.Logic.{_⊎_, inl, inr}
 use mathlib.Core.List.{List, [], _∷_, _++_}
 use lib.ListN.{length, getD, take, drop, length-append, length-replicate, List·getD-append}
 use lib.Seq.{length-take-le, getD-take, drop-at}
+use Rattle.basics.specs.Count.{CountOf, MoreThan}
 use Rattle.automaton.specs.Words.{Word}
 use Rattle.automaton.specs.Solutions.{NoSolution}
 use Rattle.automaton.specs.Table.{SameRows}
@@ -18,7 +19,7 @@ use Rattle.automaton.proofs.Transfer.{rows-table}
 use Rattle.meaning.specs.Value.{Streams}
 use Rattle.meaning.specs.Expression.{Sheet, Solution}
 use Rattle.meaning.specs.Letter.{letterCount, SolutionWord}
-use Rattle.meaning.specs.Situation.{SituationCount, MoreSituations}
+use Rattle.meaning.specs.Situation.{IsSituation, SituationCount}
 use Rattle.meaning.specs.Scope.{NamesKnown}
 use Rattle.meaning.proofs.Word.{spelled-once, solution-word}
 use Rattle.meaning.proofs.Exploration.{Situation-discrete, counted-or-more}
@@ -26,7 +27,7 @@ use Rattle.sheet.specs.Refusal.{Answer, refused, sheet, AnswerTo}
 use Rattle.sheet.specs.Reading.{answerTo}
 use Rattle.sheet.proofs.Reading.{answer-correct}
 use Rattle.outcome.specs.Room.{LentTable, rowsHeld, fewestRows, zeros, zeroTables}
-use Rattle.outcome.specs.Compile.{CompileAnswer, Room, roomRows, Tables, HoldsTable, SituationsFit, tooManySituations, tooFewRows, noSolution, compiled, CompileOutcome, unread, read, situationBound}
+use Rattle.outcome.specs.Compile.{CompileAnswer, Room, roomRows, Tables, HoldsTable, CountFits, WordsOutcome, tooManySituations, tooFewRows, noSolution, compiled, CompileOutcome, unread, read, situationBound}
 use Rattle.outcome.proofs.SituationGraph.{table-or-no-word}
 use Rattle.outcome.proofs.StateCount.{states-at-most-situations}
 
@@ -44,46 +45,46 @@ rows-fit n k size h = let l = mul-le-mul-right k h in omega (arith, div-add-mod'
 
 -- ---- the first N numbers of a list, and zeros up to a size
 
-padded : ℕ → ℕ → List ℕ → List ℕ
-padded N size l = take N l ++ zeros (size - N)
+keptFirst : ℕ → ℕ → List ℕ → List ℕ
+keptFirst N size l = take N l ++ zeros (size - N)
 
 module _ (N size : ℕ) (l : List ℕ) (enough : N ≤ length l) (fits : N ≤ size) where
-  padded-length : length (padded N size l) ≡ size
-  unfolding padded
-  padded-length = omega (arith, length-append (take N l) (zeros (size - N)), length-take-le N l enough, length-replicate {A = ℕ} (size - N) 0)
+  kept-first-length : length (keptFirst N size l) ≡ size
+  unfolding keptFirst
+  kept-first-length = omega (arith, length-append (take N l) (zeros (size - N)), length-take-le N l enough, length-replicate {A = ℕ} (size - N) 0)
 
-  padded-beyond : drop N (padded N size l) ≡ zeros (size - N)
-  unfolding padded
-  padded-beyond = drop-at (take N l) (zeros (size - N)) N (length-take-le N l enough)
+  kept-first-beyond : drop N (keptFirst N size l) ≡ zeros (size - N)
+  unfolding keptFirst
+  kept-first-beyond = drop-at (take N l) (zeros (size - N)) N (length-take-le N l enough)
 
-  padded-below : (i : ℕ) → i < N → getD (padded N size l) i 0 ≡ getD l i 0
-  unfolding padded
-  padded-below i h = List·getD-append (take N l) (zeros (size - N)) 0 i (omega (arith, length-take-le N l enough)) ∙ getD-take N l i 0 h
+  kept-first-below : (i : ℕ) → i < N → getD (keptFirst N size l) i 0 ≡ getD l i 0
+  unfolding keptFirst
+  kept-first-below i h = List·getD-append (take N l) (zeros (size - N)) 0 i (omega (arith, length-take-le N l enough)) ∙ getD-take N l i 0 h
 
 module _ {Sol : Word → Type 0} {k : ℕ} (room : Room) where
   -- A table that fits the room can be held in it.
-  holds-padded : {n : ℕ} {entries finals : List ℕ} → StoredTable Sol k n entries finals → n * k ≤ room .entries → n ≤ room .finals
-      → HoldsTable Sol k room n (record { entries = padded (n * k) (room .entries) entries; finals = padded n (room .finals) finals; work = zeroTables (room .work) })
-  holds-padded {n} {entries} {finals} t fe ff =
-      let es = padded (n * k) (room .entries) entries in
-      let fs = padded n (room .finals) finals in
+  holds-kept : {n : ℕ} {entries finals : List ℕ} → StoredTable Sol k n entries finals → n * k ≤ room .entries → n ≤ room .finals
+      → HoldsTable Sol k room n (record { entries = keptFirst (n * k) (room .entries) entries; finals = keptFirst n (room .finals) finals; work = zeroTables (room .work) })
+  holds-kept {n} {entries} {finals} t fe ff =
+      let es = keptFirst (n * k) (room .entries) entries in
+      let fs = keptFirst n (room .finals) finals in
       let same : SameRows k n (entryAt k entries) (finalAt finals) n (entryAt k es) (finalAt fs) =
       record {
         states = refl;
-        entries = λ i a hi ha. sym (padded-below (n * k) (room .entries) entries (t .entries-fit) fe (i * k + a) (omega (arith, place-before k i a n 0 ha (inl hi))));
-        finals = λ i hi. sym (padded-below n (room .finals) finals (t .finals-fit) ff i hi);
+        entries = λ i a hi ha. sym (kept-first-below (n * k) (room .entries) entries (t .entries-fit) fe (i * k + a) (omega (arith, place-before k i a n 0 ha (inl hi))));
+        finals = λ i hi. sym (kept-first-below n (room .finals) finals (t .finals-fit) ff i hi);
       } in
       record {
-        entriesSize = padded-length (n * k) (room .entries) entries (t .entries-fit) fe;
-        finalsSize = padded-length n (room .finals) finals (t .finals-fit) ff;
+        entriesSize = kept-first-length (n * k) (room .entries) entries (t .entries-fit) fe;
+        finalsSize = kept-first-length n (room .finals) finals (t .finals-fit) ff;
         table =
             record {
-              entries-fit = omega (arith, padded-length (n * k) (room .entries) entries (t .entries-fit) fe);
-              finals-fit = omega (arith, padded-length n (room .finals) finals (t .finals-fit) ff);
+              entries-fit = omega (arith, kept-first-length (n * k) (room .entries) entries (t .entries-fit) fe);
+              finals-fit = omega (arith, kept-first-length n (room .finals) finals (t .finals-fit) ff);
               table = rows-table same (t .table);
             };
-        entriesBeyond = padded-beyond (n * k) (room .entries) entries (t .entries-fit) fe;
-        finalsBeyond = padded-beyond n (room .finals) finals (t .finals-fit) ff;
+        entriesBeyond = kept-first-beyond (n * k) (room .entries) entries (t .entries-fit) fe;
+        finalsBeyond = kept-first-beyond n (room .finals) finals (t .finals-fit) ff;
         workZero = refl;
       }
 
@@ -99,43 +100,61 @@ no-streams {s} known f w x =
     let p = spelled-once (s .streams) w (x .ranged) in
     f (p .word) (p .spells .letters) (solution-word known (p .spells) .1 x)
 
-module _ (text : List ℕ) (room : Room) where
-  fit-outcome : {s : Sheet} {m : ℕ} → AnswerTo text (sheet s) → SituationsFit s room m → HasOutcome text room
-  fit-outcome {s} {m} r e = go (table-or-no-word Situation-discrete s (e .counted) (omega (arith, e .withinBound)))
-    where
-      go : HasTable (SolutionWord s) (letterCount (s .streams)) ⊎ NoSolution (letterCount (s .streams)) (SolutionWord s) → HasOutcome text room
-      go (inl t) =
-          let n = t .states in
-          let le : n ≤ m = states-at-most-situations s (t .stored .table) (e .counted) in
-          let rows = e .withinRoom in
-          let one = fewest-first (record { perRow = letterCount (s .streams); size = room .entries }) (record { perRow = 1; size = room .finals } ∷ room .work) in
-          let two = fewest-second (record { perRow = letterCount (s .streams); size = room .entries }) (record { perRow = 1; size = room .finals }) (room .work) in
-          let fe : n * letterCount (s .streams) ≤ room .entries = rows-fit n (letterCount (s .streams)) (room .entries) (omega arith) in
-          let ff : n * 1 ≤ room .finals = rows-fit n 1 (room .finals) (omega arith) in
-          record { answer = _; tables = _; outcome = read r (compiled e (holds-padded room (t .stored) fe (omega arith))) }
-      go (inr f) = record { answer = _; tables = _; outcome = read r (noSolution e f) }
+-- An outcome of what is compiled from a set of words, whatever its numbers and contents.
+pub record HasWordsOutcome (Sol : Word → Type 0) (k : ℕ) {X : Type 0} (Counted : X → Type 0) (room : Room) : Type 0 where
+  pub answer : CompileAnswer
+  pub tables : Tables
+  pub outcome : WordsOutcome Sol k Counted room answer tables
 
-  read-outcome : {s : Sheet} → AnswerTo text (sheet s) → HasOutcome text room
-  read-outcome {s} r = go (decLe situationBound rows)
+-- What is counted is counted up to any limit, or exceeds it; and where it can be counted, the set has a table of no more states, or no word is in it.
+module _ {Sol : Word → Type 0} {k : ℕ} {X : Type 0} {Counted : X → Type 0} (room : Room)
+    (counts : (limit : ℕ) → ((m : ℕ) × (m ≤ limit) × CountOf Counted m) ⊎ MoreThan Counted limit)
+    (settles : (m : ℕ) → CountOf Counted m → m ≤ situationBound → ((t : HasTable Sol k) × (t .states ≤ m)) ⊎ NoSolution k Sol) where
+  fit-outcome : {m : ℕ} → CountFits Counted k room m → HasWordsOutcome Sol k Counted room
+  fit-outcome {m} e = go (settles m (e .counted) (e .withinBound))
+    where
+      go : ((t : HasTable Sol k) × (t .states ≤ m)) ⊎ NoSolution k Sol → HasWordsOutcome Sol k Counted room
+      go (inl (t, le)) =
+          let n = t .states in
+          let rows = e .withinRoom in
+          let one = fewest-first (record { perRow = k; size = room .entries }) (record { perRow = 1; size = room .finals } ∷ room .work) in
+          let two = fewest-second (record { perRow = k; size = room .entries }) (record { perRow = 1; size = room .finals }) (room .work) in
+          let fe : n * k ≤ room .entries = rows-fit n k (room .entries) (omega arith) in
+          let ff : n * 1 ≤ room .finals = rows-fit n 1 (room .finals) (omega arith) in
+          record { answer = _; tables = _; outcome = compiled e (holds-kept room (t .stored) fe (omega arith)) }
+      go (inr f) = record { answer = _; tables = _; outcome = noSolution e f }
+
+  pub words-total : HasWordsOutcome Sol k Counted room
+  words-total = go (decLe situationBound rows)
     where
       rows : ℕ
-      rows = roomRows room (letterCount (s .streams))
+      rows = roomRows room k
 
-      many : situationBound ≤ rows → ((m : ℕ) × (m ≤ situationBound) × SituationCount s m) ⊎ MoreSituations s situationBound → HasOutcome text room
-      many h (inl c) = fit-outcome r (record { counted = c .2; withinBound = c .1; withinRoom = omega (arith, c .1, h) })
-      many h (inr x) = record { answer = _; tables = _; outcome = read r (tooManySituations h x) }
+      many : situationBound ≤ rows → ((m : ℕ) × (m ≤ situationBound) × CountOf Counted m) ⊎ MoreThan Counted situationBound → HasWordsOutcome Sol k Counted room
+      many h (inl c) = fit-outcome (record { counted = c .2; withinBound = c .1; withinRoom = omega (arith, c .1, h) })
+      many h (inr x) = record { answer = _; tables = _; outcome = tooManySituations h x }
 
-      few : rows < situationBound → ((m : ℕ) × (m ≤ rows) × SituationCount s m) ⊎ MoreSituations s rows → HasOutcome text room
-      few h (inl c) = fit-outcome r (record { counted = c .2; withinBound = omega (arith, c .1, h); withinRoom = c .1 })
-      few h (inr x) = record { answer = _; tables = _; outcome = read r (tooFewRows h x) }
+      few : rows < situationBound → ((m : ℕ) × (m ≤ rows) × CountOf Counted m) ⊎ MoreThan Counted rows → HasWordsOutcome Sol k Counted room
+      few h (inl c) = fit-outcome (record { counted = c .2; withinBound = omega (arith, c .1, h); withinRoom = c .1 })
+      few h (inr x) = record { answer = _; tables = _; outcome = tooFewRows h x }
 
-      go : Dec (situationBound ≤ rows) → HasOutcome text room
-      go (yes h) = many h (counted-or-more s situationBound)
-      go (no h) = few (omega arith) (counted-or-more s rows)
+      go : Dec (situationBound ≤ rows) → HasWordsOutcome Sol k Counted room
+      go (yes h) = many h (counts situationBound)
+      go (no h) = few (omega arith) (counts rows)
 
+-- The words of a sheet, whose situations are counted.
+sheet-total : (s : Sheet) (room : Room) → HasWordsOutcome (SolutionWord s) (letterCount (s .streams)) (IsSituation s) room
+sheet-total s room = words-total room (counted-or-more s) (λ m c h. settled c (table-or-no-word Situation-discrete s c (omega (arith, h))))
+  where
+    settled : {m : ℕ} → SituationCount s m → HasTable (SolutionWord s) (letterCount (s .streams)) ⊎ NoSolution (letterCount (s .streams)) (SolutionWord s)
+        → ((t : HasTable (SolutionWord s) (letterCount (s .streams))) × (t .states ≤ m)) ⊎ NoSolution (letterCount (s .streams)) (SolutionWord s)
+    settled c (inl t) = inl (t, states-at-most-situations s (t .stored .table) c)
+    settled c (inr f) = inr f
+
+module _ (text : List ℕ) (room : Room) where
   pub compile-total : HasOutcome text room
   compile-total = go (answerTo text) (answer-correct text)
     where
       go : (a : Answer) → AnswerTo text a → HasOutcome text room
       go (refused n) r = record { answer = _; tables = _; outcome = unread r }
-      go (sheet s) r = read-outcome r
+      go (sheet s) r = let o = sheet-total s room in record { answer = o .answer; tables = o .tables; outcome = read r (o .outcome) }

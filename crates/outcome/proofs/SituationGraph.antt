@@ -7,10 +7,11 @@ use mathlib.Core.Path.{_≡_, refl, sym, _∙_, ap, subst}
 use mathlib.Core.Bool.{Bool, true, false, cond}
 use mathlib.Core.HLevel.{Discrete}
 use mathlib.Core.Logic.{_↔_, _⊎_}
-use mathlib.Core.List.{List, [], _∷_, _++_, map, List·Memᴰ, List·Memᴰ·head, List·Memᴰ·tail}
+use mathlib.Core.List.{List, [], _∷_, _++_, List·Memᴰ, List·Memᴰ·head, List·Memᴰ·tail}
 use mathlib.Core.Option.{Option, none, some}
 use lib.Dec.{T}
 use lib.ListN.{length, getD}
+use Rattle.outcome.proofs.RecordNumbers.{letterNumbersOf, letterNumbersOf-record}
 use Rattle.automaton.specs.Solutions.{SameSolutions, NoSolution}
 use Rattle.automaton.specs.Table.{noState}
 use Rattle.automaton.specs.Stored.{HasTable}
@@ -20,10 +21,9 @@ use Rattle.automaton.proofs.Solutions.{solutions-sym, solutions-trans}
 use Rattle.automaton.proofs.Situations.{explored-solutions}
 use Rattle.automaton.proofs.Construction.{table-or-none}
 use Rattle.meaning.specs.Expression.{Stream, Constraint, Sheet}
-use Rattle.meaning.specs.Letter.{Record, OfLetters, letterCount, letterNumber, letterOf, recordOf, SolutionWord}
+use Rattle.meaning.specs.Letter.{Record, letterCount, letterOf, recordOf, SolutionWord}
 use Rattle.meaning.specs.Situation.{Situation, whole, lawful, situation, IsSituation, SituationCount}
 use Rattle.meaning.specs.Evaluation.{successor, allDone}
-use Rattle.meaning.proofs.Letter.{letterOf-letterNumber}
 use Rattle.meaning.proofs.Lawful.{lawful-short}
 use Rattle.meaning.proofs.Facts.{getD-member}
 use Rattle.meaning.proofs.Congruence.{successor-situation}
@@ -56,15 +56,6 @@ placeIn-member decide (x ∷ l) t d m = go (decide x t) m (placeIn-member decide
 
 -- ---- a record of letters in range, by its letter numbers
 
-module _ (ss : List Stream) where
-  numbersOf : Record → List ℕ
-  numbersOf r = map (letterNumber ss) r
-
-  numbersOf-record : (r : Record) → OfLetters ss r → recordOf ss (numbersOf r) ≡ r
-  unfolding numbersOf
-  numbersOf-record [] h = refl
-  numbersOf-record (l ∷ r) h = λ i. letterOf-letterNumber (h l (List·Memᴰ·head refl)) i ∷ numbersOf-record r (λ m k. h m (List·Memᴰ·tail k)) i
-
 -- ---- the graph
 
 module _ (decide : Discrete Situation) (s : Sheet) {m : ℕ} (count : SituationCount s m) where
@@ -92,7 +83,7 @@ module _ (decide : Discrete Situation) (s : Sheet) {m : ℕ} (count : SituationC
 
   -- A record of letter numbers that leads to each node.
   pub shown : (i : ℕ) → Dec (i < length list) → List ℕ
-  shown i (yes h) = numbersOf ss (is-situation i h .lawfulRecord)
+  shown i (yes h) = letterNumbersOf ss (is-situation i h .lawfulRecord)
   shown i (no h) = []
 
   abbrev pub shownAt : ℕ → List ℕ
@@ -108,7 +99,7 @@ module _ (decide : Discrete Situation) (s : Sheet) {m : ℕ} (count : SituationC
     where
       go : (d : Dec (i < length list)) → Shows i (shown i d)
       go (yes g) =
-          let e = numbersOf-record ss (is-situation i g .lawfulRecord) (is-situation i g .letters) in
+          let e = letterNumbersOf-record ss (is-situation i g .lawfulRecord) (is-situation i g .letters) in
           record { isLawful = subst (λ r. T (lawful cs r)) (sym e) (is-situation i g .isLawful); same = ap (situation cs) e ∙ is-situation i g .same }
       go (no g) = absurd (g h)
 

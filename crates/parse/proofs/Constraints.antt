@@ -25,8 +25,8 @@ use Rattle.parse.specs.Stored.{store, SameBelow}
 use Rattle.parse.specs.Bounded.{boundedExpression, hasBeyond, boundedConstraint}
 use Rattle.parse.specs.Numbered.{TokenNumbered, noneLeft, numbered}
 use Rattle.parse.specs.Reading.{StoresTree, TreeRead, unread, constraintRead, Fits, StartsOutcome, areKept, ConstraintOutcome, isTooLong, isNoConstraint, isRead}
-use Rattle.parse.proofs.Trees.{anyOf-append, Row, row-one, row-more}
-use Rattle.parse.proofs.Readers.{wordOf, no-word}
+use Rattle.parse.proofs.Trees.{anyOf-append, NodesInRow, row-one, row-more}
+use Rattle.parse.proofs.Readers.{tokenBytes, no-word}
 
 relation-small : (r : Relation) → relationNumber r < 255
 relation-small (sign (comparison less)) = omega arith
@@ -39,23 +39,23 @@ relation-small (sign implies) = omega arith
 relation-small untilSign = omega arith
 
 -- What stands after the first side: no relation, or one.
-pub no-relation : {line : List ℕ} {rest : ℕ → List Token} {at : ℕ} {s : NumberedToken} (p : Reader) (a : Expression) → TokenNumbered line rest at s → codeOr255 relationNumber (relationOf (wordOf line s)) ≡ 255 → secondSide p a (rest at) ≡ none
+pub no-relation : {line : List ℕ} {rest : ℕ → List Token} {at : ℕ} {s : NumberedToken} (p : Reader) (a : Expression) → TokenNumbered line rest at s → codeOr255 relationNumber (relationOf (tokenBytes line s)) ≡ 255 → secondSide p a (rest at) ≡ none
 no-relation p a (noneLeft _ _ e) h = ap (secondSide p a) e
 no-relation {line} {rest} {s = s} p a (numbered _ _ _ e _) h =
-    ap (secondSide p a) e ∙ ap (λ o. constraintFrom p a o (rest (s .next))) (code-none relationNumber relation-small (relationOf (wordOf line s)) h)
+    ap (secondSide p a) e ∙ ap (λ o. constraintFrom p a o (rest (s .next))) (code-none relationNumber relation-small (relationOf (tokenBytes line s)) h)
 
 pub record Relation-at (line : List ℕ) (rest : ℕ → List Token) (at : ℕ) (s : NumberedToken) (code : ℕ) : Type 0 where
   pub relation : Relation
   pub code-is : code ≡ relationNumber relation
-  pub first : rest at ≡ wordOf line s ∷ rest (s .next)
+  pub first : rest at ≡ tokenBytes line s ∷ rest (s .next)
   pub number : s .next ≡ at + 1
   pub goes-on : (p : Reader) (a : Expression) → secondSide p a (rest at) ≡ andThen (expressionBy p (rest (s .next))) (λ y. wholeLine (related relation a (y .tree)) (y .rest))
 
-pub relation-at : {line : List ℕ} {rest : ℕ → List Token} {at : ℕ} {s : NumberedToken} {code : ℕ} → TokenNumbered line rest at s → code ≡ codeOr255 relationNumber (relationOf (wordOf line s)) → (code ≡ 255 → ⊥) → Relation-at line rest at s code
+pub relation-at : {line : List ℕ} {rest : ℕ → List Token} {at : ℕ} {s : NumberedToken} {code : ℕ} → TokenNumbered line rest at s → code ≡ codeOr255 relationNumber (relationOf (tokenBytes line s)) → (code ≡ 255 → ⊥) → Relation-at line rest at s code
 unfolding relationOf relationTokens
 relation-at {line} {s = s} (noneLeft p q e) c n = absurd (n (c ∙ ap (λ w. codeOr255 relationNumber (relationOf w)) (no-word line s p q)))
 relation-at {line} {rest} {s = s} (numbered _ _ m e _) c n =
-    let (r, is, code) = code-some relationNumber (relationOf (wordOf line s)) (λ h. n (c ∙ h)) in
+    let (r, is, code) = code-some relationNumber (relationOf (tokenBytes line s)) (λ h. n (c ∙ h)) in
     record {
       relation = r;
       code-is = c ∙ code;
@@ -79,7 +79,7 @@ module _ {old mid new : Nodes} {n f m g k h : ℕ} {x y : Bool} {a b : Expressio
   abbrev right : ℕ
   right = length (postfix (n + left) (f + length (firsts (boundedExpression a))) (boundedExpression b))
 
-  row : Row old new n f k h (postfix n f (boundedExpression a) ++ postfix (n + left) (f + length (firsts (boundedExpression a))) (boundedExpression b)) (length (firsts (boundedExpression a)) + length (firsts (boundedExpression b)))
+  row : NodesInRow old new n f k h (postfix n f (boundedExpression a) ++ postfix (n + left) (f + length (firsts (boundedExpression a))) (boundedExpression b)) (length (firsts (boundedExpression a)) + length (firsts (boundedExpression b)))
   row = row-more (row-one s) t
 
   pub related-arrays : new ≡ store old n (sideNodes n f (boundedConstraint (related r a b)))
@@ -124,7 +124,7 @@ module _ (names line : List ℕ) (rest : ℕ → List Token) (whole : rest 0 ≡
     unfolding parseConstraint
     first-side = ap (λ o. andThen o (λ y. secondSide parts (y .tree) (y .rest))) (h .reads (length (rest 0)) (omega arith))
 
-    pub sign-missing : {new : Nodes} {r : ConstraintRead} → codeOr255 relationNumber (relationOf (wordOf line s)) ≡ 255 → r ≡ unread true → SameBelow n new old → ConstraintOutcome names line n f old new r
+    pub sign-missing : {new : Nodes} {r : ConstraintRead} → codeOr255 relationNumber (relationOf (tokenBytes line s)) ≡ 255 → r ≡ unread true → SameBelow n new old → ConstraintOutcome names line n f old new r
     sign-missing c e k = no-constraint (first-side ∙ no-relation parts (h .tree) j c) e k
 
     module _ {code : ℕ} (o : Relation-at line rest (a .next) s code) where

@@ -23,7 +23,7 @@ use Rattle.parse.specs.Numbered.{TokenNumbered}
 use Rattle.parse.specs.Stored.{store}
 use Rattle.parse.specs.Reading.{StoresTree, TreeRead, Reading}
 use Rattle.parse.proofs.Trees.{stores-joined, stores-conditional}
-use Rattle.parse.proofs.Readers.{wordOf, word-is, word-is-not, word-number, expression-part, after-ends, Operator-at, part-empty}
+use Rattle.parse.proofs.Readers.{tokenBytes, word-is, word-is-not, word-number, expression-part, after-ends, Operator-at, part-empty}
 
 expect-first : (w : Token) {ts us : List Token} → ts ≡ w ∷ us → expect w ts ≡ some us
 expect-first w e = ap (expect w) e ∙ same w
@@ -52,7 +52,7 @@ module _ (names : List Token) (text : List ℕ) (rest : ℕ → List Token) (at 
         kept = k .kept;
       }
 
-  module _ {s : NumberedToken} (k : TokenNumbered text rest at s) (other : sameBytes (bytesOf "if") (wordOf text s) ≡ false) where
+  module _ {s : NumberedToken} (k : TokenNumbered text rest at s) (other : sameBytes (bytesOf "if") (tokenBytes text s) ≡ false) where
     -- Without `if`, what a part and the tokens after it give.
     after-part : {a : Expression} {us : List Token} (d : ℕ) → partTo names d (rest at) ≡ parsed a us → expressionBy (partTo names d) (rest at) ≡ afterPart (partTo names d) a us
     after-part d q = expression-part (partTo names d) (part-empty names refl d) k other ∙ ap (λ o. andThen o (λ y. afterPart (partTo names d) (y .tree) (y .rest))) q
@@ -62,7 +62,7 @@ module _ (names : List Token) (text : List ℕ) (rest : ℕ → List Token) (at 
 
     module _ {old mid : Nodes} {n f : ℕ} {a : Read} (h : TreeRead (partTo names) rest at old mid n f a) {t : NumberedToken} (j : TokenNumbered text rest (a .next) t) where
       -- A part alone.
-      pub part-alone : codeOr255 infixCode (operatorOf (wordOf text t)) ≡ 255 → TreeRead (λ d. expressionBy (partTo names d)) rest at old mid n f a
+      pub part-alone : codeOr255 infixCode (operatorOf (tokenBytes text t)) ≡ 255 → TreeRead (λ d. expressionBy (partTo names d)) rest at old mid n f a
       part-alone c =
           record {
             tree = h .tree;
@@ -104,10 +104,10 @@ module _ (names : List Token) (text : List ℕ) (rest : ℕ → List Token) (at 
   condition-missing h d l = rw (h d l)
 
   module _ {old mid : Nodes} {n f : ℕ} {a : Read} (h : TreeRead (partTo names) rest at old mid n f a) {s : NumberedToken} (j : TokenNumbered text rest (a .next) s) where
-    pub then-missing : sameBytes (bytesOf "then") (wordOf text s) ≡ false → (d : ℕ) → length (rest at) ≤ d → conditionalBy (partTo names d) (rest at) ≡ none
+    pub then-missing : sameBytes (bytesOf "then") (tokenBytes text s) ≡ false → (d : ℕ) → length (rest at) ≤ d → conditionalBy (partTo names d) (rest at) ≡ none
     then-missing e d l = rw (h .reads d l, word-is-not (bytesOf "then") j e)
 
-    module _ (e : sameBytes (bytesOf "then") (wordOf text s) ≡ true) where
+    module _ (e : sameBytes (bytesOf "then") (tokenBytes text s) ≡ true) where
       then-first : rest (a .next) ≡ bytesOf "then" ∷ rest (s .next)
       then-first = word-is (bytesOf "then") j (λ z. cons≢nil z) e
 
@@ -121,10 +121,10 @@ module _ (names : List Token) (text : List ℕ) (rest : ℕ → List Token) (at 
       branch-missing g d l = let z = then-fewer in rw (h .reads d l, expect-first (bytesOf "then") then-first, g d (omega (arith, h .fewer)))
 
       module _ {low : Nodes} {b : Read} (g : TreeRead (partTo names) rest (s .next) mid low (a .nodes) (a .firsts) b) {t : NumberedToken} (i : TokenNumbered text rest (b .next) t) where
-        pub else-missing : sameBytes (bytesOf "else") (wordOf text t) ≡ false → (d : ℕ) → length (rest at) ≤ d → conditionalBy (partTo names d) (rest at) ≡ none
+        pub else-missing : sameBytes (bytesOf "else") (tokenBytes text t) ≡ false → (d : ℕ) → length (rest at) ≤ d → conditionalBy (partTo names d) (rest at) ≡ none
         else-missing w d l = let z = then-fewer in rw (h .reads d l, expect-first (bytesOf "then") then-first, g .reads d (omega (arith, h .fewer)), word-is-not (bytesOf "else") i w)
 
-        module _ (w : sameBytes (bytesOf "else") (wordOf text t) ≡ true) where
+        module _ (w : sameBytes (bytesOf "else") (tokenBytes text t) ≡ true) where
           else-first : rest (b .next) ≡ bytesOf "else" ∷ rest (t .next)
           else-first = word-is (bytesOf "else") i (λ z. cons≢nil z) w
 

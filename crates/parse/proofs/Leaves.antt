@@ -10,8 +10,9 @@ use lib.ListN.{length}
 use mir.Syntax.{w64}
 use mir.Val.{SFits}
 use borrow.Author.Tests.{ltb-false}
+use Rattle.text.proofs.Bytes.{tokens-length}
 use Rattle.nodes.specs.Evaluate.{Nodes}
-use Rattle.text.specs.Bytes.{Token, ByteClass, bracket, inside, between, startsInside, addToTokens, classOf, tokens}
+use Rattle.text.specs.Bytes.{Token, tokens}
 use Rattle.text.specs.Token.{sameBytes, isName, isInteger, integerValue, isReserved}
 use Rattle.nodes.specs.Postfix.{node}
 use Rattle.meaning.specs.Expression.{integer, name}
@@ -23,7 +24,7 @@ use Rattle.scan.specs.declared.IntegerRead.{IntegerRead}
 use Rattle.scan.specs.Integer.{integerRead, integerWithin, noInteger}
 use Rattle.parse.specs.declared.Read.{Read}
 use Rattle.parse.specs.Stored.{store, SameBelow}
-use Rattle.parse.specs.Bounded.{within}
+use Rattle.parse.specs.Bounded.{zeroBeyond}
 use Rattle.parse.specs.Reading.{LeafReading}
 use Rattle.parse.proofs.Store.{below-store}
 use Rattle.parse.proofs.Trees.{stores-integer, stores-name}
@@ -32,7 +33,7 @@ use Rattle.parse.proofs.Trees.{stores-integer, stores-name}
 pub record IsInteger (w : Token) (beyond : Bool) (value : ℤ) : Type 0 where
   pub is : T (isInteger w)
   pub far : beyond ≡ isBeyond (integerValue w)
-  pub near : value ≡ within (integerValue w)
+  pub near : value ≡ zeroBeyond (integerValue w)
 
 within-fields : (b : Bool) (z : ℤ) → (integerWithin b z .beyond ≡ b) × (integerWithin b z .value ≡ cond b (pos 0) z)
 within-fields true z = (refl, refl)
@@ -61,7 +62,7 @@ no-integer w {r} e t = by (isInteger w) e
     by false q = refl
 
 -- A value within the bound fits the machine's signed numbers.
-within-fits : (z : ℤ) → SFits w64 (within z)
+within-fits : (z : ℤ) → SFits w64 (zeroBeyond z)
 within-fits z = by z (isBeyond z) refl
   where
     by : (y : ℤ) (b : Bool) → isBeyond y ≡ b → SFits w64 (cond b (pos 0) y)
@@ -116,19 +117,6 @@ reserved-no-name w e = ap (λ m. isName w && not m) e ∙ by (isName w)
 
 pub not-a-name : (w : Token) → isName w ≡ false → isName w && not (isReserved w) ≡ false
 not-a-name w e = ap (λ m. m && not (isReserved w)) e
-
--- A text has at most as many tokens as bytes, so that a name's place fits the machine.
-tokens-add : (c : ByteClass) (g : Bool) (b : ℕ) (ts : List Token) → length (addToTokens c g b ts) ≤ suc (length ts)
-tokens-add bracket g b ts = omega arith
-tokens-add inside true b [] = omega arith
-tokens-add inside true b (t ∷ ts) = omega arith
-tokens-add inside false b ts = omega arith
-tokens-add between g b ts = omega arith
-
-pub tokens-length : (l : List ℕ) → length (tokens l) ≤ length l
-unfolding tokens
-tokens-length [] = omega arith
-tokens-length (b ∷ l) = let z = tokens-length l in let w = tokens-add (classOf b) (startsInside l) b (tokens l) in omega arith
 
 place-most : (ns : List Token) (t : Token) → namePlace ns t ≤ length ns
 unfolding namePlace

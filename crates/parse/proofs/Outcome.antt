@@ -9,12 +9,12 @@ use native.Mathlib.Omega.{arith}
 use lib.IntN.{pos}
 use lib.ListN.{length, take, drop, set, length-append, length-map}
 use lib.Seq.{sets, drop-set-lt, sets-eq}
+use Rattle.nodes.proofs.Postfix.{length-postfix}
 use Rattle.nodes.specs.Evaluate.{Nodes}
 use Rattle.text.specs.Bytes.{Token, tokens}
 use Rattle.meaning.specs.Expression.{Expression, integer, name, first, next, negation, binary, conditional, fby, Constraint, always, until}
 use Rattle.meaning.specs.Interval.{subexpressions}
 use Rattle.meaning.specs.Window.{firsts, sideFirsts}
-use Rattle.nodes.specs.Code.{operatorCode}
 use Rattle.nodes.specs.Postfix.{Node, node, kindsOf, valuesOf, startsOf, postfix, sideNodes}
 use Rattle.sheet.specs.Vocabulary.{Relation, sign, untilSign, related}
 use Rattle.sheet.specs.Reading.{anyOf, isBeyond, isIntegerBeyond}
@@ -27,7 +27,7 @@ use Rattle.parse.specs.Stored.{store, SameBelow}
 use Rattle.parse.specs.Bounded.{boundedExpression, boundedConstraint, constraintBeyond}
 use Rattle.parse.specs.Reading.{constraintRead, StartsOutcome, areKept, areStored, ConstraintOutcome, isTooLong, isNoConstraint, isRead}
 use Rattle.parse.proofs.Store.{below-refl, below-store}
-use Rattle.parse.proofs.Trees.{anyOf-append, length-last}
+use Rattle.parse.proofs.Trees.{anyOf-append}
 
 below-sym : {n : ℕ} {a b : Nodes} → SameBelow n a b → SameBelow n b a
 below-sym s = record { kinds = sym (s .kinds); values = sym (s .values); starts = sym (s .starts) }
@@ -71,41 +71,6 @@ pub outcome-below : {names line : List ℕ} {n f : ℕ} {old new : Nodes} {r : C
 outcome-below {n = n} {old = old} {new = new} (isTooLong u e h) = subst (SameBelow n new) h (below-refl n new)
 outcome-below (isNoConstraint w p e h) = h
 outcome-below {n = n} {f = f} {old = old} (isRead {c} w p e h) = below-store old n (sideNodes n f (boundedConstraint c)) h
-
--- One node for each expression inside the tree.
-pub postfix-count : (n f : ℕ) (e : Expression) → length (postfix n f e) ≡ length (subexpressions e)
-unfolding postfix subexpressions
-postfix-count n f (integer z) = refl
-postfix-count n f (name k) = refl
-postfix-count n f (first e) = let z = length-last [] (postfix n (suc f) e) (node 2 (pos f) n) in let w = postfix-count n (suc f) e in omega arith
-postfix-count n f (next e) = let z = length-last [] (postfix n f e) (node 3 (pos 0) n) in let w = postfix-count n f e in omega arith
-postfix-count n f (negation e) = let z = length-last [] (postfix n f e) (node 4 (pos 0) n) in let w = postfix-count n f e in omega arith
-postfix-count n f (binary o a b) =
-    let l = postfix n f a in
-    let x = postfix-count n f a in
-    let y = postfix-count (n + length l) (f + length (firsts a)) b in
-    let z = length-last l (postfix (n + length l) (f + length (firsts a)) b) (node (operatorCode o) (pos 0) n) in
-    let v = length-append (subexpressions a) (subexpressions b) in
-    omega arith
-postfix-count n f (conditional c a b) =
-    let p = postfix n f c in
-    let l = postfix (n + length p) (f + length (firsts c)) a in
-    let r = postfix (n + length p + length l) (f + length (firsts c) + length (firsts a)) b in
-    let s = postfix-count n f c in
-    let x = postfix-count (n + length p) (f + length (firsts c)) a in
-    let y = postfix-count (n + length p + length l) (f + length (firsts c) + length (firsts a)) b in
-    let t = length-append p (l ++ (r ++ (node 5 (pos 0) n ∷ []))) in
-    let z = length-last l r (node 5 (pos 0) n) in
-    let u = length-append (subexpressions c) (subexpressions a ++ subexpressions b) in
-    let v = length-append (subexpressions a) (subexpressions b) in
-    omega arith
-postfix-count n f (fby a b) =
-    let l = postfix n f a in
-    let x = postfix-count n f a in
-    let y = postfix-count (n + length l) (f + length (firsts a)) b in
-    let z = length-last l (postfix (n + length l) (f + length (firsts a)) b) (node 6 (pos 0) n) in
-    let v = length-append (subexpressions a) (subexpressions b) in
-    omega arith
 
 -- Integers beyond the bound are replaced one by one.
 bounded-count : (e : Expression) → length (subexpressions (boundedExpression e)) ≡ length (subexpressions e)
@@ -186,8 +151,8 @@ module _ (ts : List Token) (n f : ℕ) (a b : Expression) (h : length (subexpres
   sides-nodes : length (left ++ right) ≤ length ts
   sides-nodes =
       let z = length-append left right in
-      let x = postfix-count n f (boundedExpression a) in
-      let y = postfix-count (n + length left) (f + length (firsts (boundedExpression a))) (boundedExpression b) in
+      let x = length-postfix n f (boundedExpression a) in
+      let y = length-postfix (n + length left) (f + length (firsts (boundedExpression a))) (boundedExpression b) in
       let p = bounded-count a in
       let q = bounded-count b in
       omega arith

@@ -13,13 +13,13 @@ use Rattle.nodes.specs.Evaluate.{Nodes}
 use Rattle.text.specs.Bytes.{Token, bytesOf, tokens}
 use Rattle.text.specs.Token.{sameBytes}
 use Rattle.nodes.specs.Postfix.{node, postfix}
-use Rattle.sheet.specs.Vocabulary.{Prefix, firstPrefix, nextPrefix, notPrefix, prefixed, prefixOf}
+use Rattle.sheet.specs.Vocabulary.{Prefix, prefixed, prefixOf}
 use Rattle.sheet.specs.Parser.{Parsed, parsed, Reader, expressionBy, partTo}
 use Rattle.sheet.specs.Brackets.{BytePartner}
 use Rattle.scan.specs.Place.{between, PartnerAt, noPartner, aPartner}
 use Rattle.scan.specs.Word.{codeOr255, prefixCode}
 use Rattle.scan.proofs.Tokens.{between-first}
-use Rattle.scan.proofs.Words.{code-none, code-some}
+use Rattle.scan.proofs.Words.{code-some}
 use Rattle.parse.specs.declared.NumberedToken.{NumberedToken}
 use Rattle.parse.specs.declared.Read.{Read}
 use Rattle.parse.specs.Stored.{store, SameBelow}
@@ -29,7 +29,7 @@ use Rattle.parse.specs.Reading.{StoresTree, TreeRead, Reading, Leaf, Lea
 use Rattle.parse.proofs.Store.{below-store}
 use Rattle.parse.proofs.Trees.{stores-prefix}
 use Rattle.parse.proofs.Numbers.{token-within, token-number, placed-later, left-stored, inner-placed, inner-first, closing-token}
-use Rattle.parse.proofs.Readers.{same-word, wordOf, part-by, part-prefix, part-prefix-none, part-none, part-bracket, part-bracket-none, part-open, inner-length, open-bytes, open-tokens}
+use Rattle.parse.proofs.Readers.{same-word, tokenBytes, part-by, part-prefix, part-prefix-none, part-none, part-bracket, part-bracket-none, part-open, inner-length, open-bytes, open-tokens}
 
 module _ {R : ℕ → Reader} {rest : ℕ → List Token} {at : ℕ} {old new : Nodes} {n f : ℕ} {r : Read} where
   -- Nothing was read.
@@ -58,15 +58,6 @@ firsts-inside-most k f = by (eqb k 2)
     by : (b : Bool) → cond b (f + 1) f ≤ f + 1
     by true = omega arith
     by false = omega arith
-
-prefix-small : (p : Prefix) → prefixCode p < 255
-prefix-small firstPrefix = omega arith
-prefix-small nextPrefix = omega arith
-prefix-small notPrefix = omega arith
-
--- What the number of a token says of it.
-pub no-prefix : (w : Token) {k : ℕ} → k ≡ codeOr255 prefixCode (prefixOf w) → k ≡ 255 → prefixOf w ≡ none
-no-prefix w e h = code-none prefixCode prefix-small (prefixOf w) (sym e ∙ h)
 
 pub record Prefix-at (w : Token) (k : ℕ) : Type 0 where
   pub prefix : Prefix
@@ -118,14 +109,14 @@ module _ (names : List Token) (rest : ℕ → List Token) {at next : ℕ} {w : T
 
 -- An expression in brackets, where the opening bracket is the token with the number `at`.
 module _ (names : List Token) {text : List ℕ} {origin : ℕ} {starts : List ℕ} {at : ℕ} {s : NumberedToken} (placed : Placed text origin starts at)
-    (token : TokenNumbered text (tokensFrom text origin starts) at s) (stands : s .start ≡ s .end → ⊥) (b : sameBytes (bytesOf "(") (wordOf text s) ≡ true) where
+    (token : TokenNumbered text (tokensFrom text origin starts) at s) (stands : s .start ≡ s .end → ⊥) (b : sameBytes (bytesOf "(") (tokenBytes text s) ≡ true) where
   abbrev rest : ℕ → List Token
   rest = tokensFrom text origin starts
 
   abbrev from : ℕ
   from = s .start + 1
 
-  first : rest at ≡ wordOf text s ∷ tokens (drop from text)
+  first : rest at ≡ tokenBytes text s ∷ tokens (drop from text)
   first = open-tokens token stands b
 
   pub open-missing : {close : ℕ} → PartnerAt text from close → length text ≤ close → (d : ℕ) → length (rest at) ≤ d → partTo names d (rest at) ≡ none
@@ -160,7 +151,7 @@ module _ (names : List Token) {text : List ℕ} {origin : ℕ} {starts : List �
     opens : getD text (s .start) 0 ≡ 40
     opens =
         let within = token-within token in
-        head-eq-of-cons-eq (sym (between-first text (s .start) (s .end) (omega (arith, stands)) (omega (arith, partner-forward))) ∙ sym (same-word (bytesOf "(") (wordOf text s) b))
+        head-eq-of-cons-eq (sym (between-first text (s .start) (s .end) (omega (arith, stands)) (omega (arith, partner-forward))) ∙ sym (same-word (bytesOf "(") (tokenBytes text s) b))
 
     closes : getD text close 0 ≡ 41
     closes =

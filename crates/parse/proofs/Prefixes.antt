@@ -22,7 +22,7 @@ use Rattle.parse.specs.declared.Read.{Read}
 use Rattle.parse.specs.Stored.{store}
 use Rattle.parse.specs.Numbered.{TokenNumbered, noneLeft, numbered}
 use Rattle.parse.specs.Reading.{firstsInside, prefixValue}
-use Rattle.parse.specs.Prefixes.{firstsBefore, readUpTo, Passes, passesNone, passesMore, Leads}
+use Rattle.parse.specs.Prefixes.{firstsBefore, readUpTo, Passes, passesNone, passesMore, ReadLeads}
 use Rattle.parse.proofs.Parts.{firsts-inside-most, a-prefix, prefix-found, prefix-missing}
 
 -- A token that is a prefix is there.
@@ -108,7 +108,7 @@ module _ {rest : ℕ → List Token} {at f m g : ℕ} (l : Last-passed rest at f
 
 -- ---- what was read
 
-pub leads-none : {rest : ℕ → List Token} {n m g : ℕ} {mid : Nodes} {r : Read} → Leads rest n m g mid r m g mid (readUpTo r (r .nodes))
+pub leads-none : {rest : ℕ → List Token} {n m g : ℕ} {mid : Nodes} {r : Read} → ReadLeads rest n m g mid r m g mid (readUpTo r (r .nodes))
 leads-none =
     record {
       read = refl;
@@ -117,9 +117,9 @@ leads-none =
     }
 
 module _ {rest : ℕ → List Token} {n m g : ℕ} {mid : Nodes} {r : Read} {at f number inside last : ℕ} {now new : Nodes}
-    (h : Leads rest n m g mid r number inside now (readUpTo r last)) (l : Last-passed rest at f number inside) where
+    (h : ReadLeads rest n m g mid r number inside now (readUpTo r last)) (l : Last-passed rest at f number inside) where
   -- One prefix more, from the place before its token.
-  pub leads-more : 0 < number → {k : ℕ} {v : ℤ} → k ≡ l .kind → v ≡ prefixValue k (l .before) → new ≡ store now last (node k v n ∷ []) → Leads rest n m g mid r (number - 1) (l .before) new (readUpTo r (last + 1))
+  pub leads-more : 0 < number → {k : ℕ} {v : ℤ} → k ≡ l .kind → v ≡ prefixValue k (l .before) → new ≡ store now last (node k v n ∷ []) → ReadLeads rest n m g mid r (number - 1) (l .before) new (readUpTo r (last + 1))
   leads-more z {k} t q s =
       let next : number ≡ number - 1 + 1 = omega arith in
       record {
@@ -129,8 +129,8 @@ module _ {rest : ℕ → List Token} {n m g : ℕ} {mid : Nodes} {r : Read} {at 
       }
 
 -- At the first of them the part is read that they begin.
-pub leads-end : {rest : ℕ → List Token} {n m g : ℕ} {mid : Nodes} {r : Read} {at f number inside : ℕ} {new : Nodes} {s : Read} → Leads rest n m g mid r number inside new s → Passes rest at f number inside → number ≤ at
-    → Leads rest n m g mid r at f new s
+pub leads-end : {rest : ℕ → List Token} {n m g : ℕ} {mid : Nodes} {r : Read} {at f number inside : ℕ} {new : Nodes} {s : Read} → ReadLeads rest n m g mid r number inside new s → Passes rest at f number inside → number ≤ at
+    → ReadLeads rest n m g mid r at f new s
 leads-end {rest} {n} {m} {g} {mid} {r} {at = at} {f = f} {number = number} {new = new} {s = s} h p l =
     let e : number ≡ at = omega (arith, passes-later p) in
-    subst (λ j. Leads rest n m g mid r j f new s) e (subst (λ j. Leads rest n m g mid r number j new s) (passes-none p e) h)
+    subst (λ j. ReadLeads rest n m g mid r j f new s) e (subst (λ j. ReadLeads rest n m g mid r number j new s) (passes-none p e) h)

@@ -1,5 +1,5 @@
 -- What the readers give at the first token. From the definitions of the reader and the laws of partners.
-use Prim.Native.Nat.{ℕ, zero, suc, _+_, _-_, _≤_, _<_}
+use Prim.Native.Nat.{ℕ, zero, suc, _+_, _-_, _≤_}
 use mathlib.Core.Path.{_≡_, refl, sym, ap, ap₂, subst, _∙_}
 use mathlib.Core.Bool.{true, false, not, cond, _&&_}
 use mathlib.Core.List.{List, [], _∷_, _++_}
@@ -7,14 +7,14 @@ use mathlib.Core.Option.{Option, some, none}
 use native.Mathlib.Omega.{arith}
 use lib.ListN.{length, take, drop, length-take, length-append}
 use lib.Seq.{take-append-seam, drop-append-add, drop-drop}
+use Rattle.scan.proofs.Codes.{infix-small}
 use Rattle.basics.proofs.Reflects.{from-true}
 use Rattle.text.specs.Bytes.{Token, bytesOf, tokens}
 use Rattle.text.specs.Token.{sameBytes, isName, isInteger, isReserved}
 use Rattle.text.proofs.Token.{sameBytes-reflects}
 use Rattle.meaning.specs.Expression.{Expression}
-use Rattle.meaning.specs.Value.{less, atMost, equal, atLeast, greater, different}
-use Rattle.meaning.specs.Arithmetic.{add, subtract, multiply, divide, remainder, compare, and, or}
-use Rattle.sheet.specs.Vocabulary.{Infix, pointwise, followedBy, infixed, operatorTokens, operatorOf, Prefix, prefixed, prefixOf}
+use Rattle.meaning.specs.Arithmetic.{and, or}
+use Rattle.sheet.specs.Vocabulary.{Infix, infixed, operatorTokens, operatorOf, Prefix, prefixed, prefixOf}
 use Rattle.sheet.specs.Parser.{Parsed, parsed, andThen, expect, Reader, operationFrom, afterPart, conditionalBy, expressionBy, noOpening, openingFrom, plainOpening, openingOf, partFrom, partTo}
 use Rattle.sheet.proofs.Vocabulary.{opening-prefix}
 use Rattle.sheet.proofs.Balance.{Partner, bracket-read, bracket-read-back, no-partner}
@@ -117,86 +117,70 @@ module _ (names : List Token) where
       ∙ no-partner names (tokens (drop end text)) d (λ m p. let (k, q) = partner-bytes (drop end text) p in f k q)
 
 -- The bytes of the token at these places.
-abbrev pub wordOf : List ℕ → NumberedToken → Token
-wordOf text r = between text (r .start) (r .end)
+abbrev pub tokenBytes : List ℕ → NumberedToken → Token
+tokenBytes text r = between text (r .start) (r .end)
 
-pub no-word : (text : List ℕ) (r : NumberedToken) → r .start ≡ length text → r .end ≡ length text → wordOf text r ≡ []
+pub no-word : (text : List ℕ) (r : NumberedToken) → r .start ≡ length text → r .end ≡ length text → tokenBytes text r ≡ []
 no-word text r p q = (λ i. between text (p i) (q i)) ∙ between-none text (length text)
-
-infix-small : (o : Infix) → infixCode o < 255
-infix-small (pointwise add) = omega arith
-infix-small (pointwise subtract) = omega arith
-infix-small (pointwise multiply) = omega arith
-infix-small (pointwise divide) = omega arith
-infix-small (pointwise remainder) = omega arith
-infix-small (pointwise (compare less)) = omega arith
-infix-small (pointwise (compare atMost)) = omega arith
-infix-small (pointwise (compare equal)) = omega arith
-infix-small (pointwise (compare atLeast)) = omega arith
-infix-small (pointwise (compare greater)) = omega arith
-infix-small (pointwise (compare different)) = omega arith
-infix-small (pointwise and) = omega arith
-infix-small (pointwise or) = omega arith
-infix-small followedBy = omega arith
 
 -- An operator, and what the reader does with it.
 pub record Operator-at (text : List ℕ) (rest : ℕ → List Token) (at : ℕ) (r : NumberedToken) (code : ℕ) : Type 0 where
   pub operator : Infix
   pub code-is : code ≡ infixCode operator
-  pub first : rest at ≡ wordOf text r ∷ rest (r .next)
+  pub first : rest at ≡ tokenBytes text r ∷ rest (r .next)
   pub number : r .next ≡ at + 1
   pub goes-on : (p : Reader) (a : Expression) → afterPart p a (rest at) ≡ andThen (p (rest (r .next))) (λ y. parsed (infixed operator a (y .tree)) (y .rest))
 
 -- The first token of a text at a place, compared with a word.
 module _ {text : List ℕ} {rest : ℕ → List Token} {at : ℕ} {r : NumberedToken} where
-  pub word-is : (w : Token) → TokenNumbered text rest at r → (w ≡ [] → ⊥) → sameBytes w (wordOf text r) ≡ true → rest at ≡ w ∷ rest (r .next)
-  word-is w (noneLeft p q e) n h = absurd (n (same-word w (wordOf text r) h ∙ no-word text r p q))
-  word-is w (numbered s i m e j) n h = e ∙ ap (λ t. t ∷ rest (r .next)) (sym (same-word w (wordOf text r) h))
+  pub word-is : (w : Token) → TokenNumbered text rest at r → (w ≡ [] → ⊥) → sameBytes w (tokenBytes text r) ≡ true → rest at ≡ w ∷ rest (r .next)
+  word-is w (noneLeft p q e) n h = absurd (n (same-word w (tokenBytes text r) h ∙ no-word text r p q))
+  word-is w (numbered s i m e j) n h = e ∙ ap (λ t. t ∷ rest (r .next)) (sym (same-word w (tokenBytes text r) h))
 
-  pub word-is-not : (w : Token) → TokenNumbered text rest at r → sameBytes w (wordOf text r) ≡ false → expect w (rest at) ≡ none
+  pub word-is-not : (w : Token) → TokenNumbered text rest at r → sameBytes w (tokenBytes text r) ≡ false → expect w (rest at) ≡ none
   word-is-not w (noneLeft p q e) h = ap (expect w) e
   word-is-not w (numbered s i m e j) h = ap (expect w) e ∙ ap (λ m. cond m (some (rest (r .next))) none) h
 
-  pub word-number : (w : Token) → TokenNumbered text rest at r → (w ≡ [] → ⊥) → sameBytes w (wordOf text r) ≡ true → r .next ≡ at + 1
-  word-number w (noneLeft p q e) n h = absurd (n (same-word w (wordOf text r) h ∙ no-word text r p q))
+  pub word-number : (w : Token) → TokenNumbered text rest at r → (w ≡ [] → ⊥) → sameBytes w (tokenBytes text r) ≡ true → r .next ≡ at + 1
+  word-number w (noneLeft p q e) n h = absurd (n (same-word w (tokenBytes text r) h ∙ no-word text r p q))
   word-number w (numbered s i m e j) n h = m
 
   -- An opening bracket is one byte long.
-  pub open-bytes : TokenNumbered text rest at r → (r .start ≡ r .end → ⊥) → sameBytes (bytesOf "(") (wordOf text r) ≡ true → rest (r .next) ≡ tokens (drop (r .start + 1) text)
+  pub open-bytes : TokenNumbered text rest at r → (r .start ≡ r .end → ⊥) → sameBytes (bytesOf "(") (tokenBytes text r) ≡ true → rest (r .next) ≡ tokens (drop (r .start + 1) text)
   open-bytes k n h =
       let within = token-within k in
-      let size : 1 ≡ length (wordOf text r) = ap length (same-word (bytesOf "(") (wordOf text r) h) in
+      let size : 1 ≡ length (tokenBytes text r) = ap length (same-word (bytesOf "(") (tokenBytes text r) h) in
       let long = between-length text (r .start) (r .end) (within .0) (within .1) in
       let end : r .end ≡ r .start + 1 = omega arith in
       token-bytes k n ∙ ap (λ e. tokens (drop e text)) end
 
-  pub open-tokens : TokenNumbered text rest at r → (r .start ≡ r .end → ⊥) → sameBytes (bytesOf "(") (wordOf text r) ≡ true → rest at ≡ wordOf text r ∷ tokens (drop (r .start + 1) text)
-  open-tokens k n h = token-tokens k n ∙ ap (λ us. wordOf text r ∷ us) (open-bytes k n h)
+  pub open-tokens : TokenNumbered text rest at r → (r .start ≡ r .end → ⊥) → sameBytes (bytesOf "(") (tokenBytes text r) ≡ true → rest at ≡ tokenBytes text r ∷ tokens (drop (r .start + 1) text)
+  open-tokens k n h = token-tokens k n ∙ ap (λ us. tokenBytes text r ∷ us) (open-bytes k n h)
 
   -- An expression that does not begin with `if` begins with a part.
-  pub expression-part : (p : Reader) → p [] ≡ none → TokenNumbered text rest at r → sameBytes (bytesOf "if") (wordOf text r) ≡ false → expressionBy p (rest at) ≡ andThen (p (rest at)) (λ y. afterPart p (y .tree) (y .rest))
+  pub expression-part : (p : Reader) → p [] ≡ none → TokenNumbered text rest at r → sameBytes (bytesOf "if") (tokenBytes text r) ≡ false → expressionBy p (rest at) ≡ andThen (p (rest at)) (λ y. afterPart p (y .tree) (y .rest))
   unfolding expressionBy
   expression-part p h (noneLeft _ _ e) n = ap (expressionBy p) e ∙ sym (ap (λ o. andThen o (λ y. afterPart p (y .tree) (y .rest))) (ap p e ∙ h))
   expression-part p h (numbered _ _ _ e _) n =
       let after : Option Parsed → Option Parsed = λ o. andThen o (λ y. afterPart p (y .tree) (y .rest)) in
-      ap (expressionBy p) e ∙ ap (λ m. cond m (conditionalBy p (rest (r .next))) (after (p (wordOf text r ∷ rest (r .next))))) n ∙ sym (ap (λ l. after (p l)) e)
+      ap (expressionBy p) e ∙ ap (λ m. cond m (conditionalBy p (rest (r .next))) (after (p (tokenBytes text r ∷ rest (r .next))))) n ∙ sym (ap (λ l. after (p l)) e)
 
   -- What stands after a part: no operator, or one.
-  pub after-ends : (p : Reader) (a : Expression) → TokenNumbered text rest at r → codeOr255 infixCode (operatorOf (wordOf text r)) ≡ 255 → afterPart p a (rest at) ≡ parsed a (rest at)
+  pub after-ends : (p : Reader) (a : Expression) → TokenNumbered text rest at r → codeOr255 infixCode (operatorOf (tokenBytes text r)) ≡ 255 → afterPart p a (rest at) ≡ parsed a (rest at)
   after-ends p a (noneLeft _ _ e) h = ap (afterPart p a) e ∙ sym (ap (parsed a) e)
   after-ends p a (numbered _ _ _ e _) h =
-      let none-there : operatorOf (wordOf text r) ≡ none = code-none infixCode infix-small (operatorOf (wordOf text r)) h in
-      ap (afterPart p a) e ∙ ap (λ o. operationFrom p a (wordOf text r ∷ rest (r .next)) o (rest (r .next))) none-there ∙ sym (ap (parsed a) e)
+      let none-there : operatorOf (tokenBytes text r) ≡ none = code-none infixCode infix-small (operatorOf (tokenBytes text r)) h in
+      ap (afterPart p a) e ∙ ap (λ o. operationFrom p a (tokenBytes text r ∷ rest (r .next)) o (rest (r .next))) none-there ∙ sym (ap (parsed a) e)
 
-  pub operator-at : {code : ℕ} → TokenNumbered text rest at r → code ≡ codeOr255 infixCode (operatorOf (wordOf text r)) → (code ≡ 255 → ⊥) → Operator-at text rest at r code
+  pub operator-at : {code : ℕ} → TokenNumbered text rest at r → code ≡ codeOr255 infixCode (operatorOf (tokenBytes text r)) → (code ≡ 255 → ⊥) → Operator-at text rest at r code
   unfolding operatorOf operatorTokens
   operator-at (noneLeft p q e) c n = absurd (n (c ∙ ap (λ w. codeOr255 infixCode (operatorOf w)) (no-word text r p q)))
   operator-at (numbered _ _ m e _) c n =
-      let (o, is, code) = code-some infixCode (operatorOf (wordOf text r)) (λ h. n (c ∙ h)) in
+      let (o, is, code) = code-some infixCode (operatorOf (tokenBytes text r)) (λ h. n (c ∙ h)) in
       record {
         operator = o;
         code-is = c ∙ code;
         first = e;
         number = m;
-        goes-on = λ p a. ap (afterPart p a) e ∙ ap (λ m. operationFrom p a (wordOf text r ∷ rest (r .next)) m (rest (r .next))) is;
+        goes-on = λ p a. ap (afterPart p a) e ∙ ap (λ m. operationFrom p a (tokenBytes text r ∷ rest (r .next)) m (rest (r .next))) is;
       }

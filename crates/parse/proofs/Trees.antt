@@ -17,7 +17,7 @@ use Rattle.sheet.specs.Vocabulary.{Infix, pointwise, followedBy, infixed, Prefi
 use Rattle.sheet.specs.Reading.{anyOf, isBeyond, isIntegerBeyond}
 use Rattle.scan.specs.Word.{infixCode, prefixCode}
 use Rattle.parse.specs.Stored.{store}
-use Rattle.parse.specs.Bounded.{within, boundedExpression, hasBeyond}
+use Rattle.parse.specs.Bounded.{zeroBeyond, boundedExpression, hasBeyond}
 use Rattle.parse.specs.Reading.{StoresTree, firstsInside, prefixValue}
 use Rattle.parse.proofs.Store.{store-more}
 
@@ -31,7 +31,7 @@ anyOf-append f (x ∷ l) m = ap (λ b. f x || b) (anyOf-append f l m) ∙ by (f 
 
 -- An integer and a name.
 module _ {old new : Nodes} {n f : ℕ} where
-  pub stores-integer : (z : ℤ) {b : Bool} → b ≡ isBeyond z → new ≡ store old n (node 0 (within z) n ∷ []) → StoresTree (integer z) old new n f (n + 1) f b
+  pub stores-integer : (z : ℤ) {b : Bool} → b ≡ isBeyond z → new ≡ store old n (node 0 (zeroBeyond z) n ∷ []) → StoresTree (integer z) old new n f (n + 1) f b
   unfolding postfix boundedExpression firsts hasBeyond subexpressions
   stores-integer z e h = record { arrays = h; nodes = refl; firsts = omega arith; beyond = e ∙ alone (isBeyond z) }
     where
@@ -121,16 +121,16 @@ joined-beyond (pointwise o) a b = anyOf-append isIntegerBeyond (subexpressions a
 joined-beyond followedBy a b = anyOf-append isIntegerBeyond (subexpressions a) (subexpressions b)
 
 -- Nodes in a row, of one tree after the other: those from n to m, with the numbers of `first`s from f to g, c of them.
-pub record Row (old new : Nodes) (n f m g : ℕ) (l : List Node) (c : ℕ) : Type 0 where
+pub record NodesInRow (old new : Nodes) (n f m g : ℕ) (l : List Node) (c : ℕ) : Type 0 where
   pub arrays : new ≡ store old n l
   pub nodes : m ≡ n + length l
   pub firsts : g ≡ f + c
 
-pub row-one : {old new : Nodes} {n f m g : ℕ} {b : Bool} {a : Expression} → StoresTree a old new n f m g b → Row old new n f m g (postfix n f (boundedExpression a)) (length (firsts (boundedExpression a)))
+pub row-one : {old new : Nodes} {n f m g : ℕ} {b : Bool} {a : Expression} → StoresTree a old new n f m g b → NodesInRow old new n f m g (postfix n f (boundedExpression a)) (length (firsts (boundedExpression a)))
 row-one s = record { arrays = s .arrays; nodes = s .nodes; firsts = s .firsts }
 
-pub row-more : {old mid new : Nodes} {n f m g k h : ℕ} {l : List Node} {c : ℕ} {y : Bool} {b : Expression} → Row old mid n f m g l c → StoresTree b mid new m g k h y
-    → Row old new n f k h (l ++ postfix (n + length l) (f + c) (boundedExpression b)) (c + length (firsts (boundedExpression b)))
+pub row-more : {old mid new : Nodes} {n f m g k h : ℕ} {l : List Node} {c : ℕ} {y : Bool} {b : Expression} → NodesInRow old mid n f m g l c → StoresTree b mid new m g k h y
+    → NodesInRow old new n f k h (l ++ postfix (n + length l) (f + c) (boundedExpression b)) (c + length (firsts (boundedExpression b)))
 row-more {old} {mid} {n = n} {f = f} {l = l} {c = c} {b = b} r s =
     let others = postfix (n + length l) (f + c) (boundedExpression b) in
     let z = length-append l others in
@@ -141,10 +141,10 @@ row-more {old} {mid} {n = n} {f = f} {l = l} {c = c} {b = b} r s =
       firsts = omega (arith, r .firsts, s .firsts);
     }
 
-pub row-node : {old mid new : Nodes} {n f m g : ℕ} {l : List Node} {c : ℕ} (x : Node) → Row old mid n f m g l c → new ≡ store mid m (x ∷ []) → Row old new n f (m + 1) g (l ++ (x ∷ [])) c
+pub row-node : {old mid new : Nodes} {n f m g : ℕ} {l : List Node} {c : ℕ} (x : Node) → NodesInRow old mid n f m g l c → new ≡ store mid m (x ∷ []) → NodesInRow old new n f (m + 1) g (l ++ (x ∷ [])) c
 row-node {old} {n = n} {l = l} x r e = let z = length-one l x in record { arrays = store-more old n l (x ∷ []) (r .arrays) (r .nodes) e; nodes = omega (arith, r .nodes); firsts = r .firsts }
 
-row-stores : {old new : Nodes} {n f m g : ℕ} {l : List Node} {c : ℕ} {b : Bool} {e : Expression} → Row old new n f m g l c → l ≡ postfix n f (boundedExpression e) → c ≡ length (firsts (boundedExpression e)) → b ≡ hasBeyond e → StoresTree e old new n f m g b
+row-stores : {old new : Nodes} {n f m g : ℕ} {l : List Node} {c : ℕ} {b : Bool} {e : Expression} → NodesInRow old new n f m g l c → l ≡ postfix n f (boundedExpression e) → c ≡ length (firsts (boundedExpression e)) → b ≡ hasBeyond e → StoresTree e old new n f m g b
 row-stores {old} {n = n} {f = f} r p q w =
     record { arrays = r .arrays ∙ ap (store old n) p; nodes = r .nodes ∙ ap (λ l. n + length l) p; firsts = r .firsts ∙ ap (λ c. f + c) q; beyond = w }
 

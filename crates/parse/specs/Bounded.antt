@@ -7,11 +7,11 @@ use Rattle.meaning.specs.Expression.{Expression, integer, name, first, next, ne
 use Rattle.meaning.specs.Interval.{subexpressions}
 use Rattle.sheet.specs.Reading.{anyOf, isBeyond, isIntegerBeyond}
 
-abbrev pub within : ℤ → ℤ
-within z = cond (isBeyond z) (pos 0) z
+abbrev pub zeroBeyond : ℤ → ℤ
+zeroBeyond z = cond (isBeyond z) (pos 0) z
 
 unfoldable pub boundedExpression : Expression → Expression
-boundedExpression (integer z) = integer (within z)
+boundedExpression (integer z) = integer (zeroBeyond z)
 boundedExpression (name k) = name k
 boundedExpression (first e) = first (boundedExpression e)
 boundedExpression (next e) = next (boundedExpression e)

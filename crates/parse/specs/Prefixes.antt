@@ -27,6 +27,6 @@ pub data Passes (rest : ℕ → List Token) (at f : ℕ) : ℕ → ℕ → Type 
       → Passes rest at f m′ g′
 
 -- A part that was read as r from the token with the number m on leads to one that was read as s from the token with the number `at` on.
-pub record Leads (rest : ℕ → List Token) (n m g : ℕ) (mid : Nodes) (r : Read) (at f : ℕ) (new : Nodes) (s : Read) : Type 0 where
+pub record ReadLeads (rest : ℕ → List Token) (n m g : ℕ) (mid : Nodes) (r : Read) (at f : ℕ) (new : Nodes) (s : Read) : Type 0 where
   pub read : s .ok ≡ true
   pub found : (names : List Token) (old : Nodes) → TreeRead (partTo names) rest m old mid n g r → TreeRead (partTo names) rest at old new n f s

@@ -16,7 +16,7 @@ ghost use Rattle.nodes.specs.Postfix.{node};
 ghost use Rattle.sheet.specs.Parser.{partTo, conditionalBy, expressionBy};
 ghost use Rattle.parse.specs.Stored.{store};
 ghost use Rattle.parse.specs.Numbered.{tokensFrom, Placed, TokenNumbered};
-ghost use Rattle.parse.specs.Prefixes.{firstsBefore, Passes, Leads};
+ghost use Rattle.parse.specs.Prefixes.{firstsBefore, Passes, ReadLeads};
 ghost use Rattle.parse.specs.Reading.{LineFits, Reading, LeafReading, firstsInside, prefixValue, unread, Fits, StartsOutcome, ConstraintOutcome};
 
 // What reading a part or an expression gives: whether there is one, the number of the token after it, the numbers of nodes and of `first`s
@@ -260,7 +260,7 @@ fn put_prefixes(
     requires { ⌜ Placed (now text) origin (now «token_starts») at ⌝ }
     requires { ⌜ Passes (tokensFrom (now text) origin (now «token_starts»)) at firsts (passed .at) (passed .firsts) ⌝ }
     requires { ⌜ (nodes ≤ inner .nodes) × (inner .nodes + passed .at ≤ 1024 + at) × (firsts + length (tokensFrom (now text) origin (now «token_starts») at) ≤ 2048) ⌝ }
-    ensures { λ r. ⌜ Leads (tokensFrom (now (text .entry)) origin (now («token_starts» .entry))) nodes (passed .at) (passed .firsts) (stored (now (kinds .entry)) (now (values .entry)) (now (starts .entry))) inner at firsts (stored (now (kinds .exit)) (now (values .exit)) (now (starts .exit))) r ⌝ }
+    ensures { λ r. ⌜ ReadLeads (tokensFrom (now (text .entry)) origin (now («token_starts» .entry))) nodes (passed .at) (passed .firsts) (stored (now (kinds .entry)) (now (values .entry)) (now (starts .entry))) inner at firsts (stored (now (kinds .exit)) (now (values .exit)) (now (starts .exit))) r ⌝ }
 {
     let mut number = passed.at;
     let mut inside = passed.firsts;
@@ -595,7 +595,7 @@ fn sides(
     let sign_start = sign.start;
     let sign_end = sign.end;
     let relation = scan::relation_code(&line[sign_start..sign_end]);
-    if relation == 255 {
+    if relation == nodes::NO_CODE {
         return unread(true);
     }
     let right = expression(
@@ -631,7 +631,7 @@ fn sides(
 
 // Whether the line has no more tokens than there is room for. It has no more tokens than bytes, so that they are counted only where the
 // bytes are more.
-fn has_room(line: &[u8], room: usize) -> bool
+fn tokens_fit(line: &[u8], room: usize) -> bool
     ensures { λ r. ⌜ r ≡ leb (length (tokens (now (line .entry)))) room ⌝ }
 {
     if line.len() <= room {
@@ -682,7 +682,7 @@ pub fn parse_constraint(
     if 1024 < firsts {
         return unread(false);
     }
-    if !has_room(line, 1024 - from) {
+    if !tokens_fit(line, 1024 - from) {
         return unread(false);
     }
     let last = store_token_starts(line, token_starts, from);

@@ -1,40 +1,17 @@
 // Reads pairs of lines from standard input, the names of a sheet and one constraint, and prints what the constraint is read as: the
 // answer's numbers and then each node's kind, value and start.
+use cases::print;
 use libc::STDIN_FILENO;
 use libc::STDOUT_FILENO;
 
-fn space() {
-    io::write_all(STDOUT_FILENO, &[32]);
-}
-
-fn print(n: usize) {
-    io::print_decimal(STDOUT_FILENO, n as u64);
-    space();
-}
-
 fn print_flag(flag: bool) {
-    print(if flag { 1 } else { 0 });
-}
-
-fn magnitude(value: i64) -> usize {
-    if value < 0 {
-        if value < -2000000000 {
-            0
-        } else {
-            (0 - value) as usize
-        }
-    } else {
-        value as usize
-    }
+    print(if flag { 1 } else { 0 }, b" ");
 }
 
 fn print_node(kind: u8, value: i64, start: u16) {
-    print(kind as usize);
-    if value < 0 {
-        io::write_all(STDOUT_FILENO, &[45]);
-    }
-    print(magnitude(value));
-    print(start as usize);
+    print(kind as u64, b" ");
+    cases::print_signed(value, b" ");
+    print(start as u64, b" ");
 }
 
 fn print_nodes(kinds: &[u8; 1024], values: &[i64; 1024], starts: &[u16; 1024], count: usize) {
@@ -67,14 +44,14 @@ fn print_constraint(names: &[u8], line: &[u8]) {
     );
     print_flag(read.fits);
     print_flag(read.ok);
-    print(read.relation as usize);
-    print(read.left);
-    print(read.right);
-    print(read.next);
-    print(read.firsts);
+    print(read.relation as u64, b" ");
+    print(read.left as u64, b" ");
+    print(read.right as u64, b" ");
+    print(read.next as u64, b" ");
+    print(read.firsts as u64, b" ");
     print_flag(read.beyond);
     print_nodes(&kinds, &values, &starts, read.next);
-    io::write_all(STDOUT_FILENO, &[10]);
+    io::write_all(STDOUT_FILENO, b"\n");
 }
 
 fn print_all(text: &[u8]) {

@@ -8,6 +8,7 @@ use mathlib.Core.List.{List, [], _∷_, _++_}
 use lib.Dec.{leb, ltb, eqb}
 use lib.IntN.{ℤ, pos, negsuc, negℤ}
 use borrow.Author.Tests.{ltb-true, ltb-false, lt-ltb, le-ltb, leb-true, le-leb, ne-eqb}
+use Rattle.basics.proofs.Tests.{or-true}
 use Rattle.text.specs.Token.{allBytes, sameBytes, isDigit, isEmpty, isNatural, naturalFrom, isInteger, integerValue}
 use Rattle.text.proofs.Token.{naturalFrom-append}
 use Rattle.print.specs.Text.{digitsWithin, digits, decimal}
@@ -120,10 +121,6 @@ digit-not-minus b e = by (leb 48 b) refl e
 form-natural : (n : ℕ) (f : Form n) → isNatural (f .first ∷ f .others) ≡ true
 unfolding isNatural
 form-natural zero f = ap₂ (λ s t. s && t && (not (eqb (f .first) 48) || isEmpty (f .others))) (f .first-digit) (f .other-digits) ∙ ap (λ l. not (eqb (f .first) 48) || isEmpty l) (f .alone (omega arith)) ∙ or-true (not (eqb (f .first) 48))
-  where
-    or-true : (b : Bool) → b || true ≡ true
-    or-true true = refl
-    or-true false = refl
 form-natural (suc n) f = ap₂ (λ s t. s && t && (not (eqb (f .first) 48) || isEmpty (f .others))) (f .first-digit) (f .other-digits) ∙ ap (λ t. not t || isEmpty (f .others)) (f .lead (omega arith))
 
 not-zero-text : (b : ℕ) (l : List ℕ) → eqb b 48 ≡ false → not (sameBytes (b ∷ l) (48 ∷ [])) ≡ true

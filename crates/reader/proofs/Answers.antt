@@ -7,6 +7,7 @@ use mathlib.Core.Option.{Option, none}
 use native.Mathlib.Omega.{arith}
 use lib.IntN.{pos}
 use lib.ListN.{length, length-map}
+use Rattle.nodes.proofs.Postfix.{stored-length}
 use Rattle.nodes.specs.Evaluate.{stored}
 use Rattle.text.specs.Bytes.{Token, lines, tokens}
 use Rattle.meaning.specs.Expression.{Constraint, Sheet}
@@ -27,7 +28,7 @@ use Rattle.reader.specs.declared.StreamsRead.{StreamsRead}
 use Rattle.reader.specs.declared.Reading.{Reading}
 use Rattle.reader.proofs.Stored.{withAll, withAll-nodes, withAll-relations, withAll-lefts, withAll-rights}
 use Rattle.reader.proofs.Room.{sets-padded}
-use Rattle.reader.proofs.Counts.{withAll-counts, constraints-few, stored-length}
+use Rattle.reader.proofs.Counts.{withAll-counts, constraints-few}
 use Rattle.reader.proofs.Form.{StreamsFound, streams-found, streams-names, noConstraints, ConstraintsFound, constraints-found, form-no-streams, form-empty, form-no-constraints, form-sheet}
 
 -- ---- refusal 3

@@ -7,6 +7,7 @@ use mathlib.Core.Option.{some, none}
 use native.Mathlib.Omega.{arith}
 use lib.Dec.{T, eqb}
 use lib.ListN.{length, drop, set, length-append}
+use Rattle.basics.proofs.Tests.{bit-most}
 use Rattle.nodes.specs.Evaluate.{Nodes}
 use Rattle.text.specs.Bytes.{lines, tokens}
 use Rattle.meaning.specs.Expression.{Constraint, leftSide, rightSide}
@@ -59,12 +60,8 @@ sofar-start names text a p l r h =
     let c = h .count in
     record { within = omega arith; same = refl; nodes = omega arith; firsts = omega arith; count = omega arith; untils = omega arith }
 
-one-at-most : (b : Bool) → cond b 1 0 ≤ 1
-one-at-most true = omega arith
-one-at-most false = omega arith
-
 pub at-most-one : (b : Bool) {u : ℕ} → u ≡ cond b 1 0 → u ≤ 1
-at-most-one b e = let o = one-at-most b in omega arith
+at-most-one b e = let o = bit-most b in omega arith
 
 module _ {names text : List ℕ} {old s : State} {at : ℕ} {l : LineSpan} (k : SoFar names text old s at) (h : at < length text) (found : LineAt text at l) where
   abbrev line : List ℕ
@@ -144,7 +141,7 @@ module _ {names text : List ℕ} {old s : State} {at : ℕ} {l : LineSpan} (k : 
           let y = ap length (line-lines found h) in
           let p : r .next ≡ n + length (sideNodes n f (boundedConstraint c)) = ap (λ q. q .next) (d .gives) in
           let q : r .firsts ≡ f + length (sideFirsts (boundedConstraint c)) = ap (λ q. q .firsts) (d .gives) in
-          let o = one-at-most (eqb (r .relation) 7) in
+          let o = bit-most (eqb (r .relation) 7) in
           let kn = k .nodes in
           let kf = k .firsts in
           let kc = k .count in

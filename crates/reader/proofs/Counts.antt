@@ -13,7 +13,7 @@ use Rattle.meaning.specs.Expression.{Sign, comparison, implies, Constraint, alw
 use Rattle.meaning.specs.Interval.{subexpressions}
 use Rattle.meaning.specs.Window.{sideFirsts, allFirsts, untilsOf, allUntils}
 use Rattle.nodes.specs.Code.{signCode, relationCode}
-use Rattle.nodes.specs.Postfix.{sideNodes, allNodes, storedConstraints}
+use Rattle.nodes.specs.Postfix.{sideNodes, allNodes}
 use Rattle.sheet.specs.Refusal.{tokenCount}
 use Rattle.sheet.specs.Parser.{parseConstraint}
 use Rattle.sheet.specs.Reading.{anyOf, isIntegerBeyond, allExpressions, constraintsOf}
@@ -105,9 +105,3 @@ constraints-few names (l ∷ ls) n f {cs} e =
     let b = more .nodes in
     let z = length-append k (allNodes m g (map boundedConstraint ds)) in
     subst (FewConstraints (l ∷ ls) n f) (Option·some-injective (c ∷ ds) cs done) (record { count = ap suc (more .count); nodes = omega arith })
-
--- There is one stored constraint for each.
-pub stored-length : (n f : ℕ) (cs : List Constraint) → length (storedConstraints n f cs) ≡ length cs
-unfolding storedConstraints
-stored-length n f [] = refl
-stored-length n f (c ∷ cs) = ap suc (stored-length (n + length (sideNodes n f c)) (f + length (sideFirsts c)) cs)

@@ -7,6 +7,7 @@ use native.Mathlib.Omega.{arith}
 use lib.IntN.{pos}
 use lib.ListN.{length, take, replicate, length-map, length-take}
 use lib.Seq.{length-take-le}
+use Rattle.nodes.proofs.Postfix.{stored-length}
 use Rattle.meaning.specs.Expression.{Constraint, Stream, Sheet}
 use Rattle.meaning.specs.Window.{allFirsts, allUntils}
 use Rattle.nodes.specs.Postfix.{Node, StoredConstraint, allNodes, storedConstraints, kindsOf, valuesOf, startsOf}
@@ -14,7 +15,7 @@ use Rattle.nodes.specs.Evaluate.{stored}
 use Rattle.nodes.specs.FirstPlaces.{allFirstPlaces}
 use Rattle.sheet.specs.Refusal.{sheet}
 use Rattle.sheet.specs.Reading.{anyOf, isRangeFaulty, isIntegerBeyond, allExpressions, answerToSheet}
-use Rattle.parse.specs.Bounded.{within, boundedConstraint}
+use Rattle.parse.specs.Bounded.{zeroBeyond, boundedConstraint}
 use Rattle.reader.specs.Constraints.{State, counts}
 use Rattle.reader.specs.Stored.{padded, relationsOf, leftsOf, rightsOf, storedSheet, refusedReading, readingOf}
 use Rattle.reader.specs.Streams.{StreamTables}
@@ -25,7 +26,6 @@ use Rattle.reader.specs.declared.StreamsRead.{StreamsRead}
 use Rattle.refusals.specs.declared.Tested.{Tested}
 use Rattle.reader.specs.declared.Reading.{Reading}
 use Rattle.reader.proofs.Room.{length-padded, take-padded}
-use Rattle.reader.proofs.Counts.{stored-length}
 use Rattle.reader.proofs.Tests.{storedLows, storedHighs, NothingCut, acceptedAs, Told, isRefused, isSheet, tests-told}
 use Rattle.reader.proofs.FirstNodes.{first-places, few-firsts}
 
@@ -36,17 +36,17 @@ module _ {s : Sheet} {r : StreamsRead} {tables : StreamTables} {new : State} (H 
   abbrev cs : List Constraint
   cs = s .constraints
 
-  abbrev bounded : List Constraint
-  bounded = map boundedConstraint cs
+  abbrev cutConstraints : List Constraint
+  cutConstraints = map boundedConstraint cs
 
   abbrev nodes : List Node
-  nodes = allNodes 0 0 bounded
+  nodes = allNodes 0 0 cutConstraints
 
   abbrev rows : List StoredConstraint
-  rows = storedConstraints 0 0 bounded
+  rows = storedConstraints 0 0 cutConstraints
 
   rows-length : length rows ≡ length cs
-  rows-length = stored-length 0 0 bounded ∙ length-map cs boundedConstraint
+  rows-length = stored-length 0 0 cutConstraints ∙ length-map cs boundedConstraint
 
   -- ---- what the tables and counts are
 
@@ -61,11 +61,11 @@ module _ {s : Sheet} {r : StreamsRead} {tables : StreamTables} {new : State} (H 
   unfolding constraintTables
   nodes-are = ap (λ x. x .counts .nodes) (H .constraints)
 
-  firsts-are : new .counts .firsts ≡ length (allFirsts bounded)
+  firsts-are : new .counts .firsts ≡ length (allFirsts cutConstraints)
   unfolding constraintTables
   firsts-are = ap (λ x. x .counts .firsts) (H .constraints)
 
-  untils-are : new .counts .untils ≡ length (allUntils bounded)
+  untils-are : new .counts .untils ≡ length (allUntils cutConstraints)
   unfolding constraintTables
   untils-are = ap (λ x. x .counts .untils) (H .constraints)
 
@@ -121,10 +121,10 @@ module _ {s : Sheet} {r : StreamsRead} {tables : StreamTables} {new : State} (H 
   rights-front = ap (take (new .counts .count)) rights-are ∙ take-padded 0 32 (rightsOf rows) (count-is ∙ sym rows-length ∙ sym (length-map rows (λ t. t .right)))
 
   lows-front : take (r .count) (tables .lows) ≡ storedLows ss
-  lows-front = ap (take (r .count)) lows-are ∙ take-padded (pos 0) 8 (storedLows ss) (streams-are ∙ sym (length-map ss (λ x. within (x .range .low))))
+  lows-front = ap (take (r .count)) lows-are ∙ take-padded (pos 0) 8 (storedLows ss) (streams-are ∙ sym (length-map ss (λ x. zeroBeyond (x .range .low))))
 
   highs-front : take (r .count) (tables .highs) ≡ storedHighs ss
-  highs-front = ap (take (r .count)) highs-are ∙ take-padded (pos 0) 8 (storedHighs ss) (streams-are ∙ sym (length-map ss (λ x. within (x .range .high))))
+  highs-front = ap (take (r .count)) highs-are ∙ take-padded (pos 0) 8 (storedHighs ss) (streams-are ∙ sym (length-map ss (λ x. zeroBeyond (x .range .high))))
 
   -- ---- refusals 4 to 7
 
@@ -169,8 +169,8 @@ module _ {s : Sheet} {r : StreamsRead} {tables : StreamTables} {new : State} (H 
         lefts = ap length lefts-are ∙ length-padded 0 32 (leftsOf rows) (omega (arith, length-map rows (λ t. t .left)));
         rights = ap length rights-are ∙ length-padded 0 32 (rightsOf rows) (omega (arith, length-map rows (λ t. t .right)));
         streams = let i = streams-are in omega arith;
-        lows = ap length lows-are ∙ length-padded (pos 0) 8 (storedLows ss) (omega (arith, length-map ss (λ x. within (x .range .low))));
-        highs = ap length highs-are ∙ length-padded (pos 0) 8 (storedHighs ss) (omega (arith, length-map ss (λ x. within (x .range .high))));
+        lows = ap length lows-are ∙ length-padded (pos 0) 8 (storedLows ss) (omega (arith, length-map ss (λ x. zeroBeyond (x .range .low))));
+        highs = ap length highs-are ∙ length-padded (pos 0) 8 (storedHighs ss) (omega (arith, length-map ss (λ x. zeroBeyond (x .range .high))));
       }
 
   pub stored-fits : (length (take (new .counts .nodes) (new .nodes .values)) ≡ length (take (new .counts .nodes) (new .nodes .kinds))) × (length (take (r .count) (tables .lows)) ≤ 8) × (length (take (new .counts .count) (new .rights)) ≡ length (take (new .counts .count) (new .lefts)))

@@ -28,7 +28,7 @@ use Rattle.scan.specs.Integer.{integerRead}
 use Rattle.scan.specs.declared.Span.{Span}
 use Rattle.scan.specs.declared.IntegerRead.{IntegerRead}
 use Rattle.scan.proofs.Tokens.{between-none, token-empty, token-tokens}
-use Rattle.parse.specs.Bounded.{within}
+use Rattle.parse.specs.Bounded.{zeroBeyond}
 use Rattle.parse.proofs.Leaves.{IsInteger, an-integer, no-integer, integer-fits}
 use Rattle.parse.proofs.Trees.{anyOf-append}
 use Rattle.reader.specs.Stored.{padded, nameBytes, nameLengths}
@@ -93,8 +93,8 @@ withStream t i x =
     streamTables
     (sets (t .names) (i * 8) (x .name))
     (set (t .lengths) i (length (x .name)))
-    (set (t .lows) i (within (x .range .low)))
-    (set (t .highs) i (within (x .range .high)))
+    (set (t .lows) i (zeroBeyond (x .range .low)))
+    (set (t .highs) i (zeroBeyond (x .range .high)))
 
 module _ (before : List Stream) (x : Stream) (few : length before < 8) (room : length (nameBytes before) ≡ length before * 8) (short : length (x .name) ≤ 8) where
   abbrev more : List Stream
@@ -120,12 +120,12 @@ module _ (before : List Stream) (x : Stream) (few : length before < 8) (room : l
   tables-more =
       let n = padded 64 0 (nameBytes more) in
       let k = padded 8 0 (nameLengths more) in
-      let l = padded 8 (pos 0) (map (λ y. within (y .range .low)) more) in
+      let l = padded 8 (pos 0) (map (λ y. zeroBeyond (y .range .low)) more) in
       let t = withStream (streamTablesOf before) (length before) x in
       ap (λ m. streamTables m (t .lengths) (t .lows) (t .highs)) names-more
       ∙ ap (λ m. streamTables n m (t .lows) (t .highs)) (padded-map 8 0 (λ y. length (y .name)) before x few)
-      ∙ ap (λ m. streamTables n k m (t .highs)) (padded-map 8 (pos 0) (λ y. within (y .range .low)) before x few)
-      ∙ ap (λ m. streamTables n k l m) (padded-map 8 (pos 0) (λ y. within (y .range .high)) before x few)
+      ∙ ap (λ m. streamTables n k m (t .highs)) (padded-map 8 (pos 0) (λ y. zeroBeyond (y .range .low)) before x few)
+      ∙ ap (λ m. streamTables n k l m) (padded-map 8 (pos 0) (λ y. zeroBeyond (y .range .high)) before x few)
 
 -- ---- one stream of the lines
 
@@ -168,7 +168,7 @@ module _ {text : List ℕ} {at : ℕ} {s : Span} where
   integer-tokens (aToken f g w e) t = e
 
 -- An integer's value is stored as read, and as 0 beyond the bound.
-stored-value : {w : Token} {b : Bool} {v : ℤ} → IsInteger w b v → held v ≡ within (integerValue w)
+stored-value : {w : Token} {b : Bool} {v : ℤ} → IsInteger w b v → held v ≡ zeroBeyond (integerValue w)
 stored-value {v = v} i = toZ-ofZ w64 v (integer-fits i) ∙ i .near
 
 -- Where both values are within the bound, they are stored as they are.

@@ -20,7 +20,7 @@ use Rattle.sheet.specs.Form.{namesOf}
 use Rattle.sheet.specs.Refusal.{refused, sheet}
 use Rattle.sheet.specs.Reading.{anyOf, sidesBelow, isBeyond, isRangeFaulty, isIntegerBeyond, allExpressions, refuses4, refuses5, refuses6, refuses7, answerToSheet}
 use Rattle.letters.specs.Described.{described, cutCount}
-use Rattle.parse.specs.Bounded.{within, boundedConstraint, constraintBeyond}
+use Rattle.parse.specs.Bounded.{zeroBeyond, boundedConstraint, constraintBeyond}
 use Rattle.parse.proofs.Outcome.{constraint-same}
 use Rattle.parse.proofs.Trees.{anyOf-append}
 use Rattle.refusals.specs.Names.{namesRefused}
@@ -38,10 +38,10 @@ use Rattle.reader.proofs.SheetExtent.{extent-sheet}
 
 -- The stored values: 0 where one is beyond the bound.
 abbrev pub storedLows : List Stream → List ℤ
-storedLows ss = map (λ x. within (x .range .low)) ss
+storedLows ss = map (λ x. zeroBeyond (x .range .low)) ss
 
 abbrev pub storedHighs : List Stream → List ℤ
-storedHighs ss = map (λ x. within (x .range .high)) ss
+storedHighs ss = map (λ x. zeroBeyond (x .range .high)) ss
 
 pub or-left : (a b : Bool) → a || b ≡ false → a ≡ false
 or-left true b e = e
@@ -51,7 +51,7 @@ pub or-right : (a b : Bool) → a || b ≡ false → b ≡ false
 or-right true b e = absurd (subst T e tt)
 or-right false b e = e
 
-within-same : (z : ℤ) → isBeyond z ≡ false → within z ≡ z
+within-same : (z : ℤ) → isBeyond z ≡ false → zeroBeyond z ≡ z
 within-same z e = ap (λ b. cond b (pos 0) z) e
 
 module _ (x : Stream) (h : isRangeFaulty x ≡ false) where
@@ -120,15 +120,15 @@ module _ (s : Sheet) where
   told-refused : {t : Tested} (n : ℕ) → (n ≡ 0 → ⊥) → t ≡ failedAs n → answerToSheet s ≡ refused n → Told s t
   told-refused n h e a = isRefused (λ z. h (sym (ap (λ x. x .refusal) e) ∙ z)) (a ∙ ap refused (sym (ap (λ x. x .refusal) e)))
 
-  abbrev bounded : List Constraint
-  bounded = map boundedConstraint cs
+  abbrev cutConstraints : List Constraint
+  cutConstraints = map boundedConstraint cs
 
   abbrev extentOf : List Constraint → List ℤ → List ℤ → Extent
   extentOf ds lows highs = extentFrom (nodesOf (allNodes 0 0 ds)) lows highs noExtent (leftsOf (storedConstraints 0 0 ds)) (rightsOf (storedConstraints 0 0 ds))
 
   -- What the tests for refusals 6 and 7 say of what is stored.
   abbrev testedNear : Tested
-  testedNear = testedBy (extentOf bounded (storedLows ss) (storedHighs ss)) (cutCount (letterCount (described (storedLows ss) (storedHighs ss)))) (length (allUntils bounded)) (length (allFirsts bounded))
+  testedNear = testedBy (extentOf cutConstraints (storedLows ss) (storedHighs ss)) (cutCount (letterCount (described (storedLows ss) (storedHighs ss)))) (length (allUntils cutConstraints)) (length (allFirsts cutConstraints))
 
   abbrev counted : ℕ → Bool
   counted letters = ltb 1024 letters || ltb 8 (length (allUntils cs)) || ltb 8 (length (allFirsts cs)) || ltb 6 (D cs + B cs)
@@ -188,7 +188,7 @@ module _ (s : Sheet) where
     told-6 false h6 e = told-7 (refuses7 s) h6 refl (e ∙ ap (λ b. cond b (failedAs 7) (record { refusal = 0; letters = cutCount (letterCount ss); ahead = D cs; back = B cs })) cut-counted)
 
     -- The extent and the counts of what is stored are those of the sheet.
-    stored-extent : length (allNodes 0 0 bounded) ≤ 1024 → extentOf bounded (storedLows ss) (storedHighs ss) ≡ extent (not (refuses6 s))
+    stored-extent : length (allNodes 0 0 cutConstraints) ≤ 1024 → extentOf cutConstraints (storedLows ss) (storedHighs ss) ≡ extent (not (refuses6 s))
     stored-extent few =
         let same = constraints-same cs constraints-near in
         ap (λ ds. extentOf ds (storedLows ss) (storedHighs ss)) same
@@ -198,22 +198,22 @@ module _ (s : Sheet) where
     stored-letters : cutCount (letterCount (described (storedLows ss) (storedHighs ss))) ≡ cutCount (letterCount ss)
     stored-letters = ap₂ (λ l h. cutCount (letterCount (described l h))) (lows-same ss streams-near) (highs-same ss streams-near) ∙ ap cutCount (described-count ss)
 
-    told-near : length (allNodes 0 0 bounded) ≤ 1024 → {t : Tested} → t ≡ testedNear → Told s t
+    told-near : length (allNodes 0 0 cutConstraints) ≤ 1024 → {t : Tested} → t ≡ testedNear → Told s t
     told-near few e =
         told-6 (refuses6 s) refl
-        (e ∙ ap₂ (λ x n. testedBy x n (length (allUntils bounded)) (length (allFirsts bounded))) (stored-extent few) stored-letters
+        (e ∙ ap₂ (λ x n. testedBy x n (length (allUntils cutConstraints)) (length (allFirsts cutConstraints))) (stored-extent few) stored-letters
         ∙ ap (λ ds. testedBy (extent (not (refuses6 s))) (cutCount (letterCount ss)) (length (allUntils ds)) (length (allFirsts ds))) (constraints-same cs constraints-near))
 
   -- Refusal 4, where the names of line 1 are not refused.
-  unknown-refused : namesRefused (namesOf ss) ≡ false → someUnknown (kindsOf (allNodes 0 0 bounded)) (valuesOf (allNodes 0 0 bounded)) (length (storedLows ss)) ≡ refuses4 s
+  unknown-refused : namesRefused (namesOf ss) ≡ false → someUnknown (kindsOf (allNodes 0 0 cutConstraints)) (valuesOf (allNodes 0 0 cutConstraints)) (length (storedLows ss)) ≡ refuses4 s
   unfolding refuses4 namesRefused
   unknown-refused names =
-      ap (someUnknown (kindsOf (allNodes 0 0 bounded)) (valuesOf (allNodes 0 0 bounded))) (length-map ss (λ x. within (x .range .low)))
-      ∙ unknown-names 0 0 (length ss) bounded
+      ap (someUnknown (kindsOf (allNodes 0 0 cutConstraints)) (valuesOf (allNodes 0 0 cutConstraints))) (length-map ss (λ x. zeroBeyond (x .range .low)))
+      ∙ unknown-names 0 0 (length ss) cutConstraints
       ∙ bounded-names (length ss) cs
       ∙ ap (λ b. b || anyOf (λ c. not (sidesBelow (length ss) c)) cs) (sym names)
 
-  module _ (few : length (allNodes 0 0 bounded) ≤ 1024) where
+  module _ (few : length (allNodes 0 0 cutConstraints) ≤ 1024) where
     told-4 : (b4 b5 : Bool) → refuses4 s ≡ b4 → refuses5 s ≡ b5 → {t : Tested} → t ≡ cond b4 (failedAs 4) (cond b5 (failedAs 5) testedNear) → Told s t
     unfolding answerToSheet
     told-4 true b5 h4 h5 e = told-refused 4 (λ z. omega arith) e (ap (λ a. cond a (refused 4) (cond (refuses5 s) (refused 5) (cond (refuses6 s) (refused 6) (cond (refuses7 s) (refused 7) (sheet s))))) h4)
@@ -221,7 +221,7 @@ module _ (s : Sheet) where
     told-4 false false h4 h5 e = told-near h4 h5 few e
 
     pub tests-told : namesRefused (namesOf ss) ≡ false → {t : Tested}
-        → t ≡ testedAs (nodesOf (allNodes 0 0 bounded)) (storedLows ss) (storedHighs ss) (leftsOf (storedConstraints 0 0 bounded)) (rightsOf (storedConstraints 0 0 bounded)) (anyOf isRangeFaulty ss || anyOf isIntegerBeyond (allExpressions cs)) (length (allUntils bounded)) (length (allFirsts bounded))
+        → t ≡ testedAs (nodesOf (allNodes 0 0 cutConstraints)) (storedLows ss) (storedHighs ss) (leftsOf (storedConstraints 0 0 cutConstraints)) (rightsOf (storedConstraints 0 0 cutConstraints)) (anyOf isRangeFaulty ss || anyOf isIntegerBeyond (allExpressions cs)) (length (allUntils cutConstraints)) (length (allFirsts cutConstraints))
         → Told s t
     unfolding testedAs refuses5
     tests-told names e = told-4 (refuses4 s) (refuses5 s) refl refl (e ∙ ap (λ b. cond b (failedAs 4) (cond (refuses5 s) (failedAs 5) testedNear)) (unknown-refused names))

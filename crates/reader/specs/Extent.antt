@@ -13,7 +13,7 @@ noExtent = record { ok = true; ahead = 0; back = 0 }
 
 abbrev pub withSummary : Extent → Summary → Extent
 withSummary x s =
-    record { ok = x .ok && s .range .ok; ahead = max (max (s .reach) (s .ahead)) (x .ahead); back = max (s .back) (x .back) }
+    record { ok = x .ok && s .range .ok; ahead = max (max (s .reach) (s .furthest)) (x .ahead); back = max (s .back) (x .back) }
 
 module _ (N : Nodes) (lows highs : List ℤ) where
   -- The extent of the sides whose last nodes have these places, after those before them.

@@ -9,7 +9,7 @@ use lib.ListN.{length, replicate}
 use Rattle.text.specs.Bytes.{Token}
 use Rattle.meaning.specs.Expression.{Stream}
 use Rattle.sheet.specs.Reading.{anyOf, isRangeFaulty, streamsFrom}
-use Rattle.parse.specs.Bounded.{within}
+use Rattle.parse.specs.Bounded.{zeroBeyond}
 use Rattle.reader.specs.Stored.{padded, nameBytes, nameLengths}
 use Rattle.reader.specs.declared.StreamsRead.{StreamsRead}
 
@@ -32,8 +32,8 @@ streamTablesOf ss =
     streamTables
     (padded 64 0 (nameBytes ss))
     (padded 8 0 (nameLengths ss))
-    (padded 8 (pos 0) (map (λ x. within (x .range .low)) ss))
-    (padded 8 (pos 0) (map (λ x. within (x .range .high)) ss))
+    (padded 8 (pos 0) (map (λ x. zeroBeyond (x .range .low)) ss))
+    (padded 8 (pos 0) (map (λ x. zeroBeyond (x .range .high)) ss))
 
 abbrev pub streamsRead : List Stream → StreamsRead
 streamsRead ss = record { ok = true; count = length ss; faulty = anyOf isRangeFaulty ss }

@@ -62,6 +62,23 @@ struct StreamsRead {
     faulty: bool,
 }
 
+// What is stored of the streams, and of the constraints.
+struct StreamArrays {
+    names: [u8; 64],
+    lengths: [u8; 8],
+    lows: [i64; 8],
+    highs: [i64; 8],
+}
+
+struct ConstraintArrays {
+    kinds: [u8; 1024],
+    values: [i64; 1024],
+    starts: [u16; 1024],
+    relations: [u8; 32],
+    lefts: [u16; 32],
+    rights: [u16; 32],
+}
+
 // Whether every interval is within the bound; D and B.
 struct Extent {
     ok: bool,
@@ -339,7 +356,7 @@ fn with_summary(before: Extent, summary: nodes::Summary) -> Extent
     let ok = before.ok;
     Extent {
         ok: ok & range.ok,
-        ahead: larger(larger(summary.reach, summary.ahead), before.ahead),
+        ahead: larger(larger(summary.reach, summary.furthest), before.ahead),
         back: larger(summary.back, before.back),
     }
 }
@@ -434,22 +451,24 @@ fn test_stored(
 
 // The answer to a sheet of the form whose names of line 1 are not refused, from what is stored of it.
 fn store_sheet(
-    names: [u8; 64],
-    lengths: [u8; 8],
-    lows: [i64; 8],
-    highs: [i64; 8],
     streams: StreamsRead,
-    kinds: [u8; 1024],
-    values: [i64; 1024],
-    starts: [u16; 1024],
-    relations: [u8; 32],
-    lefts: [u16; 32],
-    rights: [u16; 32],
+    stream_arrays: StreamArrays,
     constraints: ConstraintsRead,
+    constraint_arrays: ConstraintArrays,
 ) -> Reading
-    requires { ⌜ HeldSheet streams (streamTables names lengths lows highs) (state (stored kinds values starts) relations lefts rights constraints) ⌝ }
-    ensures { λ r. ⌜ HeldReading streams (streamTables names lengths lows highs) (state (stored kinds values starts) relations lefts rights constraints) r ⌝ }
+    requires { ⌜ HeldSheet streams (streamTables («stream_arrays» .names) («stream_arrays» .lengths) («stream_arrays» .lows) («stream_arrays» .highs)) (state (stored («constraint_arrays» .kinds) («constraint_arrays» .values) («constraint_arrays» .starts)) («constraint_arrays» .relations) («constraint_arrays» .lefts) («constraint_arrays» .rights) constraints) ⌝ }
+    ensures { λ r. ⌜ HeldReading streams (streamTables («stream_arrays» .names) («stream_arrays» .lengths) («stream_arrays» .lows) («stream_arrays» .highs)) (state (stored («constraint_arrays» .kinds) («constraint_arrays» .values) («constraint_arrays» .starts)) («constraint_arrays» .relations) («constraint_arrays» .lefts) («constraint_arrays» .rights) constraints) r ⌝ }
 {
+    let names = stream_arrays.names;
+    let lengths = stream_arrays.lengths;
+    let lows = stream_arrays.lows;
+    let highs = stream_arrays.highs;
+    let kinds = constraint_arrays.kinds;
+    let values = constraint_arrays.values;
+    let starts = constraint_arrays.starts;
+    let relations = constraint_arrays.relations;
+    let lefts = constraint_arrays.lefts;
+    let rights = constraint_arrays.rights;
     let stream_count = streams.count;
     let count = constraints.count;
     let nodes = constraints.nodes;
@@ -546,18 +565,22 @@ fn read_lines(names_line: &[u8], lows_line: &[u8], highs_line: &[u8], text: &[u8
         return refused(refusal);
     }
     store_sheet(
-        names,
-        lengths,
-        lows,
-        highs,
         streams,
-        kinds,
-        values,
-        starts,
-        relations,
-        lefts,
-        rights,
+        StreamArrays {
+            names: names,
+            lengths: lengths,
+            lows: lows,
+            highs: highs,
+        },
         constraints,
+        ConstraintArrays {
+            kinds: kinds,
+            values: values,
+            starts: starts,
+            relations: relations,
+            lefts: lefts,
+            rights: rights,
+        },
     )
 }
 

@@ -10,7 +10,7 @@ use lib.ListN.{length, getD, set}
 use lib.Seq.{getD-set-same}
 use Rattle.refine.specs.Signatures.{rowBucket}
 use Rattle.refine.specs.Splitting.{OnChain, here, further, Falling, RowFound, Joins, BeginsClass}
-use Rattle.marks.proofs.Lists.{set-other}
+use Rattle.basics.proofs.Lists.{set-other}
 
 -- a row of a chain comes before its beginning
 pub chain-below : (links : List ℕ) → Falling links → {j i : ℕ} → OnChain links j i → i < j

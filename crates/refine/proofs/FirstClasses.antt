@@ -10,7 +10,7 @@ use lib.Seq.{getD-set-same}
 use Rattle.marks.specs.Marks.{Marked}
 use Rattle.marks.proofs.Laws.{marked-inside}
 use Rattle.refine.specs.Steps.{ByFinals}
-use Rattle.marks.proofs.Lists.{below-set, set-other}
+use Rattle.basics.proofs.Lists.{below-set, set-other}
 
 -- the rows below n with P have the class v, named by the first of them; v is 0 as long as there is none
 pub record IsKind (P : ℕ → Type 0) (class : List ℕ) (n v : ℕ) : Type 0 where

@@ -4,7 +4,7 @@ use mathlib.Core.List.{List}
 use Prim.Native.Nat.{ℕ, zero, suc, _*_, _<_}
 use native.Mathlib.Omega.{arith}
 use lib.ListN.{getD}
-use Rattle.refine.specs.Signatures.{classAfter, SameSignature, mixed, hash, bucketOf, rowBucket}
+use Rattle.refine.specs.Signatures.{classAfter, SameSignature, mixed, hash, signatureBucket, rowBucket}
 
 module _ {letters : ℕ} {entries class : List ℕ} where
   pub signature-refl : {p : ℕ} → SameSignature letters entries class p p
@@ -31,6 +31,6 @@ hash-same f g first (suc n) e = ap₂ mixed (hash-same f g first n (λ a h. e a 
 
 pub bucket-same : (count letters : ℕ) (entries class : List ℕ) (p q : ℕ) → SameSignature letters entries class p q
     → rowBucket count letters entries class p ≡ rowBucket count letters entries class q
-bucket-same count letters entries class p q s = ap (bucketOf count)
+bucket-same count letters entries class p q s = ap (signatureBucket count)
     (hash-same (classAfter entries class (p * letters)) (classAfter entries class (q * letters)) (getD class p 0) letters (s .after)
     ∙ ap (λ x. hash (classAfter entries class (q * letters)) x letters) (s .here))

@@ -14,7 +14,7 @@ use Rattle.marks.specs.Marks.{Marked}
 use Rattle.refine.specs.Signatures.{SameSignature, rowBucket}
 use Rattle.refine.specs.Splitting.{OnChain, here, further, Falling, Joins, BeginsClass, Splits, Stays, IsFirst, IsSplit, ClassesMoved, Round}
 use Rattle.refine.specs.Steps.{Splittable, IsSized}
-use Rattle.marks.proofs.Lists.{below-set, set-other}
+use Rattle.basics.proofs.Lists.{below-set, set-other}
 use Rattle.refine.proofs.Signatures.{signature-refl, signature-sym, signature-trans, bucket-same}
 use Rattle.refine.proofs.Chains.{chain-below, chain-empty, chain-set, chain-unset, chain-rest, falling-set}
 

@@ -25,8 +25,8 @@ abbrev pub rowHash : ℕ → List ℕ → List ℕ → ℕ → ℕ
 rowHash letters entries class s = hash (classAfter entries class (s * letters)) (getD class s 0) letters
 
 -- one of `count` buckets
-abbrev pub bucketOf : ℕ → ℕ → ℕ
-bucketOf count h = (h / 32768 + h) % count
+abbrev pub signatureBucket : ℕ → ℕ → ℕ
+signatureBucket count h = (h / 32768 + h) % count
 
 abbrev pub rowBucket : ℕ → ℕ → List ℕ → List ℕ → ℕ → ℕ
-rowBucket count letters entries class s = bucketOf count (rowHash letters entries class s)
+rowBucket count letters entries class s = signatureBucket count (rowHash letters entries class s)

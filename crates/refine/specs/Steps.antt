@@ -5,7 +5,7 @@ use mathlib.Core.Bool.{Bool}
 use mathlib.Core.List.{List}
 use Prim.Native.Nat.{ℕ, suc, _*_, _<_, _≤_}
 use lib.ListN.{getD, length, replicate}
-use Rattle.marks.specs.Answers.{Says}
+use Rattle.basics.specs.Answers.{Says}
 use Rattle.marks.specs.Marks.{Marked}
 use Rattle.refine.specs.Classes.{IsNamed, Refined, Sizes}
 use Rattle.refine.specs.Splitting.{Falling, Sharing}

@@ -4,9 +4,9 @@ ghost use mathlib.Core.Path.{_≡_};
 ghost use mathlib.Core.Logic.{_⊎_};
 ghost use Prim.Native.Nat.{ℕ, _+_, _*_, _<_, _≤_};
 ghost use lib.ListN.{length, getD};
-ghost use Rattle.marks.specs.Answers.{Says};
+ghost use Rattle.basics.specs.Answers.{Says};
 ghost use Rattle.refine.specs.Classes.{Refined, Sizes};
-ghost use Rattle.refine.specs.Signatures.{classAfter, mixed, hash, bucketOf};
+ghost use Rattle.refine.specs.Signatures.{classAfter, mixed, hash, signatureBucket};
 ghost use Rattle.refine.specs.Splitting.{Falling, RowFound, Joins, BeginsClass, Splits, Stays, Sharing, Round};
 ghost use Rattle.refine.specs.Steps.{ByFinals, Searchable, Splittable, IsSized, Rounds, RefineOutcome};
 
@@ -84,7 +84,7 @@ fn hash_row(entries: &[u16], start: usize, letters: usize, class: &[u32], first:
 // The bucket of a hash.
 fn bucket(h: u64, count: usize) -> usize
     requires { ⌜ (h < 4294967296) × (0 < count) ⌝ }
-    ensures { λ r. ⌜ (r < count) × (r ≡ bucketOf count h) ⌝ }
+    ensures { λ r. ⌜ (r < count) × (r ≡ signatureBucket count h) ⌝ }
 {
     ((h / 32768 + h) % count as u64) as usize
 }
@@ -217,9 +217,9 @@ fn round(
     requires { ⌜ Rounds letters (now entries) (now class) (now next) (now heads) (now links) (now shared) ⌝ }
     ensures { λ r. ⌜ Round letters (now (entries .entry)) (now (class .entry)) (now (next .exit)) r × Falling (now (links .exit)) ⌝ }
 {
-    marks::fill(shared, 0);
+    basics::fill(shared, 0);
     mark_shared(class, shared);
-    marks::fill(heads, 0);
+    basics::fill(heads, 0);
     split_round(entries, letters, class, shared, next, heads, links)
 }
 
@@ -241,7 +241,7 @@ fn rounds(
     ensures { λ r. ⌜ Refined letters (now (entries .entry)) (now (live .entry)) (now (finals .entry)) (now (class .exit)) ⌝ }
 {
     first_classes(live, finals, class);
-    marks::fill(links, 0);
+    basics::fill(links, 0);
     loop {
         if !round(entries, letters, class, next, heads, links, shared) {
             break;
@@ -304,7 +304,7 @@ pub fn refine(
     if live.len() > 65535 {
         return false;
     }
-    if !marks::rows_fit(live.len(), letters, entries.len()) {
+    if !basics::rows_fit(live.len(), letters, entries.len()) {
         return false;
     }
     if !sizes_agree(
@@ -329,9 +329,9 @@ pub fn refine(
         links,
         shared,
     );
-    marks::fill(next, 0);
-    marks::fill(heads, 0);
-    marks::fill(links, 0);
-    marks::fill(shared, 0);
+    basics::fill(next, 0);
+    basics::fill(heads, 0);
+    basics::fill(links, 0);
+    basics::fill(shared, 0);
     true
 }

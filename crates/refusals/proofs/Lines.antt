@@ -9,7 +9,8 @@ use lib.Dec.{leb, ltb}
 use lib.ListN.{length, drop, getD, length-drop, drop-of-length-le}
 use lib.Seq.{drop-drop, getD-drop}
 use borrow.Author.Tests.{lt-ltb, le-ltb, le-leb, lt-leb}
-use Rattle.text.specs.Bytes.{Token, ByteClass, bracket, inside, between, classOf, startsInside, addToTokens, extendFirst, lines, tokens}
+use Rattle.text.proofs.Bytes.{tokens-length}
+use Rattle.text.specs.Bytes.{between, lines, tokens}
 use Rattle.sheet.specs.Refusal.{isAllowed, tokenCount}
 use Rattle.sheet.specs.Reading.{anyOf, tooDeepFrom, refuses1, refuses2}
 use Rattle.scan.specs.Place as place
@@ -48,22 +49,6 @@ refuses1-short text h e = sym (ap (λ t. t || anyOf (λ b. not (isAllowed b)) te
 pub between-all : (text : List ℕ) (at : ℕ) → at ≤ length text → place.between text at (length text) ≡ drop at text
 between-all text at h =
     sym (between-split text at (length text) h ∙ ap (λ l. place.between text at (length text) ++ l) (drop-end text) ∙ append-nil (place.between text at (length text)))
-
--- A line has no more tokens than bytes.
-extend-length : (b : ℕ) (ts : List Token) (n : ℕ) → length ts ≤ n → length (extendFirst b ts) ≤ suc n
-extend-length b [] n h = omega arith
-extend-length b (t ∷ ts) n h = omega arith
-
-add-length : (k : ByteClass) (g : Bool) (b : ℕ) (ts : List Token) (n : ℕ) → length ts ≤ n → length (addToTokens k g b ts) ≤ suc n
-add-length bracket g b ts n h = omega arith
-add-length inside true b ts n h = extend-length b ts n h
-add-length inside false b ts n h = omega arith
-add-length between g b ts n h = omega arith
-
-pub tokens-length : (l : List ℕ) → length (tokens l) ≤ length l
-unfolding tokens
-tokens-length [] = omega arith
-tokens-length (b ∷ l) = add-length (classOf b) (startsInside l) b (tokens l) (length l) (tokens-length l)
 
 pub lines-past : (text : List ℕ) (at : ℕ) → length text ≤ at → lines (drop at text) ≡ []
 unfolding lines

@@ -5,14 +5,13 @@ use mathlib.Core.Bool.{Bool, true, false, not, cond, _&&_, _||_}
 use mathlib.Core.List.{List, [], _∷_}
 use lib.Dec.{ltb, leb·suc-suc, leb·zero}
 use lib.ListN.{length}
+use Rattle.basics.proofs.Reflects.{ltb-suc}
+use Rattle.basics.proofs.Tests.{or-true}
 use Rattle.text.specs.Bytes.{Token}
 use Rattle.text.specs.Token.{sameBytes, isOneOf, isReserved}
 use Rattle.sheet.specs.Vocabulary.{namePlace}
 use Rattle.sheet.specs.Reading.{anyOf, areDistinct}
 use Rattle.refusals.specs.Names.{namesRefused}
-
-ltb-suc : (m n : ℕ) → ltb (suc m) (suc n) ≡ ltb m n
-ltb-suc m n = leb·suc-suc (suc m) n
 
 ltb-zero : (n : ℕ) → ltb 0 (suc n) ≡ true
 ltb-zero n = leb·suc-suc 0 n ∙ leb·zero n
@@ -26,10 +25,6 @@ placeOf-below (n ∷ ts) t = by (placeOf-below ts t) (sameBytes n t) refl
     by : ltb (namePlace ts t) (length ts) ≡ isOneOf ts t → (b : Bool) → sameBytes n t ≡ b → ltb (cond (sameBytes n t) 0 (suc (namePlace ts t))) (suc (length ts)) ≡ sameBytes n t || isOneOf ts t
     by h true e = ap (λ b. ltb (cond b 0 (suc (namePlace ts t))) (suc (length ts))) e ∙ ltb-zero (length ts) ∙ sym (ap (λ b. b || isOneOf ts t) e)
     by h false e = ap (λ b. ltb (cond b 0 (suc (namePlace ts t))) (suc (length ts))) e ∙ ltb-suc (namePlace ts t) (length ts) ∙ h ∙ sym (ap (λ b. b || isOneOf ts t) e)
-
-or-true : (a : Bool) → a || true ≡ true
-or-true true = refl
-or-true false = refl
 
 module _ (t : Token) (us : List Token) where
   pub names-none : {ts : List Token} → ts ≡ [] → false ≡ namesRefused ts

@@ -5,6 +5,7 @@ use mathlib.Core.Bool.{Bool, _||_}
 use mathlib.Core.List.{List, []}
 use lib.Dec.{leb, ltb}
 use lib.ListN.{length, drop, getD}
+use Rattle.sheet.specs.Form.{constraintLines, layoutIn}
 use Rattle.text.specs.Bytes.{lines}
 use Rattle.sheet.specs.Refusal.{constraintBound, tokenBound, tokenCount}
 use Rattle.sheet.specs.Reading.{anyOf, tooDeepFrom}
@@ -16,17 +17,17 @@ pub record HeaderOf (text : List ℕ) (h : Header) : Type 0 where
   pub firstLine : LineAt text 0 (record { end = h .«names_end»; next = h .«lows_start» })
   pub secondLine : LineAt text (h .«lows_start») (record { end = h .«lows_end»; next = h .«highs_start» })
   pub thirdLine : LineAt text (h .«highs_start») (record { end = h .«highs_end»; next = h .constraints })
-  pub names : between text 0 (h .«names_end») ≡ getD (lines text) 0 []
+  pub names : between text 0 (h .«names_end») ≡ getD (lines text) (layoutIn text .namesLine) []
   pub namesWithin : h .«names_end» ≤ length text
-  pub lows : between text (h .«lows_start») (h .«lows_end») ≡ getD (lines text) 1 []
+  pub lows : between text (h .«lows_start») (h .«lows_end») ≡ getD (lines text) (layoutIn text .lowsLine) []
   pub lowsOrdered : h .«lows_start» ≤ h .«lows_end»
   pub lowsWithin : h .«lows_end» ≤ length text
-  pub highs : between text (h .«highs_start») (h .«highs_end») ≡ getD (lines text) 2 []
+  pub highs : between text (h .«highs_start») (h .«highs_end») ≡ getD (lines text) (layoutIn text .highsLine) []
   pub highsOrdered : h .«highs_start» ≤ h .«highs_end»
   pub highsWithin : h .«highs_end» ≤ length text
-  pub constraints : lines (drop (h .constraints) text) ≡ drop 3 (lines text)
+  pub constraints : lines (drop (h .constraints) text) ≡ constraintLines text
   pub constraintsWithin : h .constraints ≤ length text
-  pub whole : h .whole ≡ leb 3 (length (lines text))
+  pub whole : h .whole ≡ leb (layoutIn text .constraintsFrom) (length (lines text))
 
 -- What refusal 2 says of the constraint lines.
 unfoldable pub constraintLinesRefused : List (List ℕ) → Bool

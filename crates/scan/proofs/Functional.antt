@@ -8,7 +8,7 @@ use native.Mathlib.Omega.{arith}
 use lib.Dec.{T}
 use lib.ListN.{length, drop, getD}
 use Rattle.basics.proofs.Reflects.{T-reflects, to-true}
-use Rattle.basics.proofs.Tests.{and-left, and-right, and-both}
+use Rattle.basics.proofs.Tests.{and-left, and-right, and-both, or-left, or-right}
 use Rattle.text.specs.Bytes.{Token, isBracket, isInside, startsInside, extendFirst, addToTokens, ByteClass, lines, tokens}
 use Rattle.text.specs.Token.{allBytes}
 use Rattle.text.proofs.Bytes.{HasClass, aBracket, anInside, aBetween, classOf-has, IsToken, bracketToken, run, tokens-member}
@@ -31,14 +31,6 @@ visibleCount (b ∷ bs) = visibleBytes (isVisible b) + visibleCount bs
 abbrev tokenBytes : List Token → ℕ
 tokenBytes [] = 0
 tokenBytes (t ∷ ts) = length t + tokenBytes ts
-
-or-right : (b c : Bool) → T c → T (b || c)
-or-right true c t = tt
-or-right false c t = t
-
-or-left : (b c : Bool) → T b → T (b || c)
-or-left true c t = tt
-or-left false c t = absurd t
 
 neither : (b c : Bool) → b ≡ false → c ≡ false → (b || c) ≡ false
 neither b c p q = rw (p, q)

@@ -9,7 +9,7 @@ use lib.Dec.{T, ltb, leb, eqb, ltb→lt, leb→le}
 use lib.ListN.{length, drop, getD}
 use borrow.Author.Tests.{eq-eqb, ne-eqb, lt-leb}
 use Rattle.basics.proofs.Tests.{and-left, and-right}
-use Rattle.basics.proofs.Reflects.{reflects-same, to-true, to-false, eqb-reflects, ltb-reflects}
+use Rattle.basics.proofs.Reflects.{reflects-same, to-true, to-false, eqb-reflects, ltb-reflects, ltb-suc}
 use Rattle.text.specs.Bytes.{Token}
 use Rattle.text.specs.Token.{allBytes, sameBytes, isLowercase, isName, isOneOf}
 use Rattle.text.proofs.Token.{sameBytes-reflects}
@@ -110,9 +110,6 @@ module _ (ms : List ℕ) (n i : ℕ) (h : i < length ms) where
   pub number-later : (getD ms i 0 ≡ n → ⊥) → wordPlace (drop i ms) n ≡ suc (wordPlace (drop (i + 1) ms) n)
   unfolding wordPlace
   number-later e = ap (λ l. wordPlace l n) (drop-at ms i h) ∙ ap (λ b. cond b 0 (suc (wordPlace (drop (i + 1) ms) n))) (ne-eqb n (getD ms i 0) (λ q. e (sym q)))
-
-ltb-suc : (m n : ℕ) → ltb (suc m) (suc n) ≡ ltb m n
-ltb-suc m n = reflects-same (ltb-reflects (suc m) (suc n)) (ltb-reflects m n) (λ h. omega arith) (λ h. omega arith)
 
 pub number-end : (ms : List ℕ) (n i : ℕ) → length ms ≤ i → wordPlace (drop i ms) n ≡ 0
 unfolding wordPlace

@@ -267,7 +267,23 @@ const OPERATOR_WORDS: [u64; 14] = [
     0x1_79_62_66, // fby
 ];
 
-const OPERATOR_CODES: [u8; 15] = [7, 8, 9, 10, 11, 12, 13, 14, 15, 16, 17, 18, 19, 6, 255];
+const OPERATOR_CODES: [u8; 15] = [
+    nodes::ADD_NODE,
+    nodes::SUBTRACT_NODE,
+    nodes::MULTIPLY_NODE,
+    nodes::DIVIDE_NODE,
+    nodes::REMAINDER_NODE,
+    nodes::LESS_NODE,
+    nodes::AT_MOST_NODE,
+    nodes::EQUAL_NODE,
+    nodes::AT_LEAST_NODE,
+    nodes::GREATER_NODE,
+    nodes::DIFFERENT_NODE,
+    nodes::AND_NODE,
+    nodes::OR_NODE,
+    nodes::FBY_NODE,
+    nodes::NO_CODE,
+];
 
 const RELATION_WORDS: [u64; 8] = [
     0x1_3c, // <
@@ -280,7 +296,17 @@ const RELATION_WORDS: [u64; 8] = [
     0x1_6c_69_74_6e_75, // until
 ];
 
-const RELATION_CODES: [u8; 9] = [0, 1, 2, 3, 4, 5, 6, 7, 255];
+const RELATION_CODES: [u8; 9] = [
+    nodes::LESS_RELATION,
+    nodes::AT_MOST_RELATION,
+    nodes::EQUAL_RELATION,
+    nodes::AT_LEAST_RELATION,
+    nodes::GREATER_RELATION,
+    nodes::DIFFERENT_RELATION,
+    nodes::IMPLIES_RELATION,
+    nodes::UNTIL_RELATION,
+    nodes::NO_CODE,
+];
 
 const PREFIX_WORDS: [u64; 3] = [
     0x1_74_73_72_69_66, // first
@@ -288,7 +314,12 @@ const PREFIX_WORDS: [u64; 3] = [
     0x1_74_6f_6e, // not
 ];
 
-const PREFIX_CODES: [u8; 4] = [2, 3, 4, 255];
+const PREFIX_CODES: [u8; 4] = [
+    nodes::FIRST_NODE,
+    nodes::NEXT_NODE,
+    nodes::NEGATION_NODE,
+    nodes::NO_CODE,
+];
 
 const RESERVED_WORDS: [u64; 16] = [
     0x1_74_6c, // lt

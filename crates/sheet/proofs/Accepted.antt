@@ -70,7 +70,7 @@ constraints-count (Constraints.more {c = c} {cs = cs} r rs) =
     let w = length-append (subexpressions (leftSide c)) (subexpressions (rightSide c)) in
     omega arith
 
-not-over : {m n : ℕ} → (m < n → ⊥) → n ≤ m
+pub not-over : {m n : ℕ} → (m < n → ⊥) → n ≤ m
 not-over {m} {n} h = let k : ¬ (m < n) = h in omega arith
 
 -- What none of the refusals leaves out.

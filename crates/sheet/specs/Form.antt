@@ -17,13 +17,10 @@ pub record Layout : Type 0 where
   pub highsLine : ℕ
   pub constraintsFrom : ℕ
 
--- "Line 1: stream names. Line 2: the lowest value of each, in that order. Line 3: the highest. Every further line is one constraint".
-abbrev threeHeaderLines : Layout
-threeHeaderLines = record { namesLine = 0; lowsLine = 1; highsLine = 2; constraintsFrom = 3 }
-
--- Where the lines of a text stand: the same in every text.
+-- "Line 1: stream names. Line 2: the lowest value of each, in that order. Line 3: the highest. Every further line is one constraint". Every text
+-- has this layout.
 abbrev pub layoutIn : List ℕ → Layout
-layoutIn text = threeHeaderLines
+layoutIn text = record { namesLine = 0; lowsLine = 1; highsLine = 2; constraintsFrom = 3 }
 
 -- The tokens of the line with this place.
 abbrev pub lineTokens : List ℕ → ℕ → List Token

@@ -8,6 +8,7 @@ use lib.IntN.{ℤ, pos}
 use lib.ListN.{length, take, replicate, length-map}
 use lib.Seq.{take-at, length-take-le}
 use borrow.Author.Needs.{length-unmapped}
+use Rattle.nodes.proofs.Postfix.{stored-length}
 use Rattle.meaning.specs.Expression.{Sheet}
 use Rattle.meaning.specs.Letter.{letterCount}
 use Rattle.meaning.specs.Window.{B, D}
@@ -18,7 +19,6 @@ use Rattle.nodes.specs.FirstPlaces.{allFirstPlaces}
 use Rattle.nodes.specs.Postfix.{Node, node, StoredConstraint, allNodes, storedConstraints}
 use Rattle.reader.specs.declared.Sheet.{Sheet as StoredSheet}
 use Rattle.reader.specs.Stored.{padded, relationsOf, leftsOf, rightsOf, storedSheet}
-use Rattle.explore.proofs.StoredSides.{constraints-long}
 use Rattle.nodes.proofs.FirstPlaces.{allPlaces-long}
 use Rattle.nodes.specs.Evaluate.{stored}
 use Rattle.extend.specs.Step.{storeOf}
@@ -70,7 +70,7 @@ module _ (s : Sheet) {x : StoredSheet} (same : x ≡ storedSheet s) where
 
   count-is : (f : StoredConstraint → ℕ) → x .constraints ≡ length (map f constraints)
   unfolding storedSheet
-  count-is f = ap (λ y. y .constraints) same ∙ sym (length-map constraints f ∙ constraints-long 0 0 (s .constraints))
+  count-is f = ap (λ y. y .constraints) same ∙ sym (length-map constraints f ∙ stored-length 0 0 (s .constraints))
 
   pub relations-part : IsPadded (x .constraints) (x .relations) (relationsOf constraints)
   unfolding storedSheet

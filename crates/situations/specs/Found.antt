@@ -1,18 +1,24 @@
 -- What exploring a stored sheet gives, and the room that it needs.
-use Prim.Native.Nat.{ℕ, _*_, _≤_, _<_}
+use Prim.Native.Nat.{ℕ, _+_, _*_, _≤_, _<_, min}
 use mathlib.Core.Path.{_≡_}
+use mathlib.Core.Bool.{Bool, cond}
 use mathlib.Core.Logic.{_⊎_}
 use mathlib.Core.List.{List}
-use lib.ListN.{length}
+use lib.Dec.{leb}
+use lib.IntN.{ℤ, pos}
+use lib.ListN.{length, take, replicate}
 use Rattle.meaning.specs.Expression.{Sheet}
 use Rattle.meaning.specs.Letter.{letterCount}
 use Rattle.meaning.specs.Situation.{SituationCount, MoreSituations}
 use Rattle.sheet.specs.Accepted.{Accepted}
+use Rattle.sheet.specs.Refusal.{streamBound, constraintBound, firstBound, windowBound}
+use Rattle.letters.specs.Described.{described, withLetters}
 use Rattle.reader.specs.declared.Sheet.{Sheet as StoredSheet}
 use Rattle.reader.specs.Stored.{storedSheet}
+use Rattle.extend.specs.Step.{Store, storeOf}
 use Rattle.explore.specs.Rows.{ExploredRows}
 use Rattle.explore.specs.Search.{KeptBehind}
-use Rattle.explore.specs.Exploration.{ExploreTables, WorkZero, GraphZero}
+use Rattle.explore.specs.Exploration.{ExploreTables, WorkZero, GraphZero, ExploresStored}
 use Rattle.outcome.specs.Compile.{situationBound}
 
 -- Exploring gives the number of situations and their rows, or 0 where there are more than the limit.
@@ -41,7 +47,25 @@ pub record Leaves (letters limit : ℕ) (before after : ExploreTables) (n : ℕ)
   pub graphZero : n ≡ 0 → GraphZero before after
   pub behind : 0 < n → KeptBehind letters n (before .entries) (before .flags) (after .entries) (after .flags)
 
--- What exploring any stored sheet gives.
-pub record Explored (stored : StoredSheet) (limit : ℕ) (before after : ExploreTables) (n : ℕ) : Type 0 where
-  pub leaves : Leaves (stored .letters) limit before after n
-  pub found : FindsSituations stored limit before after n
+-- A stored sheet as it is explored: its lists cut to their counts, what is more than the bounds allow cut off, and the values of its letters written over a
+-- list.
+unfoldable pub storeIn : StoredSheet → List ℤ → Store
+storeIn x list =
+    let constraints = min (x .constraints) constraintBound in
+    let streams = min (x .streams) streamBound in
+    let ahead = min (x .ahead) windowBound in
+    storeOf (x .kinds) (x .values) (x .starts) (take constraints (x .relations)) (take constraints (x .lefts)) (take constraints (x .rights)) (take (min (x .firsts) firstBound) (x .«first_nodes»))
+    (withLetters (described (take streams (x .lows)) (take streams (x .highs))) list) streams ahead (ahead + min (x .back) windowBound)
+
+-- What exploring any stored sheet gives: how many rows are found, or 0 where there are more than the limit. The values of its letters are written over a
+-- list. So nothing is left open (`Rattle.situations.proofs.Found.explored-once`).
+pub record Explored (x : StoredSheet) (list : List ℤ) (limit : ℕ) (before after : ExploreTables) (n : ℕ) : Type 0 where
+  pub ready : Bool
+  pub full : Bool
+  pub count : ℕ
+  pub explored : ExploresStored (storeIn x list) (x .letters) limit before after ready full count
+  pub rows : n ≡ cond full 0 count
+
+-- The list for the values of so many letters, all 0.
+abbrev pub valuesList : ℕ → List ℤ
+valuesList letters = replicate (cond (leb letters 64) 520 8200) (pos 0)

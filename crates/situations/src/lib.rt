@@ -2,10 +2,8 @@
 use basics::fewer;
 ghost use mathlib.Core.Path.{_≡_};
 ghost use mathlib.Core.Bool.{cond};
-ghost use Prim.Native.Nat.{_+_, _*_, _≤_};
-ghost use lib.ListN.{length};
 ghost use Rattle.explore.specs.Exploration.{exploreTables};
-ghost use Rattle.situations.specs.Found.{Explored, Leaves, FindsSituations};
+ghost use Rattle.situations.specs.Found.{Explored, valuesList};
 
 // How many rows were found, or 0 where there are more than the limit.
 fn rows_found(found: explore::Exploration) -> usize
@@ -25,8 +23,7 @@ fn explored(
     heads: &mut [u32],
     links: &mut [u32],
 ) -> usize
-    ensures { λ r. ⌜ Leaves (sheet .letters) limit (exploreTables (now (keys .entry)) (now (heads .entry)) (now (links .entry)) (now (entries .entry)) (now (finals .entry))) (exploreTables (now (keys .exit)) (now (heads .exit)) (now (links .exit)) (now (entries .exit)) (now (finals .exit))) r ⌝ }
-    ensures { λ r. ⌜ (sheet .letters * 8 + 8 ≤ length (now («letter_values» .entry)) → FindsSituations sheet limit (exploreTables (now (keys .entry)) (now (heads .entry)) (now (links .entry)) (now (entries .entry)) (now (finals .entry))) (exploreTables (now (keys .exit)) (now (heads .exit)) (now (links .exit)) (now (entries .exit)) (now (finals .exit))) r) ⌝ }
+    ensures { λ r. ⌜ Explored sheet (now («letter_values» .entry)) limit (exploreTables (now (keys .entry)) (now (heads .entry)) (now (links .entry)) (now (entries .entry)) (now (finals .entry))) (exploreTables (now (keys .exit)) (now (heads .exit)) (now (links .exit)) (now (entries .exit)) (now (finals .exit))) r ⌝ }
 {
     let kinds = sheet.kinds;
     let values = sheet.values;
@@ -76,7 +73,7 @@ pub fn situations(
     heads: &mut [u32],
     links: &mut [u32],
 ) -> usize
-    ensures { λ r. ⌜ Explored sheet limit (exploreTables (now (keys .entry)) (now (heads .entry)) (now (links .entry)) (now (entries .entry)) (now (finals .entry))) (exploreTables (now (keys .exit)) (now (heads .exit)) (now (links .exit)) (now (entries .exit)) (now (finals .exit))) r ⌝ }
+    ensures { λ r. ⌜ Explored sheet (valuesList (sheet .letters)) limit (exploreTables (now (keys .entry)) (now (heads .entry)) (now (links .entry)) (now (entries .entry)) (now (finals .entry))) (exploreTables (now (keys .exit)) (now (heads .exit)) (now (links .exit)) (now (entries .exit)) (now (finals .exit))) r ⌝ }
 {
     if sheet.letters <= 64 {
         let mut few = [0i64; 520];

@@ -2,8 +2,33 @@
 ghost use mathlib.Core.Path.{_≡_};
 ghost use Prim.Native.Nat.{_+_, _*_, _<_, _≤_};
 ghost use Rattle.sheet.specs.Refusal.{windowBound, firstBound, streamBound};
-ghost use Rattle.marks.specs.Answers.{Says};
+ghost use Rattle.basics.specs.Answers.{Says};
 ghost use Rattle.sizes.specs.Room.{keySize};
+
+// Document 01's bounds, as far as the sizes of tables depend on them: on streams, constraints, firsts, D+B, letters and situations.
+pub const STREAM_BOUND: usize = 8;
+
+pub const CONSTRAINT_BOUND: usize = 32;
+
+pub const FIRST_BOUND: usize = 8;
+
+pub const WINDOW_BOUND: usize = 6;
+
+pub const LETTER_BOUND: usize = 1024;
+
+pub const SITUATION_BOUND: usize = 4096;
+
+// How many numbers a key takes, and where in it the values of the firsts begin and the marks of the untils stand.
+pub const KEY_SIZE: usize = 16;
+
+pub const FIRSTS_PLACE: usize = 7;
+
+pub const MARKS_PLACE: usize = 15;
+
+// How many values the letters of a key and one more have at most, and how many values are prepared: those and the firsts'.
+pub const WINDOW_ROOM: usize = 56;
+
+pub const PREPARED_SIZE: usize = 64;
 
 // The lengths of the lent tables.
 pub struct Lengths {
@@ -25,10 +50,10 @@ pub fn is_ready(
 ) -> bool
     ensures { λ r. ⌜ Says r ((width ≤ windowBound) × (streams ≤ streamBound) × (lefts ≡ relations) × (rights ≡ relations) × (relations ≤ 32) × (firsts ≤ firstBound)) ⌝ }
 {
-    if 6 < width {
+    if WINDOW_BOUND < width {
         return false;
     }
-    if 8 < streams {
+    if STREAM_BOUND < streams {
         return false;
     }
     if lefts != relations {
@@ -37,10 +62,10 @@ pub fn is_ready(
     if rights != relations {
         return false;
     }
-    if 32 < relations {
+    if CONSTRAINT_BOUND < relations {
         return false;
     }
-    if 8 < firsts {
+    if FIRST_BOUND < firsts {
         return false;
     }
     true
@@ -51,22 +76,22 @@ pub fn is_ready(
 pub fn is_lent(letters: usize, limit: usize, streams: usize, values: usize, tables: Lengths) -> bool
     ensures { λ r. ⌜ Says r ((streams ≤ streamBound) × (letters ≤ 1024) × (letters * streams + streamBound ≤ values) × (0 < limit) × (limit ≤ 4096) × (limit * keySize ≤ tables .keys) × (limit ≤ tables .heads) × (limit ≤ tables .links) × (limit * letters ≤ tables .entries) × (limit ≤ tables .flags)) ⌝ }
 {
-    if 8 < streams {
+    if STREAM_BOUND < streams {
         return false;
     }
-    if 1024 < letters {
+    if LETTER_BOUND < letters {
         return false;
     }
     if limit == 0 {
         return false;
     }
-    if 4096 < limit {
+    if SITUATION_BOUND < limit {
         return false;
     }
-    if values < letters * streams + 8 {
+    if values < letters * streams + STREAM_BOUND {
         return false;
     }
-    if tables.keys < limit * 16 {
+    if tables.keys < limit * KEY_SIZE {
         return false;
     }
     if tables.heads < limit {

@@ -1,35 +1,21 @@
 // Reads sheets from standard input and prints what `sluice` prints for each. The enumerator wrote the input and what is expected: a number of
 // four bytes, low first, and then as many bytes of a sheet, sheet after sheet.
-use libc::STDIN_FILENO;
 
-// One sheet; whether there was one.
-fn one(space: &mut [u8]) -> bool {
-    if space.len() < 4 {
-        return false;
+// One case; whether there was one.
+fn one() -> bool {
+    let mut space = io::large_buffer();
+    let case = cases::read_case(4, &mut space);
+    let size = case.size;
+    if case.found {
+        show::show(&space[..size]);
     }
-    let n = io::read_full(STDIN_FILENO, &mut space[..4]);
-    if n < 4 {
-        return false;
-    }
-    let size = cases::number(space, 0) as usize;
-    if space.len() < size {
-        return false;
-    }
-    let m = io::read_full(STDIN_FILENO, &mut space[..size]);
-    if m < size {
-        return false;
-    }
-    show::show(&space[..size]);
-    true
+    case.found
 }
 
 fn main() {
-    let mut space = io::large_buffer();
-    let mut left: u32 = 65536;
-    while 0 < left {
-        if !one(&mut space) {
+    for _ in 0..65536u32 {
+        if !one() {
             return;
         }
-        left -= 1;
     }
 }

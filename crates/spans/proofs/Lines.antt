@@ -11,53 +11,53 @@ use Rattle.text.specs.Bytes.{Token, isInside, startsInside, lines, tokens, addT
 use Rattle.text.proofs.Bytes.{tokens-append}
 use Rattle.meaning.specs.Window.{joinOver}
 use Rattle.scan.proofs.Tokens.{drop-at}
-use Rattle.spans.specs.Spans.{lineStart, constraintsTo, spansIn}
+use Rattle.spans.specs.Spans.{lineOffset, constraintsTo, spansIn}
 
-pub start-none : (l : List ℕ) → lineStart 0 l ≡ 0
-unfolding lineStart
+pub start-none : (l : List ℕ) → lineOffset 0 l ≡ 0
+unfolding lineOffset
 start-none l = refl
 
-pub start-over : (k : ℕ) (l : List ℕ) (i : ℕ) → length l ≤ i → lineStart k (drop i l) ≡ 0
-unfolding lineStart
-start-over k l i h = ap (lineStart k) (drop-of-length-le l h) ∙ none k
+pub start-over : (k : ℕ) (l : List ℕ) (i : ℕ) → length l ≤ i → lineOffset k (drop i l) ≡ 0
+unfolding lineOffset
+start-over k l i h = ap (lineOffset k) (drop-of-length-le l h) ∙ none k
   where
-    none : (k : ℕ) → lineStart k [] ≡ 0
+    none : (k : ℕ) → lineOffset k [] ≡ 0
     none zero = refl
     none (suc k) = refl
 
 module _ (l : List ℕ) (i : ℕ) (h : i < length l) where
-  pub start-ends : (k : ℕ) → 0 < k → getD l i 0 ≡ 10 → lineStart k (drop i l) ≡ suc (lineStart (k - 1) (drop (i + 1) l))
-  unfolding lineStart
+  pub start-ends : (k : ℕ) → 0 < k → getD l i 0 ≡ 10 → lineOffset k (drop i l) ≡ suc (lineOffset (k - 1) (drop (i + 1) l))
+  unfolding lineOffset
   start-ends zero p e = absurd (omega arith)
   start-ends (suc k) p e =
       let less : k ≡ suc k - 1 = omega arith in
-      ap (lineStart (suc k)) (drop-at l i h) ∙ ap (λ m. suc (cond m (lineStart k (drop (i + 1) l)) (lineStart (suc k) (drop (i + 1) l)))) (eq-eqb (getD l i 0) 10 e)
-      ∙ ap (λ n. suc (lineStart n (drop (i + 1) l))) less
+      ap (lineOffset (suc k)) (drop-at l i h) ∙ ap (λ m. suc (cond m (lineOffset k (drop (i + 1) l)) (lineOffset (suc k) (drop (i + 1) l)))) (eq-eqb (getD l i 0) 10 e)
+      ∙ ap (λ n. suc (lineOffset n (drop (i + 1) l))) less
 
-  pub start-goes-on : (k : ℕ) → 0 < k → (getD l i 0 ≡ 10 → ⊥) → lineStart k (drop i l) ≡ suc (lineStart k (drop (i + 1) l))
-  unfolding lineStart
+  pub start-goes-on : (k : ℕ) → 0 < k → (getD l i 0 ≡ 10 → ⊥) → lineOffset k (drop i l) ≡ suc (lineOffset k (drop (i + 1) l))
+  unfolding lineOffset
   start-goes-on zero p e = absurd (omega arith)
   start-goes-on (suc k) p e =
-      ap (lineStart (suc k)) (drop-at l i h) ∙ ap (λ m. suc (cond m (lineStart k (drop (i + 1) l)) (lineStart (suc k) (drop (i + 1) l)))) (ne-eqb (getD l i 0) 10 e)
+      ap (lineOffset (suc k)) (drop-at l i h) ∙ ap (λ m. suc (cond m (lineOffset k (drop (i + 1) l)) (lineOffset (suc k) (drop (i + 1) l)))) (ne-eqb (getD l i 0) 10 e)
 
-pub start-within : (k : ℕ) (l : List ℕ) → lineStart k l ≤ length l
-unfolding lineStart
+pub start-within : (k : ℕ) (l : List ℕ) → lineOffset k l ≤ length l
+unfolding lineOffset
 start-within zero l = omega arith
 start-within (suc k) [] = omega arith
 start-within (suc k) (b ∷ l) = by (eqb b 10) (start-within k l) (start-within (suc k) l)
   where
-    by : (m : Bool) → lineStart k l ≤ length l → lineStart (suc k) l ≤ length l → suc (cond m (lineStart k l) (lineStart (suc k) l)) ≤ suc (length l)
+    by : (m : Bool) → lineOffset k l ≤ length l → lineOffset (suc k) l ≤ length l → suc (cond m (lineOffset k l) (lineOffset (suc k) l)) ≤ suc (length l)
     by true h i = omega arith
     by false h i = omega arith
 
 -- The spans of a text that is too long, and of one that is not.
 pub spans-long : (text : List ℕ) → 65535 < length text → spansIn text ≡ []
 unfolding spansIn
-spans-long text h = ap (λ m. cond m [] (constraintsTo text (suc (length text)) (lineStart 3 text))) (lt-ltb 65535 (length text) h)
+spans-long text h = ap (λ m. cond m [] (constraintsTo text (suc (length text)) (lineOffset 3 text))) (lt-ltb 65535 (length text) h)
 
-pub spans-short : (text : List ℕ) → length text ≤ 65535 → spansIn text ≡ constraintsTo text (suc (length text)) (lineStart 3 text)
+pub spans-short : (text : List ℕ) → length text ≤ 65535 → spansIn text ≡ constraintsTo text (suc (length text)) (lineOffset 3 text)
 unfolding spansIn
-spans-short text h = ap (λ m. cond m [] (constraintsTo text (suc (length text)) (lineStart 3 text))) (le-ltb 65535 (length text) h)
+spans-short text h = ap (λ m. cond m [] (constraintsTo text (suc (length text)) (lineOffset 3 text))) (le-ltb 65535 (length text) h)
 
 -- ---- the tokens of lines
 
@@ -97,13 +97,13 @@ drop-longer k b [] = drop-nothing k
 drop-longer k b (l ∷ ls) = refl
 
 -- The tokens from the start of a line on are those of the lines from it on.
-pub start-tokens : (k : ℕ) (text : List ℕ) → tokens (drop (lineStart k text) text) ≡ tokensOf (drop k (lines text))
-unfolding lineStart lines tokens
+pub start-tokens : (k : ℕ) (text : List ℕ) → tokens (drop (lineOffset k text) text) ≡ tokensOf (drop k (lines text))
+unfolding lineOffset lines tokens
 start-tokens zero text = lines-join (split text)
 start-tokens (suc k) [] = refl
 start-tokens (suc k) (b ∷ bs) = by (eqb b 10) (start-tokens k bs) (start-tokens (suc k) bs)
   where
-    by : (m : Bool) → tokens (drop (lineStart k bs) bs) ≡ tokensOf (drop k (lines bs)) → tokens (drop (lineStart (suc k) bs) bs) ≡ tokensOf (drop (suc k) (lines bs))
-        → tokens (drop (suc (cond m (lineStart k bs) (lineStart (suc k) bs))) (b ∷ bs)) ≡ tokensOf (drop (suc k) (addToLines m b (lines bs)))
+    by : (m : Bool) → tokens (drop (lineOffset k bs) bs) ≡ tokensOf (drop k (lines bs)) → tokens (drop (lineOffset (suc k) bs) bs) ≡ tokensOf (drop (suc k) (lines bs))
+        → tokens (drop (suc (cond m (lineOffset k bs) (lineOffset (suc k) bs))) (b ∷ bs)) ≡ tokensOf (drop (suc k) (addToLines m b (lines bs)))
     by true h i = h
     by false h i = i ∙ ap tokensOf (sym (drop-longer k b (lines bs)))

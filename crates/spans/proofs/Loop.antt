@@ -7,7 +7,7 @@ use lib.ListN.{length, length-append}
 use Rattle.scan.specs.declared.Span.{Span}
 use Rattle.scan.specs.Place.{TokenAt}
 use Rattle.spans.specs.Token.{tokenFrom}
-use Rattle.spans.specs.Spans.{constraintFrom, constraintsTo}
+use Rattle.spans.specs.Spans.{constraintSpan, constraintsTo}
 use Rattle.spans.specs.Stored.{spanBound, putSpans, PlaceIn, StoresSpans}
 use Rattle.spans.specs.declared.Reached.{Reached}
 use Rattle.spans.proofs.Token.{token-is, token-ordered}
@@ -45,7 +45,7 @@ module _ {text : List ℕ} {from : ℕ} {old mid : List ℕ} {at count : ℕ} (h
     pub loop-ends : (count ≡ length (allFrom text from)) × (count ≤ spanBound → mid ≡ putSpans old 0 (allFrom text from))
     loop-ends = (h .counted ∙ ap length (sym all-done), λ l. h .table (omega (arith, h .counted)) ∙ ap (putSpans old 0) (sym all-done))
 
-  module _ (stands : t .start ≡ t .end → ⊥) {new : List ℕ} {r : Reached} (k : StoresSpans (λ d. constraintFrom text at) text at count mid new r) where
+  module _ (stands : t .start ≡ t .end → ⊥) {new : List ℕ} {r : Reached} (k : StoresSpans (λ d. constraintSpan text at) text at count mid new r) where
     pub loop-further : at < r .next
     loop-further = let o = token-ordered (h .place .inside) token in omega (arith, subst (λ (u : Span). u .end ≤ r .next) is (k .past), o .forward, o .ordered, stands)
 

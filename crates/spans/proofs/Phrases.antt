@@ -8,17 +8,16 @@ use mathlib.Core.Option.{some, none, Option·none-ne-some}
 use lib.ListN.{length, length-append}
 use Rattle.text.specs.Bytes.{Token, bytesOf}
 use Rattle.text.specs.Token.{sameBytes}
-use Rattle.meaning.specs.Value.{Comparison, less, atMost, equal, atLeast, greater, different}
-use Rattle.meaning.specs.Arithmetic.{add, subtract, multiply, divide, remainder, compare, and, or}
-use Rattle.nodes.specs.Code.{comparisonCode}
-use Rattle.sheet.specs.Vocabulary.{Infix, pointwise, followedBy, operatorTokens, operatorOf, Prefix, firstPrefix, nextPrefix, notPrefix, prefixOf}
+use Rattle.meaning.specs.Value.{less}
+use Rattle.meaning.specs.Arithmetic.{and}
+use Rattle.sheet.specs.Vocabulary.{Infix, operatorTokens, operatorOf, Prefix, prefixOf}
 use Rattle.scan.specs.declared.Span.{Span}
 use Rattle.scan.specs.Place.{TokenAt, noToken, aToken}
 use Rattle.scan.specs.Word.{codeOr255, infixCode, prefixCode}
 use Rattle.scan.proofs.Tokens.{between-none}
-use Rattle.scan.proofs.Words.{code-none, code-some}
+use Rattle.scan.proofs.Words.{code-some}
 use Rattle.spans.specs.Token.{span, tokenFrom}
-use Rattle.spans.specs.Spans.{Spanned, spanned, closed, tokenIn, branchesBy, afterPart, expressionBy, partTo, constraintFrom}
+use Rattle.spans.specs.Spans.{Spanned, spanned, closed, tokenIn, branchesBy, spanAfterPart, expressionSpan, partSpanTo, constraintSpan}
 use Rattle.spans.specs.Stored.{spanBound, putSpans, PlaceIn, StoresSpans}
 use Rattle.spans.specs.declared.Reached.{Reached}
 use Rattle.spans.proofs.Token.{token-from, token-is, token-ordered}
@@ -55,12 +54,12 @@ module _ {text : List ℕ} {at count : ℕ} (place : PlaceIn text at count) {t :
 
   -- ---- parts
 
-  pub part-none : (old : List ℕ) → t .start ≡ t .end → StoresSpans (λ d. partTo text d at) text at count old old (record { next = t .end; count = count })
+  pub part-none : (old : List ℕ) → t .start ≡ t .end → StoresSpans (λ d. partSpanTo text d at) text at count old old (record { next = t .end; count = count })
   part-none old h =
       let o = token-ordered (place .inside) token in
       record {
         spans = [];
-        gives = bounds (λ d. partTo text d at) (spanned [] (t .end)) (λ n l. step-none text at is n h);
+        gives = bounds (λ d. partSpanTo text d at) (spanned [] (t .end)) (λ n l. step-none text at is n h);
         counted = omega arith;
         table = λ l. refl;
         past = past-end (t .end) (omega arith);
@@ -69,14 +68,14 @@ module _ {text : List ℕ} {at count : ℕ} (place : PlaceIn text at count) {t :
       }
 
   module _ (stands : t .start ≡ t .end → ⊥) where
-    pub part-prefix : {f : Prefix} {old mid new : List ℕ} {r : Reached} → prefixOf (tokenIn text t) ≡ some f → StoresSpans (λ d. partTo text d (t .end)) text (t .end) count old mid r → (r .count < spanBound → new ≡ putSpans mid (r .count) (span (t .start) (r .next) ∷ []))
-        → StoresSpans (λ d. partTo text d at) text at count old new (record { next = r .next; count = r .count + 1 })
+    pub part-prefix : {f : Prefix} {old mid new : List ℕ} {r : Reached} → prefixOf (tokenIn text t) ≡ some f → StoresSpans (λ d. partSpanTo text d (t .end)) text (t .end) count old mid r → (r .count < spanBound → new ≡ putSpans mid (r .count) (span (t .start) (r .next) ∷ []))
+        → StoresSpans (λ d. partSpanTo text d at) text at count old new (record { next = r .next; count = r .count + 1 })
     part-prefix {old = old} {r = r} e h q =
         let o = token-ordered (place .inside) token in
         let k : t .end ≤ r .next = reached-on h (o .within) in
         record {
           spans = h .spans ++ (span (t .start) (r .next) ∷ []);
-          gives = bounds (λ d. partTo text d at) (closed (h .spans) (t .start) (r .next)) (λ n l. step-prefix text at is n stands e ∙ ap (λ a. closed (a .spans) (t .start) (a .next)) (h .gives n (omega (arith, o .forward, o .ordered))));
+          gives = bounds (λ d. partSpanTo text d at) (closed (h .spans) (t .start) (r .next)) (λ n l. step-prefix text at is n stands e ∙ ap (λ a. closed (a .spans) (t .start) (a .next)) (h .gives n (omega (arith, o .forward, o .ordered))));
           counted = omega (arith, h .counted, length-append (h .spans) (span (t .start) (r .next) ∷ []));
           table = λ l. let z = length-append (h .spans) (span (t .start) (r .next) ∷ []) in put-append old count (h .spans) (span (t .start) (r .next) ∷ []) (h .table (omega arith)) (h .counted) (q (omega (arith, h .counted)));
           past = past-end (r .next) k;
@@ -85,15 +84,15 @@ module _ {text : List ℕ} {at count : ℕ} (place : PlaceIn text at count) {t :
         }
 
     module _ (e : prefixOf (tokenIn text t) ≡ none) where
-      pub part-bracket : {u : Span} {old new : List ℕ} {r : Reached} → sameBytes (bytesOf "(") (tokenIn text t) ≡ true → StoresSpans (λ d. expressionBy text (partTo text d) (t .end)) text (t .end) count old new r → TokenAt text (r .next) u
-          → StoresSpans (λ d. partTo text d at) text at count old new (record { next = u .end; count = r .count })
+      pub part-bracket : {u : Span} {old new : List ℕ} {r : Reached} → sameBytes (bytesOf "(") (tokenIn text t) ≡ true → StoresSpans (λ d. expressionSpan text (partSpanTo text d) (t .end)) text (t .end) count old new r → TokenAt text (r .next) u
+          → StoresSpans (λ d. partSpanTo text d at) text at count old new (record { next = u .end; count = r .count })
       part-bracket {u} {r = r} b h close =
           let o = token-ordered (place .inside) token in
           let v = token-ordered (h .within) close in
           let k : t .end ≤ r .next = reached-on h (o .within) in
           record {
             spans = h .spans;
-            gives = bounds (λ d. partTo text d at) (spanned (h .spans) (u .end)) (λ n l. step-bracket text at is n stands e b
+            gives = bounds (λ d. partSpanTo text d at) (spanned (h .spans) (u .end)) (λ n l. step-bracket text at is n stands e b
                 ∙ ap (λ a. spanned (a .spans) (tokenFrom text (a .next) .end)) (h .gives n (omega (arith, o .forward, o .ordered)))
                 ∙ ap (λ c. spanned (h .spans) (c .end)) (token-is text (h .within) close));
             counted = h .counted;
@@ -103,12 +102,12 @@ module _ {text : List ℕ} {at count : ℕ} (place : PlaceIn text at count) {t :
             few = omega (arith, h .few, o .forward, o .ordered, v .forward, v .ordered);
           }
 
-      pub part-leaf : {old new : List ℕ} → sameBytes (bytesOf "(") (tokenIn text t) ≡ false → (count < spanBound → new ≡ putSpans old count (span (t .start) (t .end) ∷ [])) → StoresSpans (λ d. partTo text d at) text at count old new (record { next = t .end; count = count + 1 })
+      pub part-leaf : {old new : List ℕ} → sameBytes (bytesOf "(") (tokenIn text t) ≡ false → (count < spanBound → new ≡ putSpans old count (span (t .start) (t .end) ∷ [])) → StoresSpans (λ d. partSpanTo text d at) text at count old new (record { next = t .end; count = count + 1 })
       part-leaf b q =
           let o = token-ordered (place .inside) token in
           record {
             spans = span (t .start) (t .end) ∷ [];
-            gives = bounds (λ d. partTo text d at) (closed [] (t .start) (t .end)) (λ n l. step-leaf text at is n stands e b);
+            gives = bounds (λ d. partSpanTo text d at) (closed [] (t .start) (t .end)) (λ n l. step-leaf text at is n stands e b);
             counted = omega arith;
             table = λ l. q (omega arith);
             past = past-end (t .end) (omega arith);
@@ -118,15 +117,15 @@ module _ {text : List ℕ} {at count : ℕ} (place : PlaceIn text at count) {t :
 
   -- ---- expressions
 
-  pub expression-conditional : {old mid new : List ℕ} {r : Reached} → sameBytes (bytesOf "if") (tokenIn text t) ≡ true → StoresSpans (λ d. branchesBy text (partTo text d) (t .end)) text (t .end) count old mid r → (r .count < spanBound → new ≡ putSpans mid (r .count) (span (t .start) (r .next) ∷ []))
-      → StoresSpans (λ d. expressionBy text (partTo text d) at) text at count old new (record { next = r .next; count = r .count + 1 })
+  pub expression-conditional : {old mid new : List ℕ} {r : Reached} → sameBytes (bytesOf "if") (tokenIn text t) ≡ true → StoresSpans (λ d. branchesBy text (partSpanTo text d) (t .end)) text (t .end) count old mid r → (r .count < spanBound → new ≡ putSpans mid (r .count) (span (t .start) (r .next) ∷ []))
+      → StoresSpans (λ d. expressionSpan text (partSpanTo text d) at) text at count old new (record { next = r .next; count = r .count + 1 })
   expression-conditional {old} {r = r} e h q =
       let o = token-ordered (place .inside) token in
       let k : t .end ≤ r .next = reached-on h (o .within) in
       let further : at < t .end = word-after token (if-some e) in
       record {
         spans = h .spans ++ (span (t .start) (r .next) ∷ []);
-        gives = λ d l. step-conditional text at is (partTo text d) e ∙ ap (λ a. closed (a .spans) (t .start) (a .next)) (h .gives d (omega arith));
+        gives = λ d l. step-conditional text at is (partSpanTo text d) e ∙ ap (λ a. closed (a .spans) (t .start) (a .next)) (h .gives d (omega arith));
         counted = omega (arith, h .counted, length-append (h .spans) (span (t .start) (r .next) ∷ []));
         table = λ l. let z = length-append (h .spans) (span (t .start) (r .next) ∷ []) in put-append old count (h .spans) (span (t .start) (r .next) ∷ []) (h .table (omega arith)) (h .counted) (q (omega (arith, h .counted)));
         past = past-end (r .next) k;
@@ -134,15 +133,15 @@ module _ {text : List ℕ} {at count : ℕ} (place : PlaceIn text at count) {t :
         few = omega (arith, h .few);
       }
 
-  module _ (e : sameBytes (bytesOf "if") (tokenIn text t) ≡ false) {old mid : List ℕ} {r : Reached} (h : StoresSpans (λ d. partTo text d at) text at count old mid r) {u : Span} (sign : TokenAt text (r .next) u) where
-    left-given : (d : ℕ) → length text < at + d → expressionBy text (partTo text d) at ≡ afterPart text (partTo text d) (t .start) (spanned (h .spans) (r .next))
-    left-given d l = step-operation text at is (partTo text d) e ∙ ap (afterPart text (partTo text d) (t .start)) (h .gives d l)
+  module _ (e : sameBytes (bytesOf "if") (tokenIn text t) ≡ false) {old mid : List ℕ} {r : Reached} (h : StoresSpans (λ d. partSpanTo text d at) text at count old mid r) {u : Span} (sign : TokenAt text (r .next) u) where
+    left-given : (d : ℕ) → length text < at + d → expressionSpan text (partSpanTo text d) at ≡ spanAfterPart text (partSpanTo text d) (t .start) (spanned (h .spans) (r .next))
+    left-given d l = step-operation text at is (partSpanTo text d) e ∙ ap (spanAfterPart text (partSpanTo text d) (t .start)) (h .gives d l)
 
-    pub expression-alone : operatorOf (tokenIn text u) ≡ none → StoresSpans (λ d. expressionBy text (partTo text d) at) text at count old mid r
+    pub expression-alone : operatorOf (tokenIn text u) ≡ none → StoresSpans (λ d. expressionSpan text (partSpanTo text d) at) text at count old mid r
     expression-alone n =
         record {
           spans = h .spans;
-          gives = λ d l. left-given d l ∙ step-alone text (partTo text d) (t .start) (spanned (h .spans) (r .next)) (token-is text (h .within) sign) n;
+          gives = λ d l. left-given d l ∙ step-alone text (partSpanTo text d) (t .start) (spanned (h .spans) (r .next)) (token-is text (h .within) sign) n;
           counted = h .counted;
           table = h .table;
           past = h .past;
@@ -150,8 +149,8 @@ module _ {text : List ℕ} {at count : ℕ} (place : PlaceIn text at count) {t :
           few = h .few;
         }
 
-    pub expression-operation : {f : Infix} {late new : List ℕ} {b : Reached} → operatorOf (tokenIn text u) ≡ some f → StoresSpans (λ d. partTo text d (u .end)) text (u .end) (r .count) mid late b → (b .count < spanBound → new ≡ putSpans late (b .count) (span (t .start) (b .next) ∷ []))
-        → StoresSpans (λ d. expressionBy text (partTo text d) at) text at count old new (record { next = b .next; count = b .count + 1 })
+    pub expression-operation : {f : Infix} {late new : List ℕ} {b : Reached} → operatorOf (tokenIn text u) ≡ some f → StoresSpans (λ d. partSpanTo text d (u .end)) text (u .end) (r .count) mid late b → (b .count < spanBound → new ≡ putSpans late (b .count) (span (t .start) (b .next) ∷ []))
+        → StoresSpans (λ d. expressionSpan text (partSpanTo text d) at) text at count old new (record { next = b .next; count = b .count + 1 })
     expression-operation {b = b} f k q =
         let v = token-ordered (h .within) sign in
         let further : r .next < u .end = word-after sign (operator-some f) in
@@ -162,7 +161,7 @@ module _ {text : List ℕ} {at count : ℕ} (place : PlaceIn text at count) {t :
         record {
           spans = (h .spans ++ k .spans) ++ own;
           gives = λ d l. left-given d l
-              ∙ step-joined text (partTo text d) (t .start) (spanned (h .spans) (r .next)) (token-is text (h .within) sign) f
+              ∙ step-joined text (partSpanTo text d) (t .start) (spanned (h .spans) (r .next)) (token-is text (h .within) sign) f
               ∙ ap (λ a. closed (h .spans ++ a .spans) (t .start) (a .next)) (k .gives d (omega arith));
           counted = omega (arith, h .counted, k .counted, all, length-append (h .spans ++ k .spans) own);
           table = λ l. let z = length-append (h .spans ++ k .spans) own in put-append old count (h .spans ++ k .spans) own (put-append old count (h .spans) (k .spans) (h .table (omega arith)) (h .counted) (k .table (omega (arith, h .counted)))) (omega (arith, h .counted, k .counted, all)) (q (omega (arith, h .counted, k .counted)));
@@ -200,64 +199,34 @@ module _ {text : List ℕ} {at count : ℕ} (place : PlaceIn text at count) {S T
       }
 
 -- The parts after `if`.
-pub branches-found : {text : List ℕ} {at count : ℕ} {old mid late new : List ℕ} {x y z : Reached} {u v : Span} → PlaceIn text at count → StoresSpans (λ d. partTo text d at) text at count old mid x → TokenAt text (x .next) u
-    → StoresSpans (λ d. partTo text d (u .end)) text (u .end) (x .count) mid late y → TokenAt text (y .next) v → StoresSpans (λ d. partTo text d (v .end)) text (v .end) (y .count) late new z
-    → StoresSpans (λ d. branchesBy text (partTo text d) at) text at count old new z
+pub branches-found : {text : List ℕ} {at count : ℕ} {old mid late new : List ℕ} {x y z : Reached} {u v : Span} → PlaceIn text at count → StoresSpans (λ d. partSpanTo text d at) text at count old mid x → TokenAt text (x .next) u
+    → StoresSpans (λ d. partSpanTo text d (u .end)) text (u .end) (x .count) mid late y → TokenAt text (y .next) v → StoresSpans (λ d. partSpanTo text d (v .end)) text (v .end) (y .count) late new z
+    → StoresSpans (λ d. branchesBy text (partSpanTo text d) at) text at count old new z
 unfolding both
 branches-found {text} {at} {z = z} {u} {v} place c then a other b =
     let o = token-ordered (c .within) then in
     let i = token-ordered (a .within) other in
     let after : at ≤ u .end = let k = reached-on c (place .inside) in omega (arith, o .forward, o .ordered) in
     let later : u .end ≤ v .end = let k = reached-on a (o .within) in omega (arith, i .forward, i .ordered) in
-    both place c then (both (behind-word place c then) a other b (λ d. spanned (a .spans ++ b .spans) (z .next)) (λ d l. refl)) (λ d. branchesBy text (partTo text d) at)
-    (λ d l. step-branches text (partTo text d) at (c .gives d l)
-    (ap (λ (t : Span). partTo text d (t .end)) (token-is text (c .within) then) ∙ a .gives d (omega arith))
-    (ap (λ (t : Span). partTo text d (t .end)) (token-is text (a .within) other) ∙ b .gives d (omega arith)))
+    both place c then (both (behind-word place c then) a other b (λ d. spanned (a .spans ++ b .spans) (z .next)) (λ d l. refl)) (λ d. branchesBy text (partSpanTo text d) at)
+    (λ d l. step-branches text (partSpanTo text d) at (c .gives d l)
+    (ap (λ (t : Span). partSpanTo text d (t .end)) (token-is text (c .within) then) ∙ a .gives d (omega arith))
+    (ap (λ (t : Span). partSpanTo text d (t .end)) (token-is text (a .within) other) ∙ b .gives d (omega arith)))
 
 -- The two sides of a constraint.
-pub constraint-found : {text : List ℕ} {at count : ℕ} {old mid new : List ℕ} {x y : Reached} {u : Span} → PlaceIn text at count → StoresSpans (λ d. expressionBy text (partTo text d) at) text at count old mid x → TokenAt text (x .next) u
-    → StoresSpans (λ d. expressionBy text (partTo text d) (u .end)) text (u .end) (x .count) mid new y → StoresSpans (λ d. constraintFrom text at) text at count old new y
+pub constraint-found : {text : List ℕ} {at count : ℕ} {old mid new : List ℕ} {x y : Reached} {u : Span} → PlaceIn text at count → StoresSpans (λ d. expressionSpan text (partSpanTo text d) at) text at count old mid x → TokenAt text (x .next) u
+    → StoresSpans (λ d. expressionSpan text (partSpanTo text d) (u .end)) text (u .end) (x .count) mid new y → StoresSpans (λ d. constraintSpan text at) text at count old new y
 constraint-found {text} {at} {x = x} {u = u} place a sign b =
     let whole = suc (length text) in
-    both place a sign b (λ d. constraintFrom text at)
-    (λ d l. ap (λ e. let f = expressionBy text (partTo text whole) (tokenFrom text (e .next) .end) in spanned (e .spans ++ f .spans) (f .next)) (a .gives whole (omega arith))
-    ∙ ap (λ (t : Span). let f = expressionBy text (partTo text whole) (t .end) in spanned (a .spans ++ f .spans) (f .next)) (token-is text (a .within) sign)
+    both place a sign b (λ d. constraintSpan text at)
+    (λ d l. ap (λ e. let f = expressionSpan text (partSpanTo text whole) (tokenFrom text (e .next) .end) in spanned (e .spans ++ f .spans) (f .next)) (a .gives whole (omega arith))
+    ∙ ap (λ (t : Span). let f = expressionSpan text (partSpanTo text whole) (t .end) in spanned (a .spans ++ f .spans) (f .next)) (token-is text (a .within) sign)
     ∙ ap (λ f. spanned (a .spans ++ f .spans) (f .next)) (b .gives whole (omega arith)))
 
 -- ---- what the number of a word says of it
 
-prefix-small : (p : Prefix) → prefixCode p < 255
-prefix-small firstPrefix = omega arith
-prefix-small nextPrefix = omega arith
-prefix-small notPrefix = omega arith
-
-comparison-small : (c : Comparison) → comparisonCode c < 6
-comparison-small less = omega arith
-comparison-small atMost = omega arith
-comparison-small equal = omega arith
-comparison-small atLeast = omega arith
-comparison-small greater = omega arith
-comparison-small different = omega arith
-
-infix-small : (o : Infix) → infixCode o < 255
-infix-small (pointwise add) = omega arith
-infix-small (pointwise subtract) = omega arith
-infix-small (pointwise multiply) = omega arith
-infix-small (pointwise divide) = omega arith
-infix-small (pointwise remainder) = omega arith
-infix-small (pointwise (compare c)) = let z = comparison-small c in omega arith
-infix-small (pointwise and) = omega arith
-infix-small (pointwise or) = omega arith
-infix-small followedBy = omega arith
-
-pub no-prefix : (w : Token) {k : ℕ} → k ≡ codeOr255 prefixCode (prefixOf w) → k ≡ 255 → prefixOf w ≡ none
-no-prefix w e h = code-none prefixCode prefix-small (prefixOf w) (sym e ∙ h)
-
 pub a-prefix : (w : Token) {k : ℕ} → k ≡ codeOr255 prefixCode (prefixOf w) → (k ≡ 255 → ⊥) → (p : Prefix) × (prefixOf w ≡ some p)
 a-prefix w e n = let (p, is, code) = code-some prefixCode (prefixOf w) (λ h. n (e ∙ h)) in (p, is)
-
-pub no-operator : (w : Token) {k : ℕ} → k ≡ codeOr255 infixCode (operatorOf w) → k ≡ 255 → operatorOf w ≡ none
-no-operator w e h = code-none infixCode infix-small (operatorOf w) (sym e ∙ h)
 
 pub an-operator : (w : Token) {k : ℕ} → k ≡ codeOr255 infixCode (operatorOf w) → (k ≡ 255 → ⊥) → (o : Infix) × (operatorOf w ≡ some o)
 an-operator w e n = let (o, is, code) = code-some infixCode (operatorOf w) (λ h. n (e ∙ h)) in (o, is)

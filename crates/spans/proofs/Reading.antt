@@ -22,7 +22,7 @@ use Rattle.scan.specs.Start.{isVisible}
 use Rattle.scan.proofs.Tokens.{between-none}
 use Rattle.spans.specs.Token.{span, tokenFrom}
 use Rattle.spans.specs.Postfix.{inPostfix}
-use Rattle.spans.specs.Spans.{Spanned, closed, tokenIn, expressionBy, partTo}
+use Rattle.spans.specs.Spans.{Spanned, closed, tokenIn, expressionSpan, partSpanTo}
 use Rattle.spans.specs.Reading.{SpanReads, EachReads}
 use Rattle.spans.proofs.Token.{Ended, Seen, token-from, token-same, token-ended, token-seen, token-ordered, tokens-up-to}
 use Rattle.spans.proofs.Words.{integer-no-bracket, integer-no-prefix, name-no-bracket, name-no-prefix, bracket-no-prefix, part-first}
@@ -119,7 +119,7 @@ module _ (names : List Token) (text : List ℕ) where
         within = w;
       }
 
-  leaf-found : (n : ℕ) {at : ℕ} {t : Token} {rest : List Token} {e : Expression} → Reads names part (t ∷ []) e → inPostfix e ≡ e ∷ [] → prefixOf t ≡ none → sameBytes (bytesOf "(") t ≡ false → at ≤ length text → tokens (drop at text) ≡ t ∷ rest → PhraseRead e rest at (partTo text (suc n) at)
+  leaf-found : (n : ℕ) {at : ℕ} {t : Token} {rest : List Token} {e : Expression} → Reads names part (t ∷ []) e → inPostfix e ≡ e ∷ [] → prefixOf t ≡ none → sameBytes (bytesOf "(") t ≡ false → at ≤ length text → tokens (drop at text) ≡ t ∷ rest → PhraseRead e rest at (partSpanTo text (suc n) at)
   leaf-found n {at} {t} {rest} {e} r nodes p b h q =
       let w = word-at h q in
       subst (PhraseRead e rest at) (sym (step-leaf text at refl n (w .stands) (ap prefixOf (w .word) ∙ p) (ap (sameBytes (bytesOf "(")) (w .word) ∙ b)))
@@ -127,11 +127,11 @@ module _ (names : List Token) (text : List ℕ) where
 
   -- What p gives for a bound.
   abbrev spansTo : Phrase → ℕ → ℕ → Spanned
-  spansTo part n at = partTo text n at
-  spansTo expression n at = expressionBy text (partTo text n) at
+  spansTo part n at = partSpanTo text n at
+  spansTo expression n at = expressionSpan text (partSpanTo text n) at
 
   -- Where nothing, or no operator, follows a part, the expression ends with it.
-  alone : (n : ℕ) {e : Expression} {rest : List Token} {at : ℕ} → NoOperator rest → PhraseRead e rest at (partTo text n at) → operatorOf (tokenIn text (tokenFrom text (partTo text n at .next))) ≡ none
+  alone : (n : ℕ) {e : Expression} {rest : List Token} {at : ℕ} → NoOperator rest → PhraseRead e rest at (partSpanTo text n at) → operatorOf (tokenIn text (tokenFrom text (partSpanTo text n at .next))) ≡ none
   unfolding operatorOf operatorTokens
   alone n {rest = []} f h = ap operatorOf (no-word (h .within) (h .after))
   alone n {rest = t ∷ ts} f h = ap operatorOf (word-at (h .within) (h .after) .word) ∙ f
@@ -159,7 +159,7 @@ module _ (names : List Token) (text : List ℕ) where
       (record {
         each = a .each;
         after = c .after;
-        ended = token-ended text (expressionBy text (partTo text n) (tokenFrom text at .end) .next) (a .within);
+        ended = token-ended text (expressionSpan text (partSpanTo text n) (tokenFrom text at .end) .next) (a .within);
         last = c .seen .last;
         past = omega (arith, w .ordered, a .past, from, c .forward, c .ordered);
         within = c .within;
@@ -175,7 +175,7 @@ module _ (names : List Token) (text : List ℕ) where
       let a = found r n rest tt at i l q in
       let t = part-first r in
       let w = word-at i (q ∙ ap (λ us. us ++ rest) (t .whole)) in
-      subst (PhraseRead e rest at) (sym (step-operation text at refl (partTo text n) (ap (sameBytes (bytesOf "if")) (w .word) ∙ t .noIf) ∙ step-alone text (partTo text n) (tokenFrom text at .start) (partTo text n at) refl (alone n f a))) a
+      subst (PhraseRead e rest at) (sym (step-operation text at refl (partSpanTo text n) (ap (sameBytes (bytesOf "if")) (w .word) ∙ t .noIf) ∙ step-alone text (partSpanTo text n) (tokenFrom text at .start) (partSpanTo text n at) refl (alone n f a))) a
   found (isOperation {ts} {us} t {o} {a = x} {b = y} r e s) n rest f at i l q =
       let whole : tokens (drop at text) ≡ ts ++ (t ∷ (us ++ rest)) = q ∙ append-assoc ts (t ∷ us) rest in
       let a = found r n (t ∷ (us ++ rest)) tt at i l whole in
@@ -183,13 +183,13 @@ module _ (names : List Token) (text : List ℕ) where
       let w = word-at i (whole ∙ ap (λ vs. vs ++ (t ∷ (us ++ rest))) (first .whole)) in
       let sign = word-at (a .within) (a .after) in
       let from = token-from-past (sign .within) in
-      let b = found s n rest tt (tokenFrom text (partTo text n at .next) .end) (sign .within) (omega (arith, w .forward, a .past, sign .forward, sign .ordered)) (sign .after) in
-      subst (PhraseRead (infixed o x y) rest at) (sym (step-operation text at refl (partTo text n) (ap (sameBytes (bytesOf "if")) (w .word) ∙ first .noIf) ∙ step-joined text (partTo text n) (tokenFrom text at .start) (partTo text n at) refl (ap operatorOf (sign .word) ∙ e)))
+      let b = found s n rest tt (tokenFrom text (partSpanTo text n at .next) .end) (sign .within) (omega (arith, w .forward, a .past, sign .forward, sign .ordered)) (sign .after) in
+      subst (PhraseRead (infixed o x y) rest at) (sym (step-operation text at refl (partSpanTo text n) (ap (sameBytes (bytesOf "if")) (w .word) ∙ first .noIf) ∙ step-joined text (partSpanTo text n) (tokenFrom text at .start) (partSpanTo text n at) refl (ap operatorOf (sign .word) ∙ e)))
       (closed-found (isOperation t r e s) i q (b .after) (b .ended) (omega (arith, a .past, sign .forward, sign .ordered, b .past, from)) (b .within) (record { first = w .seen .first; last = b .last }) (each-append (a .each) (b .each)) (joined-nodes o x y))
   found (isConditional {ts} {us} {vs} {c = x} {a = y} {b = z} r s t) n rest f at i l q =
       let whole : tokens (drop at text) ≡ bytesOf "if" ∷ (ts ++ (bytesOf "then" ∷ (us ++ (bytesOf "else" ∷ (vs ++ rest))))) =
       q ∙ ap (λ w. bytesOf "if" ∷ w) (append-assoc ts (bytesOf "then" ∷ (us ++ (bytesOf "else" ∷ vs))) rest ∙ ap (λ w. ts ++ (bytesOf "then" ∷ w)) (append-assoc us (bytesOf "else" ∷ vs) rest)) in
-      let p = partTo text n in
+      let p = partSpanTo text n in
       let w = word-at i whole in
       let c = found r n (bytesOf "then" ∷ (us ++ (bytesOf "else" ∷ (vs ++ rest)))) tt (tokenFrom text at .end) (w .within) (omega (arith, w .forward, w .ordered)) (w .after) in
       let from = token-from-past (w .within) in
@@ -204,5 +204,5 @@ module _ (names : List Token) (text : List ℕ) where
       (each-append (c .each) (each-append (a .each) (b .each))) (conditional-nodes x y z))
 
   -- The expression from a place on.
-  pub expression-found : {us : List Token} {e : Expression} → Reads names expression us e → (n : ℕ) (rest : List Token) → NoOperator rest → (at : ℕ) → at ≤ length text → length text < at + n → tokens (drop at text) ≡ us ++ rest → PhraseRead e rest at (expressionBy text (partTo text n) at)
+  pub expression-found : {us : List Token} {e : Expression} → Reads names expression us e → (n : ℕ) (rest : List Token) → NoOperator rest → (at : ℕ) → at ≤ length text → length text < at + n → tokens (drop at text) ≡ us ++ rest → PhraseRead e rest at (expressionSpan text (partSpanTo text n) at)
   expression-found r n rest f at i l q = found r n rest f at i l q

@@ -16,7 +16,7 @@ use Rattle.scan.specs.declared.Span.{Span}
 use Rattle.scan.specs.Place.{TokenAt, noToken, aToken}
 use Rattle.spans.specs.Token.{tokenFrom}
 use Rattle.spans.specs.Postfix.{inPostfix, nodeExpressions}
-use Rattle.spans.specs.Spans.{expressionBy, partTo, constraintFrom, constraintsTo, lineStart, spansIn}
+use Rattle.spans.specs.Spans.{expressionSpan, partSpanTo, constraintSpan, constraintsTo, lineOffset, spansIn}
 use Rattle.spans.specs.Reading.{SpanReads, EachReads}
 use Rattle.spans.proofs.Token.{token-from}
 use Rattle.spans.proofs.Steps.{step-last, step-line}
@@ -50,11 +50,11 @@ module _ (names : List Token) (text : List ℕ) where
   -- ---- one line
 
   record LineFound (c : Constraint) (rest : List Token) (at : ℕ) : Type 0 where
-    each : EachReads names text (constraintFrom text at .spans) (inPostfix (leftSide c) ++ inPostfix (rightSide c))
-    after : tokens (drop (constraintFrom text at .next) text) ≡ rest
+    each : EachReads names text (constraintSpan text at .spans) (inPostfix (leftSide c) ++ inPostfix (rightSide c))
+    after : tokens (drop (constraintSpan text at .next) text) ≡ rest
     stands : tokenFrom text at .start ≡ tokenFrom text at .end → ⊥
-    further : at < constraintFrom text at .next
-    within : constraintFrom text at .next ≤ length text
+    further : at < constraintSpan text at .next
+    within : constraintSpan text at .next ≤ length text
 
   line-found : {ts : List Token} {c : Constraint} → ReadsConstraint names ts c → (rest : List Token) → NoOperator rest → (at : ℕ) → at ≤ length text → tokens (drop at text) ≡ ts ++ rest → LineFound c rest at
   line-found (isConstraint {ts} {us} t {r} {a} {b} h e k) rest f at i q =
@@ -62,7 +62,7 @@ module _ (names : List Token) (text : List ℕ) where
       let n = suc (length text) in
       let x = expression-found names text h n (t ∷ (us ++ rest)) (relation-no-operator t e) at i (omega arith) whole in
       let sign = word-at names text (x .within) (x .after) in
-      let y = expression-found names text k n rest f (tokenFrom text (expressionBy text (partTo text n) at .next) .end) (sign .within) (omega arith) (sign .after) in
+      let y = expression-found names text k n rest f (tokenFrom text (expressionSpan text (partSpanTo text n) at .next) .end) (sign .within) (omega arith) (sign .after) in
       let from = token-from-past names text i in
       let from2 = token-from-past names text (sign .within) in
       let z = length-append ts (t ∷ (us ++ rest)) in
@@ -90,7 +90,7 @@ module _ (names : List Token) (text : List ℕ) where
   lines-found (Constraints.more r rs) zero at i l q = absurd (omega arith)
   lines-found (Constraints.more {ls = ls} {c = c} {cs = cs} r rs) (suc n) at i l q =
       let h = line-found r (tokensOf ls) (lines-first rs) at i q in
-      let later = lines-found rs n (constraintFrom text at .next) (h .within) (omega (arith, h .further)) (h .after) in
+      let later = lines-found rs n (constraintSpan text at .next) (h .within) (omega (arith, h .further)) (h .after) in
       subst (λ ss. EachReads names text ss (nodeExpressions (c ∷ cs))) (sym (step-line text n at refl (h .stands))) (each-append names text (h .each) later)
 
   pub each-length : {ss : List Span} {es : List Expression} → EachReads names text ss es → length ss ≡ length es
@@ -106,4 +106,4 @@ module _ (names : List Token) (text : List ℕ) where
 pub spans-read : {text : List ℕ} {s : Sheet} → HasForm text s → length text ≤ 65535 → EachReads (namesOf (s .streams)) text (spansIn text) (nodeExpressions (s .constraints))
 spans-read {text} {s} h l =
     subst (λ ss. EachReads (namesOf (s .streams)) text ss (nodeExpressions (s .constraints))) (sym (spans-short text l))
-    (lines-found (namesOf (s .streams)) text (h .constraints) (suc (length text)) (lineStart 3 text) (start-within 3 text) (omega arith) (start-tokens 3 text))
+    (lines-found (namesOf (s .streams)) text (h .constraints) (suc (length text)) (lineOffset 3 text) (start-within 3 text) (omega arith) (start-tokens 3 text))

@@ -1,7 +1,7 @@
 -- The first token from a place on is the one of scan's relation, which has one answer. By induction over the bytes from the place on.
 use Prim.Native.Nat.{ℕ, suc, _+_, _-_, _≤_, _<_}
 use mathlib.Core.Path.{_≡_, refl, sym, ap, ap₂, subst, _∙_}
-use mathlib.Core.Bool.{Bool, true, false, _||_, true≢false}
+use mathlib.Core.Bool.{Bool, true, false, true≢false}
 use mathlib.Core.List.{List, [], _∷_, _++_, append-assoc, cons≢nil, head-eq-of-cons-eq}
 use native.Mathlib.Omega.{arith}
 use native.Mathlib.Decide.{decLe}
@@ -9,6 +9,7 @@ use native.Mathlib.Numerals.{add-one}
 use lib.Dec.{T}
 use lib.ListN.{length, take, drop, getD, length-drop}
 use lib.Seq.{drop-drop, drop-cons}
+use Rattle.basics.proofs.Tests.{or-left, or-right}
 use Rattle.text.specs.Bytes.{Token, ByteClass, isBracket, isInside, startsInside, extendFirst, addToTokens, tokens}
 use Rattle.text.proofs.Bytes.{HasClass, aBracket, anInside, aBetween, classOf-has, BeginsWithRun, begins, tokens-begin, tokens-append, tokens-bracket}
 use Rattle.scan.specs.declared.Span.{Span}
@@ -38,17 +39,9 @@ record First (text : List ℕ) (at : ℕ) (run : Bool) (r : Span) : Type 0 where
 
 bracket-visible : (b : ℕ) → T (isBracket b) → T (isVisible b)
 bracket-visible b t = or-left (isBracket b) (isInside b) t
-  where
-    or-left : (m n : Bool) → T m → T (m || n)
-    or-left true n t = tt
-    or-left false n t = absurd t
 
 inside-visible : (b : ℕ) → T (isInside b) → T (isVisible b)
 inside-visible b t = or-right (isBracket b) (isInside b) t
-  where
-    or-right : (m n : Bool) → T n → T (m || n)
-    or-right true n t = tt
-    or-right false n t = t
 
 some-token : {ts : List Token} → BeginsWithRun ts → ts ≡ [] → ⊥
 some-token (begins t) e = cons≢nil e

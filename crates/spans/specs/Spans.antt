@@ -8,6 +8,7 @@ use mathlib.Core.List.{List, [], _∷_, _++_}
 use mathlib.Core.Option.{Option, some, none}
 use lib.Dec.{eqb, ltb}
 use lib.ListN.{length}
+use Rattle.sheet.specs.Form.{layoutIn}
 use Rattle.text.specs.Bytes.{Token, bytesOf}
 use Rattle.text.specs.Token.{sameBytes}
 use Rattle.sheet.specs.Vocabulary.{Infix, operatorOf, Prefix, prefixOf}
@@ -40,51 +41,51 @@ module _ (text : List ℕ) where
       spanned (c .spans ++ (a .spans ++ b .spans)) (b .next)
 
   -- The expression that begins with the token t, an `if`.
-  abbrev pub conditionalBy : (ℕ → Spanned) → Span → Spanned
-  conditionalBy p t = let b = branchesBy p (t .end) in closed (b .spans) (t .start) (b .next)
+  abbrev pub conditionalSpan : (ℕ → Spanned) → Span → Spanned
+  conditionalSpan p t = let b = branchesBy p (t .end) in closed (b .spans) (t .start) (b .next)
 
   -- "a part, or two parts with an operator between them", where the first part begins at the place s and the token after it is `sign`.
-  abbrev pub operationFrom : (ℕ → Spanned) → ℕ → Spanned → Span → Option Infix → Spanned
-  operationFrom p s a sign none = a
-  operationFrom p s a sign (some o) = let b = p (sign .end) in closed (a .spans ++ b .spans) s (b .next)
+  abbrev pub operationSpan : (ℕ → Spanned) → ℕ → Spanned → Span → Option Infix → Spanned
+  operationSpan p s a sign none = a
+  operationSpan p s a sign (some o) = let b = p (sign .end) in closed (a .spans ++ b .spans) s (b .next)
 
-  unfoldable pub afterPart : (ℕ → Spanned) → ℕ → Spanned → Spanned
-  afterPart p s a = let sign = tokenFrom text (a .next) in operationFrom p s a sign (operatorOf (tokenIn sign))
+  unfoldable pub spanAfterPart : (ℕ → Spanned) → ℕ → Spanned → Spanned
+  spanAfterPart p s a = let sign = tokenFrom text (a .next) in operationSpan p s a sign (operatorOf (tokenIn sign))
 
   -- The expression from a place on.
-  unfoldable pub expressionBy : (ℕ → Spanned) → ℕ → Spanned
-  expressionBy p at =
+  unfoldable pub expressionSpan : (ℕ → Spanned) → ℕ → Spanned
+  expressionSpan p at =
       let t = tokenFrom text at in
-      cond (sameBytes (bytesOf "if") (tokenIn t)) (conditionalBy p t) (afterPart p (t .start) (p at))
+      cond (sameBytes (bytesOf "if") (tokenIn t)) (conditionalSpan p t) (spanAfterPart p (t .start) (p at))
 
   -- The part whose first token is t: "`first`, `next` or `not` before a part", "an expression in brackets", or an integer or a name.
   abbrev pub partBy : (ℕ → Spanned) → Span → Option Prefix → Bool → Spanned
   partBy p t (some f) opening = let a = p (t .end) in closed (a .spans) (t .start) (a .next)
-  partBy p t none true = let a = expressionBy p (t .end) in spanned (a .spans) (tokenFrom text (a .next) .end)
+  partBy p t none true = let a = expressionSpan p (t .end) in spanned (a .spans) (tokenFrom text (a .next) .end)
   partBy p t none false = closed [] (t .start) (t .end)
 
-  unfoldable pub partFrom : (ℕ → Spanned) → Span → Spanned
-  partFrom p t = cond (eqb (t .start) (t .end)) (spanned [] (t .end)) (partBy p t (prefixOf (tokenIn t)) (sameBytes (bytesOf "(") (tokenIn t)))
+  unfoldable pub partSpanFrom : (ℕ → Spanned) → Span → Spanned
+  partSpanFrom p t = cond (eqb (t .start) (t .end)) (spanned [] (t .end)) (partBy p t (prefixOf (tokenIn t)) (sameBytes (bytesOf "(") (tokenIn t)))
 
   -- The part from a place on, where no part is deeper than a bound.
-  unfoldable pub partTo : ℕ → ℕ → Spanned
-  partTo zero at = spanned [] at
-  partTo (suc n) at = partFrom (partTo n) (tokenFrom text at)
+  unfoldable pub partSpanTo : ℕ → ℕ → Spanned
+  partSpanTo zero at = spanned [] at
+  partSpanTo (suc n) at = partSpanFrom (partSpanTo n) (tokenFrom text at)
 
   -- No part is deeper than the text is long.
   abbrev pub expressionFrom : ℕ → Spanned
-  expressionFrom at = expressionBy (partTo (suc (length text))) at
+  expressionFrom at = expressionSpan (partSpanTo (suc (length text))) at
 
   -- "two expressions with one of `< <= == >= > != -> until` between them"
-  abbrev pub constraintFrom : ℕ → Spanned
-  constraintFrom at =
+  abbrev pub constraintSpan : ℕ → Spanned
+  constraintSpan at =
       let a = expressionFrom at in
       let b = expressionFrom (tokenFrom text (a .next) .end) in
       spanned (a .spans ++ b .spans) (b .next)
 
   abbrev pub constraintsFrom : (ℕ → List Span) → ℕ → Bool → List Span
   constraintsFrom later at true = []
-  constraintsFrom later at false = let c = constraintFrom at in c .spans ++ later (c .next)
+  constraintsFrom later at false = let c = constraintSpan at in c .spans ++ later (c .next)
 
   -- The constraints from a place on, where there are no more than a bound.
   unfoldable pub constraintsTo : ℕ → ℕ → List Span
@@ -92,12 +93,12 @@ module _ (text : List ℕ) where
   constraintsTo (suc n) at = let t = tokenFrom text at in constraintsFrom (constraintsTo n) at (eqb (t .start) (t .end))
 
 -- How many bytes the first k lines have, with the bytes 10 that end them.
-unfoldable pub lineStart : ℕ → List ℕ → ℕ
-lineStart zero l = 0
-lineStart (suc k) [] = 0
-lineStart (suc k) (b ∷ bs) = suc (cond (eqb b 10) (lineStart k bs) (lineStart (suc k) bs))
+unfoldable pub lineOffset : ℕ → List ℕ → ℕ
+lineOffset zero l = 0
+lineOffset (suc k) [] = 0
+lineOffset (suc k) (b ∷ bs) = suc (cond (eqb b 10) (lineOffset k bs) (lineOffset (suc k) bs))
 
 -- The spans of all expressions of the constraint lines, which stand behind three header lines. The places of a longer text than 65,535 bytes, which is
 -- no sheet, are not told.
 unfoldable pub spansIn : List ℕ → List Span
-spansIn text = cond (ltb 65535 (length text)) [] (constraintsTo text (suc (length text)) (lineStart 3 text))
+spansIn text = cond (ltb 65535 (length text)) [] (constraintsTo text (suc (length text)) (lineOffset (layoutIn text .constraintsFrom) text))

@@ -11,9 +11,9 @@ use Rattle.spans.specs.Token.{tokenFrom}
 use Rattle.spans.specs.Spans.{Spanned, spanned, spansIn}
 use Rattle.spans.specs.declared.Reached.{Reached}
 
-abbrev pub placesOf : List Span → List ℕ
-placesOf [] = []
-placesOf (s ∷ ss) = s .start ∷ s .end ∷ placesOf ss
+abbrev pub spanPlaces : List Span → List ℕ
+spanPlaces [] = []
+spanPlaces (s ∷ ss) = s .start ∷ s .end ∷ spanPlaces ss
 
 -- The most spans that a table holds, as many as a sheet has nodes ("1,024 tokens may stand in the constraint lines").
 abbrev pub spanBound : ℕ
@@ -21,7 +21,7 @@ spanBound = 1024
 
 -- The span with the number n stands in the table from 2 * n on.
 abbrev pub putSpans : List ℕ → ℕ → List Span → List ℕ
-putSpans table n ss = sets table (n * 2) (placesOf ss)
+putSpans table n ss = sets table (n * 2) (spanPlaces ss)
 
 abbrev pub noSpans : List ℕ
 noSpans = replicate 2048 0

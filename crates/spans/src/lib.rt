@@ -4,8 +4,9 @@ ghost use mathlib.Core.Path.{_≡_};
 ghost use mathlib.Core.List.{[], _∷_};
 ghost use Prim.Native.Nat.{suc, _+_, _≤_, _<_};
 ghost use lib.ListN.{length};
+ghost use Rattle.sheet.specs.Form.{layoutIn};
 ghost use Rattle.spans.specs.Token.{span};
-ghost use Rattle.spans.specs.Spans.{partTo, branchesBy, expressionBy, constraintFrom, constraintsTo, lineStart};
+ghost use Rattle.spans.specs.Spans.{partSpanTo, branchesBy, expressionSpan, constraintSpan, constraintsTo, lineOffset};
 ghost use Rattle.spans.specs.Stored.{spanBound, putSpans, spanTable, PlaceIn, StoresSpans};
 
 // The place behind a phrase, and how many spans are stored so far.
@@ -34,7 +35,7 @@ fn put(spans: &mut [u16; 2048], count: usize, start: usize, end: usize) -> Reach
 // the same place where an expression begins with a part.
 fn part(text: &[u8], at: usize, spans: &mut [u16; 2048], count: usize) -> Reached
     requires { ⌜ PlaceIn (now text) at count ⌝ }
-    ensures { λ r. ⌜ StoresSpans (λ d. partTo (now (text .entry)) d at) (now (text .entry)) at count (now (spans .entry)) (now (spans .exit)) r ⌝ }
+    ensures { λ r. ⌜ StoresSpans (λ d. partSpanTo (now (text .entry)) d at) (now (text .entry)) at count (now (spans .entry)) (now (spans .exit)) r ⌝ }
 {
     let token = scan::next_token(text, at);
     let start = token.start;
@@ -65,7 +66,7 @@ fn part(text: &[u8], at: usize, spans: &mut [u16; 2048], count: usize) -> Reache
 // What stands after an `if`.
 fn branches(text: &[u8], at: usize, spans: &mut [u16; 2048], count: usize) -> Reached
     requires { ⌜ PlaceIn (now text) at count ⌝ }
-    ensures { λ r. ⌜ StoresSpans (λ d. branchesBy (now (text .entry)) (partTo (now (text .entry)) d) at) (now (text .entry)) at count (now (spans .entry)) (now (spans .exit)) r ⌝ }
+    ensures { λ r. ⌜ StoresSpans (λ d. branchesBy (now (text .entry)) (partSpanTo (now (text .entry)) d) at) (now (text .entry)) at count (now (spans .entry)) (now (spans .exit)) r ⌝ }
 {
     let condition = part(text, at, spans, count);
     let then = scan::next_token(text, condition.next);
@@ -77,7 +78,7 @@ fn branches(text: &[u8], at: usize, spans: &mut [u16; 2048], count: usize) -> Re
 // The expression from the place `at` on.
 fn expression(text: &[u8], at: usize, spans: &mut [u16; 2048], count: usize) -> Reached
     requires { ⌜ PlaceIn (now text) at count ⌝ }
-    ensures { λ r. ⌜ StoresSpans (λ d. expressionBy (now (text .entry)) (partTo (now (text .entry)) d) at) (now (text .entry)) at count (now (spans .entry)) (now (spans .exit)) r ⌝ }
+    ensures { λ r. ⌜ StoresSpans (λ d. expressionSpan (now (text .entry)) (partSpanTo (now (text .entry)) d) at) (now (text .entry)) at count (now (spans .entry)) (now (spans .exit)) r ⌝ }
 {
     let token = scan::next_token(text, at);
     let start = token.start;
@@ -90,7 +91,7 @@ fn expression(text: &[u8], at: usize, spans: &mut [u16; 2048], count: usize) -> 
     let sign = scan::next_token(text, left.next);
     let sign_start = sign.start;
     let sign_end = sign.end;
-    if scan::operator_code(&text[sign_start..sign_end]) == 255 {
+    if scan::operator_code(&text[sign_start..sign_end]) == nodes::NO_CODE {
         return left;
     }
     let right = part(text, sign_end, spans, left.count);
@@ -100,7 +101,7 @@ fn expression(text: &[u8], at: usize, spans: &mut [u16; 2048], count: usize) -> 
 // One constraint line, from its first token on.
 fn constraint(text: &[u8], at: usize, spans: &mut [u16; 2048], count: usize) -> Reached
     requires { ⌜ PlaceIn (now text) at count ⌝ }
-    ensures { λ r. ⌜ StoresSpans (λ d. constraintFrom (now (text .entry)) at) (now (text .entry)) at count (now (spans .entry)) (now (spans .exit)) r ⌝ }
+    ensures { λ r. ⌜ StoresSpans (λ d. constraintSpan (now (text .entry)) at) (now (text .entry)) at count (now (spans .entry)) (now (spans .exit)) r ⌝ }
 {
     let left = expression(text, at, spans, count);
     let sign = scan::next_token(text, left.next);
@@ -129,7 +130,7 @@ fn constraints(text: &[u8], from: usize, spans: &mut [u16; 2048]) -> usize
 
 // The place behind the first three lines.
 fn behind_header(text: &[u8]) -> usize
-    ensures { λ r. ⌜ r ≡ lineStart 3 (now (text .entry)) ⌝ }
+    ensures { λ r. ⌜ r ≡ lineOffset (layoutIn (now (text .entry)) .constraintsFrom) (now (text .entry)) ⌝ }
 {
     let mut left: usize = 3;
     let mut i = 0;

@@ -15,7 +15,7 @@ use Rattle.step.specs.Step.{rowBytes, rowCount, mostRows, entryFollowed,
 use Rattle.step.specs.Step.Refusal11.{noLetters, notWholeRows, tooManyRows, stateOutside, letterOutside, noRow}
 use Rattle.step.specs.Step.Refusal12.{missing}
 use Rattle.step.specs.Step.StepAnswer.{refused11, refused12, moves}
-use Rattle.step.specs.RunningPlace.{Refused, stepsAfter, PlaceAfter, PlaceStep}
+use Rattle.step.specs.RunningPlace.{StepRefused, stepsAfter, PlaceAfter, PlaceStep}
 use Rattle.step.specs.RunningPlace.PlaceAfter.{unchanged, changed}
 use Rattle.step.specs.Executable.{isRefusal11, isRefusal12, stepOf, placeNext}
 use Rattle.step.specs.declared.Place.{Place}
@@ -124,13 +124,13 @@ moves-row table letters state letter no-eleven no-twelve = (below, few)
     few = elim (decLt mostRows (rowCount table letters)) [ yes many ↦ absurd (no-eleven (tooManyRows many)) | no h ↦ omega arith ]
 
 -- an answer below 65,536 is no refusal
-pub answer-moves : {table : List ℕ} {letters state letter r : ℕ} → StepAnswer table letters state letter r → r < 65536 → ¬ Refused table letters state letter
+pub answer-moves : {table : List ℕ} {letters state letter r : ℕ} → StepAnswer table letters state letter r → r < 65536 → ¬ StepRefused table letters state letter
 answer-moves (refused11 x) below = absurd (omega (arith, below))
 answer-moves (refused12 no-eleven x) below = absurd (omega (arith, below))
 answer-moves (moves no-eleven no-twelve) below = elim [ inl x ↦ no-eleven x | inr x ↦ no-twelve x ]
 
 -- and one of 65,536 or above is
-pub answer-refused : {table : List ℕ} {letters state letter r : ℕ} → StepAnswer table letters state letter r → 65536 ≤ r → Refused table letters state letter
+pub answer-refused : {table : List ℕ} {letters state letter r : ℕ} → StepAnswer table letters state letter r → 65536 ≤ r → StepRefused table letters state letter
 answer-refused (refused11 x) above = inl x
 answer-refused (refused12 no-eleven x) above = inr x
 answer-refused {table} {letters} {state} {letter} (moves no-eleven no-twelve) above =
@@ -139,16 +139,16 @@ answer-refused {table} {letters} {state} {letter} (moves no-eleven no-twelve) ab
 -- the running place
 
 refused-reflected : (table : List ℕ) (letters state letter : ℕ)
-    → Reflects (Refused table letters state letter) (isRefusal11 table letters state letter || isRefusal12 table letters state letter)
+    → Reflects (StepRefused table letters state letter) (isRefusal11 table letters state letter || isRefusal12 table letters state letter)
 refused-reflected table letters state letter = or-reflects (refusal11-reflected table letters state letter) (refusal12-reflected table letters state letter)
 
-place-picked : {table : List ℕ} {letters letter : ℕ} {before : Place} {answer : ℕ} {b : Bool} → Reflects (Refused table letters (before .state) letter) b
+place-picked : {table : List ℕ} {letters letter : ℕ} {before : Place} {answer : ℕ} {b : Bool} → Reflects (StepRefused table letters (before .state) letter) b
     → PlaceAfter table letters letter before answer (cond b before (record { state = answer; steps = stepsAfter (before .steps) }))
 place-picked (holds refused) = unchanged refused
 place-picked (fails no-refusal) = changed no-refusal
 
 -- a place with the state that a step gave and one more step counted is the place after it
-pub place-changed : {table : List ℕ} {letters letter : ℕ} {before : Place} {answer : ℕ} {after : Place} → ¬ Refused table letters (before .state) letter
+pub place-changed : {table : List ℕ} {letters letter : ℕ} {before : Place} {answer : ℕ} {after : Place} → ¬ StepRefused table letters (before .state) letter
     → after .state ≡ answer → after .steps ≡ stepsAfter (before .steps) → PlaceAfter table letters letter before answer after
 place-changed {table} {letters} {letter} {before} {answer} no-refusal state steps =
     subst (PlaceAfter table letters letter before answer) (λ i. record { state = sym state i; steps = sym steps i }) (changed no-refusal)

@@ -1,9 +1,10 @@
 -- Steps along worked tables of document 01 (P4 and P6), and along damaged ones: each case's answer is the answer of its step.
 -- One test is computed over all cases, and one law makes the statement of each case of it.
 use Prim.Native.Nat.{ℕ}
-use mathlib.Core.Bool.{Bool, true, false, _&&_}
+use mathlib.Core.Bool.{Bool, true, _&&_}
 use mathlib.Core.List.{List, [], _∷_}
 use lib.Dec.{T, eqb, eqb→eq}
+use Rattle.basics.proofs.Tests.{T-and}
 use Rattle.stored.specs.Number.{numberAt}
 use Rattle.step.specs.Step.{StepAnswer}
 use Rattle.step.specs.Executable.{isRefusal11, isRefusal12, stepOf}
@@ -28,16 +29,10 @@ abbrev pub Answered : List Case → Type 0
 Answered [] = Unit {0}
 Answered (c ∷ cases) = StepAnswer (c .table) (c .letters) (c .state) (c .letter) (c .answer) × Answered cases
 
-both-true : (a b : Bool) → T (a && b) → T a × T b
-both-true true true ok = (tt, tt)
-both-true true false ok = absurd ok
-both-true false true ok = absurd ok
-both-true false false ok = absurd ok
-
 answered : (cases : List Case) → T (allRight cases) → Answered cases
 answered [] ok = tt
 answered (c ∷ cases) ok =
-    let parts = both-true (right c) (allRight cases) ok in (
+    let parts = T-and (right c) (allRight cases) .0 ok in (
       answer↔stepOf (c .table) (c .letters) (c .state) (c .letter) (c .answer) .0 (eqb→eq (c .answer) (stepOf (c .table) (c .letters) (c .state) (c .letter)) (parts .0)),
       answered cases (parts .1),
     )

@@ -14,7 +14,7 @@ use Rattle.automaton.specs.Table.{noState, walk, PathFrom, IsPath}
 use Rattle.automaton.specs.Stored.{entryAt}
 use Rattle.step.specs.Step.{entryWidth, rowBytes, rowCount, entryFollowed, mostRows, StepAnswer}
 use Rattle.step.specs.Step.Refusal12.{missing}
-use Rattle.step.specs.RunningPlace.{Refused}
+use Rattle.step.specs.RunningPlace.{StepRefused}
 use Rattle.step.specs.Followed.{Followed, WholeTable}
 use Rattle.step.specs.Followed.Followed.{stays, steps}
 use Rattle.step.proofs.Refusals.{Sound, not-refusal11, answers-state}
@@ -74,7 +74,7 @@ module _ {k n : ℕ} {entries : List ℕ} (whole : WholeTable k n entries) where
       let below : entryAt k entries i a < n = entry-below i a inside is-letter some in
       answers-state (sound i a inside is-letter) (entryAt k entries i a) (sym (entry-read i a inside is-letter)) some (omega arith)
 
-  step-unrefused : (i a : ℕ) → i < n → a < k → entryAt k entries i a ≢ noState → ¬ Refused (entryBytes entries) k i a
+  step-unrefused : (i a : ℕ) → i < n → a < k → entryAt k entries i a ≢ noState → ¬ StepRefused (entryBytes entries) k i a
   step-unrefused i a inside is-letter some =
       let all : rowCount (entryBytes entries) k ≡ n = rows in
       let below : entryAt k entries i a < n = entry-below i a inside is-letter some in
@@ -84,7 +84,7 @@ module _ {k n : ℕ} {entries : List ℕ} (whole : WholeTable k n entries) where
         | inr twelve ↦ some (sym read ∙ (elim twelve [ missing none ↦ none ]))
       ]
 
-  step-refused : (i a : ℕ) → i < n → a < k → entryAt k entries i a ≡ noState → Refused (entryBytes entries) k i a
+  step-refused : (i a : ℕ) → i < n → a < k → entryAt k entries i a ≡ noState → StepRefused (entryBytes entries) k i a
   step-refused i a inside is-letter none = inr (missing (entry-read i a inside is-letter ∙ none))
 
   -- from any state, and then from the start

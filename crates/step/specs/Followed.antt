@@ -7,7 +7,7 @@ use mathlib.Core.List.{List, [], _∷_}
 use lib.ListN.{length, getD}
 use Rattle.automaton.specs.Table.{noState}
 use Rattle.step.specs.Step.{StepAnswer, mostRows}
-use Rattle.step.specs.RunningPlace.{Refused}
+use Rattle.step.specs.RunningPlace.{StepRefused}
 use Rattle.step.specs.Executable.{placeNext}
 use Rattle.step.specs.declared.Place.{Place}
 
@@ -15,13 +15,13 @@ use Rattle.step.specs.declared.Place.{Place}
 -- step before it gave.
 pub data Followed (table : List ℕ) (letters : ℕ) : ℕ → List ℕ → ℕ → Type 0 where
   stays : {state : ℕ} → Followed table letters state [] state
-  steps : {state letter next last : ℕ} {rest : List ℕ} → StepAnswer table letters state letter next → ¬ Refused table letters state letter
+  steps : {state letter next last : ℕ} {rest : List ℕ} → StepAnswer table letters state letter next → ¬ StepRefused table letters state letter
       → Followed table letters next rest last → Followed table letters state (letter ∷ rest) last
 
 -- The running place after a step for each letter of the record, in turn.
-abbrev pub placesOf : List ℕ → ℕ → Place → List ℕ → Place
-placesOf table letters place [] = place
-placesOf table letters place (letter ∷ rest) = placesOf table letters (placeNext table letters letter place) rest
+abbrev pub placeAfter : List ℕ → ℕ → Place → List ℕ → Place
+placeAfter table letters place [] = place
+placeAfter table letters place (letter ∷ rest) = placeAfter table letters (placeNext table letters letter place) rest
 
 -- The entries of a table with n rows for k letters: "An entry is the next state, or 65,535 for none."
 pub record WholeTable (k n : ℕ) (entries : List ℕ) : Type 0 where

@@ -15,15 +15,15 @@ abbrev pub stepsAfter : ℕ → ℕ
 stepsAfter steps = min (steps + 1) mostSteps
 
 -- the step is refused, by the host's fault or by the river
-abbrev pub Refused : List ℕ → ℕ → ℕ → ℕ → Type 0
-Refused table letters state letter = Refusal11 table letters state letter ⊎ Refusal12 table letters state letter
+abbrev pub StepRefused : List ℕ → ℕ → ℕ → ℕ → Type 0
+StepRefused table letters state letter = Refusal11 table letters state letter ⊎ Refusal12 table letters state letter
 
 -- The running place after a step from the place `before` with that answer.
 pub data PlaceAfter (table : List ℕ) (letters letter : ℕ) (before : Place) (answer : ℕ) : Place → Type 0 where
   -- after a refusal it is unchanged
-  unchanged : Refused table letters (before .state) letter → PlaceAfter table letters letter before answer before
+  unchanged : StepRefused table letters (before .state) letter → PlaceAfter table letters letter before answer before
   -- a step that moves stores the next state and is counted
-  changed : ¬ Refused table letters (before .state) letter
+  changed : ¬ StepRefused table letters (before .state) letter
       → PlaceAfter table letters letter before answer (record { state = answer; steps = stepsAfter (before .steps) })
 
 -- What a step from the running place gives: the answer of a step from its state, and the place after it.

@@ -2,7 +2,7 @@
 // and the rows stand in the order in which they are first met.
 ghost use Prim.Native.Nat.{suc, _<_, _≤_};
 ghost use lib.ListN.{length};
-ghost use Rattle.marks.specs.Answers.{Says};
+ghost use Rattle.basics.specs.Answers.{Says};
 ghost use Rattle.stored_graph.specs.StoredGraph.{IsStoredGraph};
 ghost use Rattle.stored_graph.specs.Checking.{HasSizes, AreBits, Checked, CheckedTo};
 
@@ -22,7 +22,7 @@ fn has_sizes(entries: &[u16], flags: &[u8], letters: usize, rows: usize) -> bool
     if rows > flags.len() {
         return false;
     }
-    marks::rows_fit(rows, letters, entries.len())
+    basics::rows_fit(rows, letters, entries.len())
 }
 
 // Whether each flag of the rows is 1 or 0.

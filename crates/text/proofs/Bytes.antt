@@ -1,5 +1,5 @@
 -- Laws of lines and tokens: what the tokens of a text are, and how lines and tokens are found from the front. All from the definitions.
-use Prim.Native.Nat.{ℕ, _<_}
+use Prim.Native.Nat.{ℕ, suc, _≤_, _<_}
 use mathlib.Core.Path.{_≡_, refl, sym, ap, ap₂, _∙_}
 use mathlib.Core.Bool.{Bool, true, false, not, true≢false}
 use mathlib.Core.List.{List, [], _∷_, _++_, List·Memᴰ, List·Memᴰ·head, List·Memᴰ·tail, List·Memᴰ·not-nil}
@@ -163,3 +163,16 @@ pub lines-member : (text : List ℕ) (l : List ℕ) → List·Memᴰ l (lines te
 unfolding lines
 lines-member [] l m = absurd (List·Memᴰ·not-nil m)
 lines-member (b ∷ bs) l m = addToLines-are (eqb b 10) b (lines bs) (λ e. rw e tt) (lines-member bs) l m
+
+-- A text has at most as many tokens as bytes.
+tokens-add : (c : ByteClass) (g : Bool) (b : ℕ) (ts : List Token) → length (addToTokens c g b ts) ≤ suc (length ts)
+tokens-add bracket g b ts = omega arith
+tokens-add inside true b [] = omega arith
+tokens-add inside true b (t ∷ ts) = omega arith
+tokens-add inside false b ts = omega arith
+tokens-add between g b ts = omega arith
+
+pub tokens-length : (l : List ℕ) → length (tokens l) ≤ length l
+unfolding tokens
+tokens-length [] = omega arith
+tokens-length (b ∷ l) = let z = tokens-length l in let w = tokens-add (classOf b) (startsInside l) b (tokens l) in omega arith

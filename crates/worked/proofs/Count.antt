@@ -8,6 +8,8 @@ use lib.Dec.{T, ltb, ltb→lt}
 use lib.ListN.{length}
 use native.Mathlib.Omega.{arith}
 use native.Mathlib.Nat.{not-suc-le-zero}
+use Rattle.meaning.proofs.Facts.{all-at}
+use Rattle.basics.proofs.Tests.{T-and}
 use Rattle.meaning.specs.Expression.{Sheet}
 use Rattle.meaning.specs.Letter.{letterCount, letterOf, recordOf}
 use Rattle.meaning.specs.Situation.{Situation, all, lawful, situation, IsSituation, SituationCount}
@@ -16,11 +18,7 @@ use Rattle.meaning.proofs.Continuation.{recordOf-letters}
 use Rattle.meaning.proofs.Congruence.{successor-situation}
 use Rattle.meaning.proofs.Exploration.{Closed, closed-every}
 use Rattle.outcome.proofs.SheetWords.{recordOf-extend}
-use Rattle.worked.proofs.Equality.{both, isMember, isMember-sound, hasNoRepeats, hasNoRepeats-sound}
-
-all-member : {X : Type 0} (p : X → Bool) (l : List X) → T (all p l) → (x : X) → List·Memᴰ x l → T (p x)
-all-member p (y ∷ l) t x (List·Memᴰ·head e) = subst (λ z. T (p z)) (sym e) (both (p y) (all p l) t .0)
-all-member p (y ∷ l) t x (List·Memᴰ·tail m) = all-member p l (both (p y) (all p l) t .1) x m
+use Rattle.worked.proofs.Equality.{isMember, isMember-sound, hasNoRepeats, hasNoRepeats-sound}
 
 map-member : {X Y : Type 0} (f : X → Y) (l : List X) (y : Y) → List·Memᴰ y (map f l) → (x : X) × List·Memᴰ x l × (y ≡ f x)
 map-member f (z ∷ l) y (List·Memᴰ·head e) = (z, List·Memᴰ·head refl, e)
@@ -33,11 +31,11 @@ everyBelow (suc k) p = p k && everyBelow k p
 
 everyBelow-sound : (k : ℕ) (p : ℕ → Bool) → T (everyBelow k p) → (a : ℕ) → a < k → T (p a)
 everyBelow-sound zero p t a h = absurd (not-suc-le-zero h)
-everyBelow-sound (suc k) p t a h = go (ltb a k) refl (everyBelow-sound k p (both (p k) (everyBelow k p) t .1) a)
+everyBelow-sound (suc k) p t a h = go (ltb a k) refl (everyBelow-sound k p (T-and (p k) (everyBelow k p) .0 t .1) a)
   where
     go : (b : Bool) → ltb a k ≡ b → (a < k → T (p a)) → T (p a)
     go true e rest = rest (ltb→lt a k (subst T (sym e) tt))
-    go false e rest = let q : a ≡ k = omega (arith, lib.Dec.nltb→le a k (subst (λ b. T (not b)) (sym e) tt)) in subst (λ z. T (p z)) (sym q) (both (p k) (everyBelow k p) t .0)
+    go false e rest = let q : a ≡ k = omega (arith, lib.Dec.nltb→le a k (subst (λ b. T (not b)) (sym e) tt)) in subst (λ z. T (p z)) (sym q) (T-and (p k) (everyBelow k p) .0 t .0)
 
 module _ (s : Sheet) where
   abbrev pub situationOf : List ℕ → Situation
@@ -85,10 +83,10 @@ module _ (s : Sheet) where
 
     pub parts : T inRange × T (all isLawful rs) × T (hasNoRepeats l) × T (isMember (situationOf []) l) × T covered
     parts =
-        let p = both inRange (all isLawful rs && (hasNoRepeats l && (isMember (situationOf []) l && covered))) t in
-        let q = both (all isLawful rs) (hasNoRepeats l && (isMember (situationOf []) l && covered)) (p .1) in
-        let r = both (hasNoRepeats l) (isMember (situationOf []) l && covered) (q .1) in
-        let u = both (isMember (situationOf []) l) covered (r .1) in
+        let p = T-and inRange (all isLawful rs && (hasNoRepeats l && (isMember (situationOf []) l && covered))) .0 t in
+        let q = T-and (all isLawful rs) (hasNoRepeats l && (isMember (situationOf []) l && covered)) .0 (p .1) in
+        let r = T-and (hasNoRepeats l) (isMember (situationOf []) l && covered) .0 (q .1) in
+        let u = T-and (isMember (situationOf []) l) covered .0 (r .1) in
         (p .0, q .0, r .0, u .0, u .1)
 
     pub found : (x : Situation) → List·Memᴰ x l → IsSituation s x
@@ -96,8 +94,8 @@ module _ (s : Sheet) where
         let r = map-member situationOf rs x m in
         record {
           lawfulRecord = recordOf (s .streams) (r .0);
-          letters = recordOf-letters (s .streams) (r .0) (λ n k. ltb→lt n (letterCount (s .streams)) (all-member (λ a. ltb a (letterCount (s .streams))) (r .0) (all-member (λ r. all (λ a. ltb a (letterCount (s .streams))) r) rs (parts .0) (r .0) (r .1)) n k));
-          isLawful = all-member isLawful rs (parts .1) (r .0) (r .1);
+          letters = recordOf-letters (s .streams) (r .0) (λ n k. ltb→lt n (letterCount (s .streams)) (all-at (λ a. ltb a (letterCount (s .streams))) (r .0) (all-at (λ r. all (λ a. ltb a (letterCount (s .streams))) r) rs (parts .0) (r .0) (r .1)) n k));
+          isLawful = all-at isLawful rs (parts .1) (r .0) (r .1);
           same = sym (r .2);
         }
 
@@ -114,12 +112,12 @@ module _ (s : Sheet) where
             is : successor (s .constraints) x (letterOf (s .streams) a) ≡ cond (isLawful longer) (some (situationOf longer)) none
             is =
                 rw (recordOf-extend s (r .0) a, r .2)
-                (successor-situation (s .constraints) (recordOf (s .streams) (r .0)) (letterOf (s .streams) a) (all-member isLawful rs (parts .1) (r .0) (r .1)))
+                (successor-situation (s .constraints) (recordOf (s .streams) (r .0)) (letterOf (s .streams) a) (all-at isLawful rs (parts .1) (r .0) (r .1)))
 
             go : (b : Bool) → isLawful longer ≡ b → List·Memᴰ u l
             go true q =
                 let v : situationOf longer ≡ u = injective (sym (is ∙ ap (λ b. cond b (some (situationOf longer)) none) q) ∙ e) in
-                let c = everyBelow-sound (letterCount (s .streams)) (isCovered l (r .0)) (all-member (λ r. everyBelow (letterCount (s .streams)) (isCovered l r)) rs (parts .4) (r .0) (r .1)) a ha in
+                let c = everyBelow-sound (letterCount (s .streams)) (isCovered l (r .0)) (all-at (λ r. everyBelow (letterCount (s .streams)) (isCovered l r)) rs (parts .4) (r .0) (r .1)) a ha in
                 Memᴰ·cast (sym v) (isMember-sound (situationOf longer) l (subst (λ b. T (not b || isMember (situationOf longer) l)) q c))
               where
                 injective : some (situationOf longer) ≡ some u → situationOf longer ≡ u

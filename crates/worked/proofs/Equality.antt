@@ -5,6 +5,7 @@ use mathlib.Core.HLevel.{Discrete}
 use mathlib.Core.List.{List, [], _∷_, List·Memᴰ, List·Memᴰ·head, List·Memᴰ·tail}
 use lib.Dec.{T, eqb, eqb→eq, eqb-refl, T-not}
 use lib.IntN.{ℤ, pos, negsuc}
+use Rattle.basics.proofs.Tests.{T-and, and-both, or-left, or-right}
 use Rattle.basics.specs.Count.{NoRepeats}
 use Rattle.meaning.specs.Situation.{Situation, whole, cut}
 
@@ -29,14 +30,6 @@ sameSituation (whole r) (whole t) = sameList (sameList sameInteger) r t
 sameSituation (whole r) (cut t y n) = false
 sameSituation (cut r x m) (whole t) = false
 sameSituation (cut r x m) (cut t y n) = sameList (sameList sameInteger) r t && (sameList sameInteger x y && sameList sameMark m n)
-
-pub both : (a b : Bool) → T (a && b) → T a × T b
-both true b t = (tt, t)
-both false b t = absurd t
-
-joins : (a b : Bool) → T a → T b → T (a && b)
-joins true b s t = t
-joins false b s t = absurd s
 
 -- A test that decides equality.
 pub record Decides {X : Type 0} (f : X → X → Bool) : Type 0 where
@@ -76,11 +69,11 @@ lists {X} {f} d = record { sound = sound; reflexive = reflexive }
     sound [] [] t = refl
     sound [] (y ∷ ys) t = absurd t
     sound (x ∷ xs) [] t = absurd t
-    sound (x ∷ xs) (y ∷ ys) t = let p = both (f x y) (sameList f xs ys) t in ap₂ _∷_ (d .sound x y (p .0)) (sound xs ys (p .1))
+    sound (x ∷ xs) (y ∷ ys) t = let p = T-and (f x y) (sameList f xs ys) .0 t in ap₂ _∷_ (d .sound x y (p .0)) (sound xs ys (p .1))
 
     reflexive : (x : List X) → T (sameList f x x)
     reflexive [] = tt
-    reflexive (x ∷ xs) = joins (f x x) (sameList f xs xs) (d .reflexive x) (reflexive xs)
+    reflexive (x ∷ xs) = and-both (f x x) (sameList f xs xs) (d .reflexive x) (reflexive xs)
 
 situations : Decides sameSituation
 situations = record { sound = sound; reflexive = reflexive }
@@ -90,15 +83,15 @@ situations = record { sound = sound; reflexive = reflexive }
     sound (whole r) (cut t y n) h = absurd h
     sound (cut r x m) (whole t) h = absurd h
     sound (cut r x m) (cut t y n) h =
-        let p = both (sameList (sameList sameInteger) r t) (sameList sameInteger x y && sameList sameMark m n) h in
-        let q = both (sameList sameInteger x y) (sameList sameMark m n) (p .1) in
+        let p = T-and (sameList (sameList sameInteger) r t) (sameList sameInteger x y && sameList sameMark m n) .0 h in
+        let q = T-and (sameList sameInteger x y) (sameList sameMark m n) .0 (p .1) in
         λ i. cut (lists (lists integers) .sound r t (p .0) i) (lists integers .sound x y (q .0) i) (lists marks .sound m n (q .1) i)
 
     reflexive : (x : Situation) → T (sameSituation x x)
     reflexive (whole r) = lists (lists integers) .reflexive r
     reflexive (cut r x m) =
-        joins (sameList (sameList sameInteger) r r) (sameList sameInteger x x && sameList sameMark m m) (lists (lists integers) .reflexive r)
-        (joins (sameList sameInteger x x) (sameList sameMark m m) (lists integers .reflexive x) (lists marks .reflexive m))
+        and-both (sameList (sameList sameInteger) r r) (sameList sameInteger x x && sameList sameMark m m) (lists (lists integers) .reflexive r)
+        (and-both (sameList sameInteger x x) (sameList sameMark m m) (lists integers .reflexive x) (lists marks .reflexive m))
 
 pub sameSituation-sound : (x y : Situation) → T (sameSituation x y) → x ≡ y
 sameSituation-sound x y t = situations .sound x y t
@@ -128,16 +121,8 @@ isMember-sound x (y ∷ ys) t = go (sameSituation x y) refl t (isMember-sound x 
     go false e t rest = List·Memᴰ·tail (rest t)
 
 isMember-complete : (x : Situation) (l : List Situation) → List·Memᴰ x l → T (isMember x l)
-isMember-complete x (y ∷ ys) (List·Memᴰ·head e) = left (sameSituation x y) (isMember x ys) (sameSituation-complete x y e)
-  where
-    left : (a b : Bool) → T a → T (a || b)
-    left true b t = tt
-    left false b t = absurd t
-isMember-complete x (y ∷ ys) (List·Memᴰ·tail m) = right (sameSituation x y) (isMember x ys) (isMember-complete x ys m)
-  where
-    right : (a b : Bool) → T b → T (a || b)
-    right true b t = tt
-    right false b t = t
+isMember-complete x (y ∷ ys) (List·Memᴰ·head e) = or-left (sameSituation x y) (isMember x ys) (sameSituation-complete x y e)
+isMember-complete x (y ∷ ys) (List·Memᴰ·tail m) = or-right (sameSituation x y) (isMember x ys) (isMember-complete x ys m)
 
 -- The list has no repeats.
 abbrev pub hasNoRepeats : List Situation → Bool
@@ -147,5 +132,5 @@ hasNoRepeats (x ∷ xs) = not (isMember x xs) && hasNoRepeats xs
 pub hasNoRepeats-sound : (l : List Situation) → T (hasNoRepeats l) → NoRepeats l
 hasNoRepeats-sound [] t = tt
 hasNoRepeats-sound (x ∷ xs) t =
-    let p = both (not (isMember x xs)) (hasNoRepeats xs) t in
+    let p = T-and (not (isMember x xs)) (hasNoRepeats xs) .0 t in
     (λ m. T-not (isMember x xs) (p .0) (isMember-complete x xs m), hasNoRepeats-sound xs (p .1))

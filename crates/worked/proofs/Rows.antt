@@ -6,9 +6,10 @@ use mathlib.Core.Bool.{Bool, true, false, _&&_}
 use mathlib.Core.List.{List, [], _∷_, map, List·Memᴰ}
 use lib.Dec.{T, eqb, eqb→eq, eqb-refl, leb, leb→le}
 use lib.ListN.{length}
+use Rattle.basics.proofs.Tests.{T-and}
 use Rattle.automaton.specs.Table.{noState}
 use Rattle.automaton.specs.Graph.{Graph}
-use Rattle.automaton.specs.Construction.{answer, IsAnswer}
+use Rattle.automaton.specs.Construction.{languageAnswer, IsAnswer}
 use Rattle.automaton.specs.Construction as construction
 use Rattle.automaton.proofs.Construction.{answer-is}
 use Rattle.automaton.proofs.Equality.{stored-transfer}
@@ -28,8 +29,8 @@ use Rattle.sheet.proofs.Reading.{answer-correct}
 use Rattle.sheet.proofs.Accepted.{accepted-facts}
 use Rattle.outcome.proofs.CompileTotal.{no-streams}
 use Rattle.outcome.proofs.SituationGraph.{placeIn, nodeSuccessor, situationGraph, startNode, situations-language}
-use Rattle.worked.specs.Rows.{WorkedSheet, rows, Holds, compiles, refuses}
-use Rattle.worked.proofs.Equality.{both, sameList, lists, Decides, decideSituation}
+use Rattle.worked.specs.Rows.{WorkedSheet, workedSheets, Holds, compiles, refuses}
+use Rattle.worked.proofs.Equality.{sameList, lists, Decides, decideSituation}
 use Rattle.worked.proofs.Count.{explored, situationOf, countsSituations, counted}
 
 -- ---- the test
@@ -56,7 +57,7 @@ answerTest r s (construction.LanguageAnswer.table x) =
 abbrev countedTest : (r : WorkedSheet) (s : Sheet) (b : Bool) → countsSituations s (found s) ≡ b → Bool
 countedTest r s true e =
     let t = subst T (sym e) tt in
-    leb (graph s t .nodes) noState && (eqb (length (map (situationOf s) (found s))) (r .situations) && answerTest r s (answer (graph s t) (start s t)))
+    leb (graph s t .nodes) noState && (eqb (length (map (situationOf s) (found s))) (r .situations) && answerTest r s (languageAnswer (graph s t) (start s t)))
 countedTest r s false e = false
 
 abbrev sheetTest : WorkedSheet → Answer → Bool
@@ -79,19 +80,19 @@ module _ (r : WorkedSheet) {s : Sheet} (read : AnswerTo (bytesOf (r .text)) (she
     answer-holds : (a : construction.LanguageAnswer) → IsAnswer (graph s t) (start s t) a → T (answerTest r s a) → Holds r
     unfolding situationGraph
     answer-holds construction.LanguageAnswer.noWord n h =
-        let p = both (eqb (r .refusal) 9) (eqb (r .states) 0 && (sameList eqb (r .entries) [] && sameList eqb (r .finals) [])) h in
-        let q = both (eqb (r .states) 0) (sameList eqb (r .entries) [] && sameList eqb (r .finals) []) (p .1) in
-        let u = both (sameList eqb (r .entries) []) (sameList eqb (r .finals) []) (q .1) in
+        let p = T-and (eqb (r .refusal) 9) (eqb (r .states) 0 && (sameList eqb (r .entries) [] && sameList eqb (r .finals) [])) .0 h in
+        let q = T-and (eqb (r .states) 0) (sameList eqb (r .entries) [] && sameList eqb (r .finals) []) .0 (p .1) in
+        let u = T-and (sameList eqb (r .entries) []) (sameList eqb (r .finals) []) .0 (q .1) in
         let none =
         no-streams (record { sides = accepted-facts read .namesKnown }) λ w b z. n w b (situations-language decideSituation s (counted s (found s) t) .from w b z) in
         refuses read count (eqb→eq (r .refusal) 9 (p .0)) none (eqb→eq (r .states) 0 (q .0)) (lists numbers .sound (r .entries) [] (u .0)) (lists numbers .sound (r .finals) [] (u .1))
     answer-holds (construction.LanguageAnswer.table x) n h =
         let same = sameList eqb (x .entries) (r .entries) && sameList eqb (x .finals) (r .finals) in
-        let p = both (eqb (r .refusal) 0) (eqb (x .states) (r .states) && (same && sizeTest r s)) h in
-        let q = both (eqb (x .states) (r .states)) (same && sizeTest r s) (p .1) in
-        let v = both same (sizeTest r s) (q .1) in
-        let u = both (sameList eqb (x .entries) (r .entries)) (sameList eqb (x .finals) (r .finals)) (v .0) in
-        let z = both (eqb (length (r .entries)) (r .states * letterCount (s .streams))) (eqb (length (r .finals)) (r .states)) (v .1) in
+        let p = T-and (eqb (r .refusal) 0) (eqb (x .states) (r .states) && (same && sizeTest r s)) .0 h in
+        let q = T-and (eqb (x .states) (r .states)) (same && sizeTest r s) .0 (p .1) in
+        let v = T-and same (sizeTest r s) .0 (q .1) in
+        let u = T-and (sameList eqb (x .entries) (r .entries)) (sameList eqb (x .finals) (r .finals)) .0 (v .0) in
+        let z = T-and (eqb (length (r .entries)) (r .states * letterCount (s .streams))) (eqb (length (r .finals)) (r .states)) .0 (v .1) in
         let stored = stored-transfer (situations-language decideSituation s (counted s (found s) t)) n in
         compiles read count (eqb→eq (r .refusal) 0 (p .0))
         (rw (← eqb→eq (x .states) (r .states) (q .0), ← lists numbers .sound (x .entries) (r .entries) (u .0), ← lists numbers .sound (x .finals) (r .finals) (u .1)) stored)
@@ -100,9 +101,9 @@ module _ (r : WorkedSheet) {s : Sheet} (read : AnswerTo (bytesOf (r .text)) (she
   counted-holds : (b : Bool) (e : countsSituations s (found s) ≡ b) → T (countedTest r s b e) → Holds r
   counted-holds true e h =
       let t = subst T (sym e) tt in
-      let p = both (leb (graph s t .nodes) noState) (eqb (length (map (situationOf s) (found s))) (r .situations) && answerTest r s (answer (graph s t) (start s t))) h in
-      let q = both (eqb (length (map (situationOf s) (found s))) (r .situations)) (answerTest r s (answer (graph s t) (start s t))) (p .1) in
-      answer-holds t (eqb→eq (length (map (situationOf s) (found s))) (r .situations) (q .0)) (answer (graph s t) (start s t)) (answer-is (graph s t) (start s t) (leb→le (graph s t .nodes) noState (p .0))) (q .1)
+      let p = T-and (leb (graph s t .nodes) noState) (eqb (length (map (situationOf s) (found s))) (r .situations) && answerTest r s (languageAnswer (graph s t) (start s t))) .0 h in
+      let q = T-and (eqb (length (map (situationOf s) (found s))) (r .situations)) (answerTest r s (languageAnswer (graph s t) (start s t))) .0 (p .1) in
+      answer-holds t (eqb→eq (length (map (situationOf s) (found s))) (r .situations) (q .0)) (languageAnswer (graph s t) (start s t)) (answer-is (graph s t) (start s t) (leb→le (graph s t .nodes) noState (p .0))) (q .1)
   counted-holds false e h = absurd h
 
 row-holds : (r : WorkedSheet) → T (rowTest r) → Holds r
@@ -113,13 +114,13 @@ row-holds r h = go (answerTo (bytesOf (r .text))) (answer-correct (bytesOf (r .t
     go (sheet s) c h = counted-holds r c (countsSituations s (found s)) refl h
 
 all-rows : (l : List WorkedSheet) → T (all rowTest l) → (r : WorkedSheet) → List·Memᴰ r l → Holds r
-all-rows (x ∷ l) t r (List·Memᴰ.List·Memᴰ·head e) = subst Holds (sym e) (row-holds x (both (rowTest x) (all rowTest l) t .0))
-all-rows (x ∷ l) t r (List·Memᴰ.List·Memᴰ·tail m) = all-rows l (both (rowTest x) (all rowTest l) t .1) r m
+all-rows (x ∷ l) t r (List·Memᴰ.List·Memᴰ·head e) = subst Holds (sym e) (row-holds x (T-and (rowTest x) (all rowTest l) .0 t .0))
+all-rows (x ∷ l) t r (List·Memᴰ.List·Memᴰ·tail m) = all-rows l (T-and (rowTest x) (all rowTest l) .0 t .1) r m
 
-computed : T (all rowTest rows)
-unfolding lines tokens isName isNatural isInteger naturalFrom integerValue reservedWords isReserved interval subexpressions letterCount letterOf reach back firsts B D operatorTokens operatorOf relationTokens relationOf prefixTokens prefixOf namePlace expressionBy openingOf partTo parseConstraint refuses1 tooDeepFrom refuses2 streamsFrom constraintsOf formOf refuses4 refuses5 refuses6 refuses7 answerToSheet answerTo value permits done lawful firstValues untilMarks situation windowValue windowPermits windowMarks allowsLetter situationAfter successor marksOf allDone placeIn nodeSuccessor situationGraph startNode rows
+computed : T (all rowTest workedSheets)
+unfolding lines tokens isName isNatural isInteger naturalFrom integerValue reservedWords isReserved interval subexpressions letterCount letterOf reach back firsts B D operatorTokens operatorOf relationTokens relationOf prefixTokens prefixOf namePlace expressionBy openingOf partTo parseConstraint refuses1 tooDeepFrom refuses2 streamsFrom constraintsOf formOf refuses4 refuses5 refuses6 refuses7 answerToSheet answerTo value permits done lawful firstValues untilMarks situation windowValue windowPermits windowMarks allowsLetter situationAfter successor marksOf allDone placeIn nodeSuccessor situationGraph startNode workedSheets
 computed = tt
 
 -- Every row of document 01's worked sheets holds.
-pub rows-hold : (r : WorkedSheet) → List·Memᴰ r rows → Holds r
-rows-hold = all-rows rows computed
+pub rows-hold : (r : WorkedSheet) → List·Memᴰ r workedSheets → Holds r
+rows-hold = all-rows workedSheets computed

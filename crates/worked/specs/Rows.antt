@@ -24,8 +24,8 @@ pub record WorkedSheet : Type 0 where
 abbrev pub none : ℕ
 none = 65535
 
-unfoldable pub rows : List WorkedSheet
-rows =
+unfoldable pub workedSheets : List WorkedSheet
+workedSheets =
     -- P1, "one state"
     record { text = "level gate\n0 0\n2 1\n( level ge 2 ) -> gate"; refusal = 0; states = 1; situations = 2; entries = 0 ∷ 0 ∷ 0 ∷ 0 ∷ none ∷ 0 ∷ []; finals = 1 ∷ [] }
     -- P2, "9"

@@ -3,13 +3,13 @@ use Prim.Native.Nat.{_≤_, _-_}
 use native.Mathlib.Omega.{arith}
 use mathlib.Core.Path.{_≡_}
 use borrow.Author.Needs.{needs}
-use Rattle.bounds.specs.Prefix.{Leads}
+use Rattle.bounds.specs.Prefix.{SummaryLeads}
 use Rattle.bounds.proofs.Prefixes.{leads-none, leads-more}
 use Rattle.bounds.proofs.after_prefixes.Statement.{statement}
 use Rattle.bounds.proofs.after_prefixes.Tie as tie
 
 abbrev Inv-loop : tie.InvT-loop
-Inv-loop kinds from end summary₀ at₀ summary at = (from ≤ at) × (at ≤ end) × Leads kinds from summary₀ at summary
+Inv-loop kinds from end summary₀ at₀ summary at = (from ≤ at) × (at ≤ end) × SummaryLeads kinds from summary₀ at summary
 
 abbrev μ-loop : tie.MeasureT-loop
 μ-loop kinds from end summary₀ at₀ summary at = end - at

@@ -6,8 +6,8 @@ use Rattle.bounds.proofs.Ranges.{span-there, span-no-fourth, span-no-th
 use Rattle.bounds.proofs.span_values.Statement.{statement}
 use Rattle.bounds.proofs.span_values.Tie as tie
 
-span-requires : tie.Need-span-requires
-span-requires c κs = search needs
+span-of-four-requires : tie.Need-span-of-four-requires
+span-of-four-requires c κs = search needs
 
 no-range-requires : tie.Need-no-range-requires
 no-range-requires c κs = search needs
@@ -23,7 +23,7 @@ no-range-requires-4 c κs = search needs
 
 returns : tie.Need-returns
 returns c =
-    c .span .ensures
+    c .span-of-four .ensures
     ∙ span-there (c .before .before .before .before .before .before .before .before .before .args .p) (c .before .before .before .before .before .before .before .before .before .args .q) (c .before .before .before .before .before .before .before .before .before .args .r) (c .before .before .before .before .before .before .before .before .before .args .s) (c .before .before .before .before .before .before .before .before .if1 .taken) (c .before .before .before .before .before .before .before .if2 .taken) (c .before .before .before .before .before .before .if3 .taken) (c .before .before .before .before .before .if4 .taken) (record { sfits = omega (arith, c .before .before .before .before .struct-told .given) }) (record { sfits = omega (arith, c .before .before .before .struct-told2 .given) }) (record { sfits = omega (arith, c .before .before .struct-told3 .given) }) (record { sfits = omega (arith, c .before .struct-told4 .given) })
 
 returns-2 : tie.Need-returns-2
@@ -42,7 +42,7 @@ pub span-values-spec : {M : Type 1} → statement M
 span-values-spec =
     tie.close
     (tie.spec
-    span-requires
+    span-of-four-requires
     no-range-requires
     no-range-requires-2
     no-range-requires-3

@@ -3,6 +3,7 @@
 use mathlib.Core.Path.{_∙_}
 use borrow.Author.Needs.{needs}
 use Rattle.situations.proofs.Stored.{sheet-letters}
+use Rattle.situations.proofs.Found.{explored-leaves, explored-situations}
 use Rattle.compile.proofs.Sheet.{calls-cleared, limit-fits, calls-outcome}
 use Rattle.compile.proofs.Reading.{text-outcome}
 use Rattle.compile.proofs.compile.Statement.{statement}
@@ -66,6 +67,7 @@ returns : tie.Need-returns
 returns c =
     let args = c .before .before .before .before .before .before .before .before .before .before .before .before .before .before .before .before .before .before .before .before .before .before .before .before .before .before .before .before .before .before .before .before .before .before .before .before .before .before .before .before .before .before .before .before .before .before .before .before .before .before .before .before .before .before .before .before .before .before .before .args in
     let found = c .before .before .before .before .before .before .before .before .before .before .before .before .before .before .before .before .before .before .before .before .before .before .before .before .before .before .before .before .before .before .before .before .before .before .before .before .before .situations in
+    let leaves = explored-leaves (found .ensures) in
     let table = c .before .before .before .before .before .before .before .before .before .before .before .before .before .before .before .before .before .before .minimise .ensures in
     let work = c .before .before .before .before .before .before .before .before .before .before .before .before .before .before .before .before .before .before .before .before .before .before .before .before .before .before .before .before .before .before .before .before .before .before .before .before .before .before .before .before .before .before .before .before .before .work-rows .ensures in
     let rows = c .before .before .before .before .before .before .before .before .before .before .before .before .before .before .before .before .before .before .before .before .before .before .before .before .before .before .before .before .before .before .before .before .before .before .before .before .before .before .before .before .before .before .before .before .fewest-rows .ensures in
@@ -73,8 +75,8 @@ returns c =
     text-outcome (c .before .before .before .before .before .before .before .before .before .before .before .before .before .before .before .before .before .before .before .before .before .before .before .before .before .before .before .before .before .before .before .before .before .before .before .before .before .before .before .before .before .before .before .before .before .before .before .before .read .ensures) (c .answered .ensures)
     (λ s accepted same.
     let fits = limit-fits (args .entries .now) (args .finals .now) (args .keys .now) (args .live .now) (args .class .now) (args .next .now) (args .heads .now) (args .links .now) (args .shared .now) accepted (sheet-letters s same) work rows limit in
-    calls-outcome (args .entries .now) (args .finals .now) (args .keys .now) (args .live .now) (args .class .now) (args .next .now) (args .heads .now) (args .links .now) (args .shared .now) accepted (sheet-letters s same) work rows limit (found .kept .1 .1 .0) (found .kept .1 .1 .1 .0) (found .kept .1 .1 .1 .1 .1 .0) (found .kept .1 .1 .1 .1 .1 .1 .0) (found .ensures .leaves .workZero .keys-zero) (found .ensures .leaves .within) (found .ensures .found s accepted same fits) table (c .before .made .ensures))
-    (calls-cleared (args .entries .now) (args .finals .now) (args .keys .now) (args .live .now) (args .class .now) (args .next .now) (args .heads .now) (args .links .now) (args .shared .now) (found .kept .1 .1 .0) (found .kept .1 .1 .1 .0) (found .kept .1 .1 .1 .1 .1 .0) (found .kept .1 .1 .1 .1 .1 .1 .0) (found .ensures .leaves .workZero .keys-zero) table)
+    calls-outcome (args .entries .now) (args .finals .now) (args .keys .now) (args .live .now) (args .class .now) (args .next .now) (args .heads .now) (args .links .now) (args .shared .now) accepted (sheet-letters s same) work rows limit (found .kept .1 .1 .0) (found .kept .1 .1 .1 .0) (found .kept .1 .1 .1 .1 .1 .0) (found .kept .1 .1 .1 .1 .1 .1 .0) (leaves .workZero .keys-zero) (leaves .within) (explored-situations (found .ensures) s accepted same fits) table (c .before .made .ensures))
+    (calls-cleared (args .entries .now) (args .finals .now) (args .keys .now) (args .live .now) (args .class .now) (args .next .now) (args .heads .now) (args .links .now) (args .shared .now) (found .kept .1 .1 .0) (found .kept .1 .1 .1 .0) (found .kept .1 .1 .1 .1 .1 .0) (found .kept .1 .1 .1 .1 .1 .1 .0) (leaves .workZero .keys-zero) table)
 
 pub compile-spec : {M : Type 1} → statement M
 compile-spec =

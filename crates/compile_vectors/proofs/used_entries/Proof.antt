@@ -6,17 +6,17 @@ use borrow.Author.Needs.{needs}
 use Rattle.compile_vectors.proofs.used_entries.Statement.{statement}
 use Rattle.compile_vectors.proofs.used_entries.Tie as tie
 
-mul-fewer : tie.Need-mul-fewer
-mul-fewer c =
-    let a : c .args .states ≤ 4294967295 = omega arith in
-    let b : c .args .letters ≤ 4294967295 = omega arith in
+mul-entries-within : tie.Need-mul-entries-within
+mul-entries-within c =
+    let a : c .before .args .states ≤ 4294967295 = omega arith in
+    let b : c .before .args .letters ≤ 4294967295 = omega arith in
     omega (arith, mul-le-mul a b)
 
-fewer-requires : tie.Need-fewer-requires
-fewer-requires c κs = search needs
+entries-within-requires : tie.Need-entries-within-requires
+entries-within-requires c κs = search needs
 
 returns : tie.Need-returns
 returns c = search needs
 
 pub used-entries-spec : {M : Type 1} → statement M
-used-entries-spec = tie.close (tie.spec mul-fewer fewer-requires returns)
+used-entries-spec = tie.close (tie.spec mul-entries-within entries-within-requires returns)

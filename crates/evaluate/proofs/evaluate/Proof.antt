@@ -10,7 +10,7 @@ use Rattle.arithmetic.specs.Coded.{coded}
 use Rattle.arithmetic.proofs.Coded.{held-result}
 use Rattle.evaluate.proofs.Leaves.{not-leaf}
 use Rattle.evaluate.proofs.Decoding.{held-before, read-before}
-use Rattle.evaluate.proofs.Recursion.{Arrays, leaf-before, stored-arm, no-node, no-place, root-value}
+use Rattle.evaluate.proofs.Recursion.{HasArrays, leaf-before, stored-arm, no-node, no-place, root-value}
 use Rattle.evaluate.proofs.evaluate.Statement.{statement}
 use Rattle.evaluate.proofs.evaluate.Tie as tie
 
@@ -21,7 +21,7 @@ abbrev seen : tie.Start → View
 seen s = view (s .args .window .now) (s .args .streams) (s .args .firsts .now) (s .args .whole)
 
 -- What the slices tell of the arrays that they are made of.
-arrays : (c : tie.After-start-list) → Arrays (nodes (c .before .before .before))
+arrays : (c : tie.After-start-list) → HasArrays (nodes (c .before .before .before))
 arrays c = record { kinds = c .before .before .kind-list .given .0; values = c .before .value-list .given .0; starts = c .start-list .given .0 }
 
 places-requires : tie.Need-places-requires

@@ -4,7 +4,7 @@ use mathlib.Core.Path.{refl, _∙_}
 use native.Mathlib.Omega.{arith}
 use borrow.Author.Needs.{needs}
 use borrow.Author.Tests.{not-true, not-false}
-use Rattle.marks.proofs.Laws.{says-yes, says-no}
+use Rattle.basics.proofs.Answers.{says-yes, says-no}
 use Rattle.extend.specs.Step.{Store, storeOf, IsReady}
 use Rattle.explore.specs.Search.{IsLent}
 use Rattle.explore.proofs.ChainLaws.{cleared-chained}
@@ -63,7 +63,13 @@ search-requires c κs =
     let tested = c .before .before .before .before .before .before .before .before .before .before .before .before .before .before .before .before .before .before .before .before .before .before .before .before in
     let l = lent tested in
     let settle = c .before .before .before .before .before .before .before .before .before .before .before .before .before .settle in
-    (keeps-bounds tested, (sizes-lent (record { keys-long = settle .kept .1 .1 .0; heads-long = settle .kept .0 ∙ c .before .before .before .before .before .before .before .before .before .before .before .before .before .before .before .before .before .before .before .before .before .fill .kept .0; links-long = settle .kept .1 .0; entries-long = refl; flags-long = settle .kept .1 .1 .1 .0 }) l, settled-start (l .some-row) (l .flags-room) (settle .ensures)))
+    let begun = settled-start (l .some-row) (l .flags-room) (settle .ensures) in
+    record {
+      ready = keeps-bounds tested;
+      lent = sizes-lent (record { keys-long = settle .kept .1 .1 .0; heads-long = settle .kept .0 ∙ c .before .before .before .before .before .before .before .before .before .before .before .before .before .before .before .before .before .before .before .before .before .fill .kept .0; links-long = settle .kept .1 .0; entries-long = refl; flags-long = settle .kept .1 .1 .1 .0 }) l;
+      tables = begun .0;
+      known = begun .1;
+    }
 
 same-length : tie.Need-same-length
 same-length c = c .before .before .before .before .before .before .before .before .before .before .search .kept .1 .1 .1 .1 .1 .1 .1 .1 .1 .1 .0 ∙ c .before .before .before .before .before .before .before .before .before .before .before .before .before .before .before .before .before .before .before .before .before .before .before .before .settle .kept .1 .1 .0

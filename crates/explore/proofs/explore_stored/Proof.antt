@@ -2,7 +2,7 @@
 -- are those of the rows found.
 use mathlib.Core.Path.{_∙_}
 use borrow.Author.Needs.{needs}
-use Rattle.marks.proofs.Clearing.{zeroed}
+use Rattle.basics.proofs.Clearing.{zeroed}
 use Rattle.explore.proofs.SizeLaws.{explored-stored}
 use Rattle.explore.proofs.explore_stored.Statement.{statement}
 use Rattle.explore.proofs.explore_stored.Tie as tie

@@ -4,10 +4,11 @@ use Prim.Native.Nat.{ℕ}
 use mathlib.Core.Path.{_≡_, refl, _∙_, sym, subst}
 use mathlib.Core.List.{List}
 use mathlib.Core.Logic.{inl, inr}
-use lib.IntN.{ℤ}
-use lib.ListN.{length}
+use lib.ListN.{replicate}
 use borrow.Author.Needs.{needs}
-use Rattle.extend.specs.Step.{Store, storeOf, IsKey, Prepared, Extended}
+use Rattle.sizes.specs.Room.{keySize}
+use Rattle.extend.specs.Step.{Store, storeOf, IsKey, PreparedFor, Extended}
+use Rattle.extend.proofs.ExtendLaws.{extends-extended}
 use Rattle.explore.specs.Chains.{rowAt}
 use Rattle.explore.proofs.ChainLaws.{row-part}
 use Rattle.explore.proofs.SearchLaws.{settled-key, settled-row}
@@ -25,22 +26,20 @@ row c = rowAt (c .args .keys .now) (c .args .s)
 abbrev start-of : tie.After-extend → tie.Start
 start-of c = c .before .before .before .before .before .before .before .before .before .before .before .before .before
 
--- what is prepared, and what one more letter gives, for a row that holds the key
-abbrev IsPrepared : tie.Start → List ℕ → List ℤ → Type 0
-IsPrepared c key prepared = let a = c .args in Prepared (a .letter-values .now) (a .dimensions .streams) (a .dimensions .width) (length (a .first-nodes .now)) key prepared
-
+-- what one more letter gives, for a row that holds the key
 abbrev Gives : tie.After-extend → List ℕ → Type 0
-Gives c key = Extended (store (start-of c)) key (start-of c .args .a) (c .extend .result) (c .extend .last .1 .1 .1 .1 .1 .1 .1 .1 .1 .1 .1 .1 .0) × IsPrepared (start-of c) key (c .extend .last .1 .1 .1 .1 .1 .1 .1 .1 .1 .1 .1 .0)
+Gives c key = Extended (store (start-of c)) key (start-of c .args .a) (replicate keySize 0) (c .extend .result) (c .extend .last .1 .1 .1 .1 .1 .1 .1 .1 .1 .1 .1 .1 .0) × PreparedFor (store (start-of c)) key (c .extend .last .1 .1 .1 .1 .1 .1 .1 .1 .1 .1 .1 .0)
 
 extended : (c : tie.After-extend) → Gives c (row (start-of c))
 extended c =
     let start = start-of c in
     let is = row-part (start .args .keys .now) (start .args .s) in
-    subst (Gives c) is
-    (c .extend .ensures (start .pre .0) (subst (IsKey (store start)) (sym is) (start .pre .1 .0 .0)) (start .pre .1 .0 .1) refl (subst (λ k. IsPrepared start k (start .args .prepared .now)) (sym is) (start .pre .1 .1 .1 .1)))
+    let key = subst (IsKey (store start)) (sym is) (start .pre .key) in
+    let ready = subst (λ k. PreparedFor (store start) k (start .args .prepared .now)) (sym is) (start .pre .is-prepared) in
+    subst (Gives c) is (extends-extended {K = store start} (c .extend .ensures) (start .pre .ready) key (start .pre .values) refl ready)
 
-prepared : (c : tie.After-extend) (key : List ℕ) → key ≡ row (start-of c) → IsPrepared (start-of c) key (c .extend .last .1 .1 .1 .1 .1 .1 .1 .1 .1 .1 .1 .0)
-prepared c key e = subst (λ k. IsPrepared (start-of c) k (c .extend .last .1 .1 .1 .1 .1 .1 .1 .1 .1 .1 .1 .0)) (sym e) (extended c .1)
+prepared : (c : tie.After-extend) (key : List ℕ) → key ≡ row (start-of c) → PreparedFor (store (start-of c)) key (c .extend .last .1 .1 .1 .1 .1 .1 .1 .1 .1 .1 .1 .0)
+prepared c key e = subst (λ k. PreparedFor (store (start-of c)) k (c .extend .last .1 .1 .1 .1 .1 .1 .1 .1 .1 .1 .1 .0)) (sym e) (extended c .1)
 
 mul-start : tie.Need-mul-start
 mul-start c = search needs
@@ -72,8 +71,8 @@ slice-aggregate-settle c = search needs
 settle-requires : tie.Need-settle-requires
 settle-requires c κs =
     let at = c .before .before .before .before .before .before .before in
-    let limits = start-of at .pre .1 .1 .1 .0 in
-    (start-of at .pre .1 .1 .0, (at .extend .kept .1 .1 .1 .1 .1 .1 .1 .1 .1 .1 .1 .1 .0, limits .0, limits .1, limits .2, limits .3))
+    let pre = start-of at .pre in
+    (pre .tables, (at .extend .kept .1 .1 .1 .1 .1 .1 .1 .1 .1 .1 .1 .1 .0, pre .few-rows, pre .links-room, pre .keys-room, pre .flags-room))
 
 same-length : tie.Need-same-length
 same-length c = c .before .before .before .before .before .before .before .before .settle .kept .1 .1 .0
@@ -94,7 +93,10 @@ returns c =
     let x = extended at .0 in
     let lawful = c .before .before .before .before .before .before .before .before .before .before .before .before .before .before .if1 .taken in
     let settled = c .before .before .before .before .before .before .before .before .settle .ensures in
-    (inr (sym (x .answer) ∙ lawful, settled-key (x .new lawful) settled), prepared at _ (settled-row settled (start .args .s) (start .pre .1 .0 .2)))
+    record {
+      followed = inr (sym (x .answer) ∙ lawful, settled-key (x .new lawful) settled);
+      is-prepared = prepared at _ (settled-row settled (start .args .s) (start .pre .is-row));
+    }
 
 same-length-5 : tie.Need-same-length-5
 same-length-5 c = refl
@@ -102,7 +104,10 @@ same-length-5 c = refl
 returns-2 : tie.Need-returns-2
 returns-2 c =
     let at = c .before .before in
-    (inl (refl, sym (extended at .0 .answer) ∙ c .if1 .left, start-of at .pre .1 .1 .0, refl, refl), extended at .1)
+    record {
+      followed = inl (refl, sym (extended at .0 .answer) ∙ c .if1 .left, start-of at .pre .tables, refl, refl);
+      is-prepared = extended at .1;
+    }
 
 pub follow-spec : {M : Type 1} → statement M
 follow-spec =

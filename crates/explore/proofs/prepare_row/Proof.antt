@@ -1,7 +1,9 @@
 -- `prepare_row` meets its contract: the part of the rows that is row s holds its key.
 use mathlib.Core.Path.{sym, subst}
+use lib.ListN.{length}
 use borrow.Author.Needs.{needs}
-use Rattle.extend.specs.Step.{IsKey, lettersStore, Prepared}
+use Rattle.extend.specs.Step.{IsPreparable, Prepared}
+use Rattle.extend.proofs.PreparedLaws.{prepares-prepared}
 use Rattle.explore.proofs.ChainLaws.{row-part}
 use Rattle.explore.proofs.prepare_row.Statement.{statement}
 use Rattle.explore.proofs.prepare_row.Tie as tie
@@ -32,8 +34,9 @@ returns c =
     let start = c .before .before .before .before in
     let a = start .args in
     let prepare = c .prepare in
-    subst (λ k. Prepared (a .letter-values .now) (a .dimensions .streams) (a .dimensions .width) (a .count) k (prepare .last .1 .1 .1 .1 .0)) (row-part (a .keys .now) (a .s))
-    (prepare .ensures (start .pre .0) (subst (IsKey (lettersStore (a .letter-values .now) (a .dimensions .streams) (a .dimensions .width))) (sym (row-part (a .keys .now) (a .s))) (start .pre .1 .0)) (start .pre .1 .2))
+    let is = row-part (a .keys .now) (a .s) in
+    subst (λ k. Prepared (a .letter-values .now) (a .dimensions .streams) (a .dimensions .width) (a .count) k (prepare .last .1 .1 .1 .1 .0)) is
+    (prepares-prepared (prepare .ensures) (subst (λ k. IsPreparable (length (a .letter-values .now)) (a .dimensions .streams) (a .dimensions .width) (a .count) k (length (a .prepared .now))) (sym is) (start .pre .0)))
 
 pub prepare-row-spec : {M : Type 1} → statement M
 prepare-row-spec =

@@ -8,11 +8,12 @@ use mathlib.Core.Logic.{⊎-elim}
 use mathlib.Core.List.{List}
 use native.Mathlib.Omega.{arith}
 use lib.ListN.{length}
+use Rattle.basics.proofs.Lists.{row-fits}
 use Rattle.explore.specs.Chains.{rowAt}
 use Rattle.extend.specs.Step.{Store, storeOf, IsKey, Prepared}
 use Rattle.explore.specs.Search.{Turn, Kept, IsLent}
-use Rattle.extend.proofs.PreparedLaws.{letters-key}
-use Rattle.explore.proofs.SearchLaws.{true-not-false, row-fits, letter-values, reach-key, turn-begin, turn-row, turn-end, follow-fits, follow-old, follow-new, follow-full, kept-refl, kept-trans, kept-old, kept-new, kept-end, SameSizes, sizes-refl, sizes-trans, sizes-stored, sizes-lent}
+use Rattle.extend.proofs.PreparedLaws.{key-preparable}
+use Rattle.explore.proofs.SearchLaws.{true-not-false, letter-values, reach-key, turn-begin, turn-row, turn-end, follow-fits, follow-old, follow-new, follow-full, kept-refl, kept-trans, kept-old, kept-new, kept-end, SameSizes, sizes-refl, sizes-trans, sizes-stored, sizes-lent}
 use Rattle.explore.proofs.search.Statement.{statement}
 use Rattle.explore.proofs.search.Tie as tie
 
@@ -52,13 +53,13 @@ store c =
 -- a row that is known holds a key
 row-key : (c : tie.Start Inv-loop μ-loop Inv-rows μ-rows) {keys entries flags heads links : List ℕ} {n s s′ a at : ℕ}
     → Turn (store c) (c .args .bounds .letters) (c .args .bounds .limit) (c .args .bounds .every) keys entries flags heads links n s′ a at → s < n → IsKey (store c) (rowAt keys s)
-row-key c t h = reach-key (store c) (c .args .bounds .letters) (c .args .bounds .limit) (c .args .bounds .every) (c .pre .0 .few-letters) (c .pre .1 .0 .values) (t .turn .known .reached _ h)
+row-key c t h = reach-key (store c) (c .args .bounds .letters) (c .args .bounds .limit) (c .args .bounds .every) (c .pre .ready .few-letters) (c .pre .lent .values) (t .turn .known .reached _ h)
 
 -- ---- at the start of a row
 
 -- the tables have room
 rows-lent : (c : tie.In-rows Inv-loop μ-loop Inv-rows μ-rows) → let r = c .before .rows in IsLent (store (start-of c)) (start-of c .args .bounds .letters) (start-of c .args .bounds .limit) (r .keys) (r .heads) (r .links) (r .entries) (r .flags)
-rows-lent c = sizes-lent (c .before .rows .inv .2) (start-of c .pre .1 .0)
+rows-lent c = sizes-lent (c .before .rows .inv .2) (start-of c .pre .lent)
 
 few-rows : (c : tie.In-rows Inv-loop μ-loop Inv-rows μ-rows) → c .before .rows .s < 4096
 few-rows c = omega (arith, c .rows-test .taken, c .before .rows .inv .1 .turn .within, rows-lent c .few-rows)
@@ -77,7 +78,7 @@ sizes : (c : tie.At-loop Inv-loop μ-loop Inv-rows μ-rows) → let a = start-of
 sizes c = sizes-trans (in-rows-of c .before .rows .inv .2) (c .loop .inv .4)
 
 lent : (c : tie.At-loop Inv-loop μ-loop Inv-rows μ-rows) → let start = start-of (in-rows-of c) in IsLent (store start) (start .args .bounds .letters) (start .args .bounds .limit) (c .loop .keys) (c .loop .heads) (c .loop .links) (c .loop .entries) (c .loop .flags)
-lent c = sizes-lent (sizes c) (start-of (in-rows-of c) .pre .1 .0)
+lent c = sizes-lent (sizes c) (start-of (in-rows-of c) .pre .lent)
 
 -- the place of the entry is within the table
 within : (c : tie.In-loop Inv-loop μ-loop Inv-rows μ-rows) → c .before .loop .at < length (c .before .loop .entries)
@@ -103,15 +104,13 @@ left-sizes c = sizes-trans (sizes (in-loop-of c .before)) (follow-sizes c)
 -- ---- the needs
 
 rows-holds : tie.Need-rows-holds Inv-loop μ-loop Inv-rows μ-rows
-rows-holds c = let start = c .before .before .before .before .before .before .before .before .before in (refl, turn-begin _ _ _ _ (start .pre .1 .0 .some-row) (start .pre .1 .1 .0) (start .pre .1 .1 .1), sizes-refl, omega arith, kept-refl _ _ _ _)
+rows-holds c = let start = c .before .before .before .before .before .before .before .before .before in (refl, turn-begin _ _ _ _ (start .pre .lent .some-row) (start .pre .tables) (start .pre .known), sizes-refl, omega arith, kept-refl _ _ _ _)
 
 prepare-row-requires : tie.Need-prepare-row-requires Inv-loop μ-loop Inv-rows μ-rows
 prepare-row-requires c κs =
     let in-rows = c .before .before in
-    let start = start-of in-rows in (
-      (start .pre .0 .few-letters, start .pre .0 .few-streams, start .pre .0 .few-firsts),
-      (letters-key (row-key start (in-rows .before .rows .inv .1) (in-rows .rows-test .taken)), key-room in-rows, refl),
-    )
+    let start = start-of in-rows in
+    (key-preparable (start .pre .ready) (row-key start (in-rows .before .rows .inv .1) (in-rows .rows-test .taken)), key-room in-rows)
 
 loop-holds : tie.Need-loop-holds Inv-loop μ-loop Inv-rows μ-rows
 loop-holds c =
@@ -128,13 +127,19 @@ follow-requires c κs =
     let loop = in-loop .before .loop in
     let start = start-of (in-rows-of (in-loop .before)) in
     let b = start .args .bounds in
-    let l = lent (in-loop .before) in (
-      start .pre .0,
-      (
-        (row-key start (loop .inv .3) (loop .inv .1), letter-values (store start) (b .letters) (b .limit) (b .every) (l .values) (loop .a) (in-loop .loop-test .taken), loop .inv .1),
-        (loop .inv .3 .tables, ((l .few-rows, l .links-room, l .keys-room, l .flags-room), loop .inv .5)),
-      ),
-    )
+    let l = lent (in-loop .before) in
+    record {
+      ready = start .pre .ready;
+      key = row-key start (loop .inv .3) (loop .inv .1);
+      values = letter-values (store start) (b .letters) (b .limit) (b .every) (l .values) (loop .a) (in-loop .loop-test .taken);
+      is-row = loop .inv .1;
+      tables = loop .inv .3 .tables;
+      few-rows = l .few-rows;
+      links-room = l .links-room;
+      keys-room = l .keys-room;
+      flags-room = l .flags-room;
+      is-prepared = loop .inv .5;
+    }
 
 add-n : tie.Need-add-n Inv-loop μ-loop Inv-rows μ-rows
 add-n c = let at-loop = c .before .before .before .before .before .before .before .before .before .before .before .before .before .before .before .before .before in omega (arith, at-loop .loop .inv .3 .turn .within, lent at-loop .few-rows)
@@ -144,7 +149,7 @@ cast-entries c =
     let at = c .before .before .before .before .before .before .before .before .before in
     let in-loop = in-loop-of at in
     let loop = in-loop .before .loop in
-    record { fits = follow-fits _ _ _ _ (loop .inv .3) (loop .inv .1) (in-loop .loop-test .taken) (within in-loop) (lent (in-loop .before) .few-rows) (lent (in-loop .before) .flags-room) (at .follow .result) (at .follow .ensures .0) }
+    record { fits = follow-fits _ _ _ _ (loop .inv .3) (loop .inv .1) (in-loop .loop-test .taken) (within in-loop) (lent (in-loop .before) .few-rows) (lent (in-loop .before) .flags-room) (at .follow .result) (at .follow .ensures .followed) }
 
 mul-entries : tie.Need-mul-entries Inv-loop μ-loop Inv-rows μ-rows
 mul-entries c = let in-loop = c .before .before .before .before .before .before .before .before .before .before .before .before .before .before .before in omega (arith, within in-loop, sizes (in-loop .before) .entries-long, start-of (in-rows-of (in-loop .before)) .good)
@@ -168,9 +173,9 @@ loop-again c =
     let loop = in-loop .before .loop in
     ⊎-elim
     (λ w.
-    (loop .inv .0, rw (w .2) (omega (arith, loop .inv .1)), omega (arith, in-loop .loop-test .taken), rw (w .2) (follow-new _ _ _ _ (loop .inv .3) (loop .inv .1) (in-loop .loop-test .taken) (within in-loop) (lent (in-loop .before) .few-rows) (lent (in-loop .before) .flags-room) (at .follow .result) (at .follow .ensures .0) (w .0 .taken) (w .1 .left)), sizes-stored (loop .at) (at .follow .result) (sizes-trans (loop .inv .4) (follow-sizes at)), at .follow .ensures .1, rw (w .2) (kept-new _ _ _ _ (loop .inv .3) (loop .inv .1) (in-loop .loop-test .taken) (within in-loop) (lent (in-loop .before) .few-rows) (lent (in-loop .before) .flags-room) (at .follow .result) (at .follow .ensures .0) (w .0 .taken) (w .1 .left) (loop .inv .6))))
+    (loop .inv .0, rw (w .2) (omega (arith, loop .inv .1)), omega (arith, in-loop .loop-test .taken), rw (w .2) (follow-new _ _ _ _ (loop .inv .3) (loop .inv .1) (in-loop .loop-test .taken) (within in-loop) (lent (in-loop .before) .few-rows) (lent (in-loop .before) .flags-room) (at .follow .result) (at .follow .ensures .followed) (w .0 .taken) (w .1 .left)), sizes-stored (loop .at) (at .follow .result) (sizes-trans (loop .inv .4) (follow-sizes at)), at .follow .ensures .is-prepared, rw (w .2) (kept-new _ _ _ _ (loop .inv .3) (loop .inv .1) (in-loop .loop-test .taken) (within in-loop) (lent (in-loop .before) .few-rows) (lent (in-loop .before) .flags-room) (at .follow .result) (at .follow .ensures .followed) (w .0 .taken) (w .1 .left) (loop .inv .6))))
     (λ w.
-    (loop .inv .0, rw (w .1) (loop .inv .1), omega (arith, in-loop .loop-test .taken), rw (w .1) (follow-old _ _ _ _ (loop .inv .3) (loop .inv .1) (in-loop .loop-test .taken) (within in-loop) (lent (in-loop .before) .few-rows) (lent (in-loop .before) .flags-room) (at .follow .result) (at .follow .ensures .0) (w .0 .left)), sizes-stored (loop .at) (at .follow .result) (sizes-trans (loop .inv .4) (follow-sizes at)), at .follow .ensures .1, rw (w .1) (kept-old _ _ _ _ (loop .inv .3) (loop .inv .1) (in-loop .loop-test .taken) (within in-loop) (lent (in-loop .before) .few-rows) (lent (in-loop .before) .flags-room) (at .follow .result) (at .follow .ensures .0) (w .0 .left) (loop .inv .6))))
+    (loop .inv .0, rw (w .1) (loop .inv .1), omega (arith, in-loop .loop-test .taken), rw (w .1) (follow-old _ _ _ _ (loop .inv .3) (loop .inv .1) (in-loop .loop-test .taken) (within in-loop) (lent (in-loop .before) .few-rows) (lent (in-loop .before) .flags-room) (at .follow .result) (at .follow .ensures .followed) (w .0 .left)), sizes-stored (loop .at) (at .follow .result) (sizes-trans (loop .inv .4) (follow-sizes at)), at .follow .ensures .is-prepared, rw (w .1) (kept-old _ _ _ _ (loop .inv .3) (loop .inv .1) (in-loop .loop-test .taken) (within in-loop) (lent (in-loop .before) .few-rows) (lent (in-loop .before) .flags-room) (at .follow .result) (at .follow .ensures .followed) (w .0 .left) (loop .inv .6))))
     (c .if1 .came)
 
 add-s : tie.Need-add-s Inv-loop μ-loop Inv-rows μ-rows
@@ -224,7 +229,7 @@ returns-2 c =
     let at = c .before .before .before .before .before .before .before .before .before .before in
     let in-loop = in-loop-of at in
     let loop = in-loop .before .loop in (
-      follow-full _ _ _ _ (loop .inv .3) (loop .inv .1) (in-loop .loop-test .taken) (within in-loop) (lent (in-loop .before) .few-rows) (lent (in-loop .before) .flags-room) (at .follow .result) (at .follow .ensures .0) (c .before .if1 .taken) (c .if2 .taken),
+      follow-full _ _ _ _ (loop .inv .3) (loop .inv .1) (in-loop .loop-test .taken) (within in-loop) (lent (in-loop .before) .few-rows) (lent (in-loop .before) .flags-room) (at .follow .result) (at .follow .ensures .followed) (c .before .if1 .taken) (c .if2 .taken),
       λ e. true-not-false e,
     )
 

@@ -1,21 +1,21 @@
--- `extend` meets its contract: what is too long is cut, so that each step is safe. A stored sheet within the bounds is not cut; for its keys, letters and what is
--- prepared, with the letter's values put after it, what is prepared is what the step's definition reads from the key, and `finish` does the rest.
-use Prim.Native.Nat.{ℕ, _+_, _-_, _*_, _≤_}
-use mathlib.Core.Path.{_≡_, sym, ap, _∙_, subst}
-use mathlib.Core.List.{List, [], _∷_, _++_}
+-- `extend` meets its contract: what is too long is cut, so that each step is safe; the letter's values are put after what is prepared, and `finish` does
+-- the rest for the parts of the key and of the list.
+use Prim.Native.Nat.{ℕ, _+_, _*_, _≤_, min}
+use mathlib.Core.Path.{_≡_, refl, sym, ap, _∙_, subst}
+use mathlib.Core.List.{[], _∷_, _++_}
 use native.Mathlib.Omega.{arith}
-use lib.IntN.{ℤ}
 use lib.ListN.{length, take, drop}
-use lib.Seq.{length-take-le, take-all}
+use lib.Seq.{length-take-le}
 use borrow.Author.Needs.{needs}
 use borrow.Author.Tests.{not-true, not-false}
+use Rattle.basics.proofs.Answers.{says-yes, says-no}
 use Rattle.sheet.specs.Refusal.{windowBound, firstBound}
-use Rattle.marks.proofs.Laws.{says-yes, says-no}
-use Rattle.sizes.specs.Room.{keySize}
+use Rattle.sizes.specs.Room.{windowRoom, preparedSize}
 use Rattle.extend.specs.Key.{firstsIn}
-use Rattle.extend.specs.Step.{Store, storeOf, IsReady, HasValues, windowRoom, preparedSize, Prepared, Extended}
-use Rattle.extend.proofs.PreparedLaws.{one-more, window-room, letters-is, letters-part-long, firsts-is, firsts-part-long, firsts-known, values-after, prepared-again}
-use Rattle.extend.proofs.StepLaws.{part-ready, finished-extended}
+use Rattle.extend.specs.Step.{Store, storeOf, IsReady, constraintsWithin, withinBounds, withLetterAfter, SizesFit, Continues}
+use Rattle.extend.proofs.Parts.{part-size}
+use Rattle.extend.proofs.PreparedLaws.{one-more, window-room, letters-is, letters-part-long, firsts-is, firsts-part-long}
+use Rattle.extend.proofs.ExtendLaws.{within-ready, part-ready, finished-parts}
 use Rattle.extend.proofs.extend.Statement.{statement}
 use Rattle.extend.proofs.extend.Tie as tie
 
@@ -24,8 +24,8 @@ use Rattle.extend.proofs.extend.Tie as tie
 abbrev start-of : tie.Else1 → tie.Start
 start-of c = c .before .before .before .before .before .before .before .before
 
-room : (c : tie.Else1) → let a = start-of c .args in (length (a .key .now) ≡ keySize) × (length (a .prepared .now) ≡ preparedSize) × (length (a .fresh .now) ≡ keySize)
-room c = says-yes (not-false (c .before .has-room .result) (c .if1 .left)) (c .before .has-room .ensures)
+room : (c : tie.Else1) → let a = start-of c .args in SizesFit (length (a .key .now)) (length (a .prepared .now)) (length (a .fresh .now))
+room c = says-yes (not-false (c .before .has-sizes .result) (c .if1 .left)) (c .before .has-sizes .ensures)
 
 -- ---- what is cut
 
@@ -70,33 +70,20 @@ module _ (c : tie.After-add-letter) where
   firsts-left : length (take (firsts-count c) (a .args .first-nodes .now)) ≡ firsts-count c
   firsts-left = length-take-le (firsts-count c) (a .args .first-nodes .now) (firsts-counted .0)
 
-  ready : IsReady (cut c)
-  ready =
+  -- what is left is the stored sheet within the bounds
+  cut-is : cut c ≡ withinBounds (store a)
+  unfolding withinBounds
+  cut-is =
       let few = c .before .before .before .before .before .before .before .before .bounded .ensures in
-      let left = length-take-le (count c) (a .args .relations .now) (counted .0) in
-      record {
-        few-letters = omega (arith, few .2);
-        few-streams = omega (arith, few .0);
-        lefts-long = length-take-le (count c) (a .args .lefts .now) (counted .1) ∙ sym left;
-        rights-long = length-take-le (count c) (a .args .rights .now) (counted .2) ∙ sym left;
-        few-constraints = omega (arith, left, counted .3);
-        few-firsts = omega (arith, firsts-left, firsts-counted .1);
-      }
-
-  -- A stored sheet within the bounds is not cut.
-  whole : IsReady (store a) → cut c ≡ store a
-  whole good =
       let one = c .before .before .before .before .before .before .before .fewer .ensures in
       let two = c .before .before .before .before .before .before .fewer2 .ensures in
       let three = c .before .before .before .before .before .fewer3 .ensures in
-      let few = c .before .before .before .before .before .before .before .before .bounded .ensures in
-      let relations = take-all (count c) (a .args .relations .now) (omega (arith, one, two, three, good .lefts-long, good .rights-long, good .few-constraints)) in
-      let lefts = take-all (count c) (a .args .lefts .now) (omega (arith, one, two, three, good .lefts-long, good .rights-long, good .few-constraints)) in
-      let rights = take-all (count c) (a .args .rights .now) (omega (arith, one, two, three, good .lefts-long, good .rights-long, good .few-constraints)) in
-      let firsts = take-all (firsts-count c) (a .args .first-nodes .now) (omega (arith, c .before .before .before .before .fewer4 .ensures, good .few-firsts)) in
-      let streams : c .before .before .before .before .before .before .before .before .bounded .result .streams ≡ a .args .dimensions .streams = omega (arith, few .0, good .few-streams) in
-      let width : c .before .before .before .before .before .before .before .before .bounded .result .width ≡ a .args .dimensions .width = omega (arith, few .2, good .few-letters) in
-      λ i. storeOf (a .args .kinds .now) (a .args .values .now) (a .args .starts .now) (relations i) (lefts i) (rights i) (firsts i) (a .args .letter-values .now) (streams i) (few .1 i) (width i)
+      let counts : count c ≡ constraintsWithin (store a) = three ∙ (λ i. min (one i) (two i)) in
+      let firsts = c .before .before .before .before .fewer4 .ensures in
+      λ i. storeOf (a .args .kinds .now) (a .args .values .now) (a .args .starts .now) (take (counts i) (a .args .relations .now)) (take (counts i) (a .args .lefts .now)) (take (counts i) (a .args .rights .now)) (take (firsts i) (a .args .first-nodes .now)) (a .args .letter-values .now) (few .0 i) (few .1 i) (few .2 i)
+
+  ready : IsReady (cut c)
+  ready = subst IsReady (sym cut-is) (within-ready (store a))
 
 -- ---- after the letter's values are put there
 
@@ -113,15 +100,15 @@ known-long c = c .add-letter .kept .0 ∙ room (test-of c) .1
 window-fits : (c : tie.After-add-letter) → (held c + 1) * cut c .streams ≤ length (c .add-letter .last .0)
 window-fits c = omega (arith, one-more (held c) (cut c .streams), window-room {n = held c} (ready c .few-streams) (few-held c), known-long c)
 
--- what is prepared for the key in a stored sheet
-abbrev IsPrepared : Store → List ℕ → List ℤ → Type 0
-IsPrepared K key prepared = Prepared (K .letterValues) (K .streams) (K .width) (length (K .firstNodes)) key prepared
-
-has-room-requires : tie.Need-has-room-requires
-has-room-requires c κs = search needs
+has-sizes-requires : tie.Need-has-sizes-requires
+has-sizes-requires c κs = search needs
 
 returns : tie.Need-returns
-returns c = λ good key values fresh prepared. absurd (says-no (not-true (c .before .has-room .result) (c .if1 .taken)) (c .before .has-room .ensures) (key .long, prepared .long, fresh))
+returns c =
+    record {
+      done = λ fit. absurd (says-no (not-true (c .before .has-sizes .result) (c .if1 .taken)) (c .before .has-sizes .ensures) fit);
+      refused = λ misfit. (refl, refl, refl);
+    }
 
 bounded-requires : tie.Need-bounded-requires
 bounded-requires c κs = search needs
@@ -214,7 +201,7 @@ finish-requires c κs =
     let at = c .before .before .before .before .before .before .before .before .before .before .before .before in
     let a = begun at .args in
     let fewer = at .before .before .fewer5 in (
-      part-ready _ _ _ _ _ _ _ (a .letter-values .now) _ _ _ (ready at),
+      part-ready (cut at) (ready at),
       (
         omega (arith, letters-part-long (a .key .now) (room (test-of at) .0) (cut at .width) (held at) (fewer .ensures) (ready at .few-letters), fewer .ensures),
         omega (arith, firsts-part-long (a .key .now) (room (test-of at) .0) (firsts-count at) (firsts-counted at .1), firsts-counted at .1),
@@ -232,27 +219,29 @@ returns-2 : tie.Need-returns-2
 returns-2 c =
     let at = c .before .before .before .before .before .before .before .before .before .before .before .before .before .before .before in
     let a = begun at .args in
+    let key = a .key .now in
     let fewer = at .before .before .fewer5 in
     let put = at .add-letter in
-    λ good key values fresh prepared.
-    let same = whole at good in
-    let p = subst (λ K. IsPrepared K (a .key .now) (a .prepared .now)) (sym same) prepared in
-    let inside = put .ensures .0 (subst (λ K. HasValues K (a .letter)) (sym same) values .inside) in
-    subst (λ K. Extended K (a .key .now) (a .letter) (c .before .before .finish .result) (c .before .before .finish .last .1 .1 .1 .1 .1 .1 .1 .1 .1 .1 .1 .1 .1 .1 .1 .0) × IsPrepared K (a .key .now) (put .last .0)) same (
-      finished-extended _ _ _ _ _ _ _ (a .letter-values .now) _ _ _ (a .key .now) (a .letter)
-          (values-after p (put .last .0) (held at) (a .letter) (fewer .ensures) inside)
-          (ap (λ n. take (windowRoom + n - windowRoom) (drop windowRoom (put .last .0))) (sym (firsts-left at)) ∙ firsts-known p (put .last .0) (put .ensures .1))
-          (ap (_++ (a .letter ∷ [])) (letters-is (a .key .now) (key .long) (cut at .width) (held at) (fewer .ensures) (ready at .few-letters)))
-          (firsts-is (a .key .now) (key .long) (firsts-count at) (firsts-counted at .1) ∙ ap (λ n. firstsIn n (a .key .now)) (sym (firsts-left at)))
-          (c .before .before .finish .ensures),
-      prepared-again p (put .last .0) (held at) (a .letter) (fewer .ensures) inside (ready at .few-letters) (ready at .few-streams) (put .ensures .1) (put .kept .0),
-    )
+    let sizes = room (test-of at) in
+    record {
+      done = λ fit. subst (λ K. Continues K key (a .letter) (a .prepared .now) (a .fresh .now) (put .last .0) (c .before .before .finish .last .1 .1 .1 .1 .1 .1 .1 .1 .1 .1 .1 .1 .1 .1 .1 .0) (c .before .before .finish .result)) (cut-is at)
+          (record {
+            put = put .ensures ∙ ap (λ n. withLetterAfter (cut at .streams) (a .letter-values .now) n (a .letter) (a .prepared .now)) (fewer .ensures);
+            finished = finished-parts (cut at) key (a .letter) (put .last .0)
+                (ap (λ n. take ((n + 1) * cut at .streams) (put .last .0)) (fewer .ensures))
+                (ap (λ n. take n (drop windowRoom (put .last .0))) (part-size windowRoom (firsts-count at) ∙ sym (firsts-left at)))
+                (ap (_++ (a .letter ∷ [])) (letters-is key (sizes .0) (cut at .width) (held at) (fewer .ensures) (ready at .few-letters)))
+                (firsts-is key (sizes .0) (firsts-count at) (firsts-counted at .1) ∙ ap (λ n. firstsIn n key) (sym (firsts-left at)))
+                (c .before .before .finish .ensures);
+          });
+      refused = λ misfit. absurd (misfit sizes);
+    }
 
 pub extend-spec : {M : Type 1} → statement M
 extend-spec =
     tie.close
     (tie.spec
-    has-room-requires
+    has-sizes-requires
     returns
     bounded-requires
     fewer-requires

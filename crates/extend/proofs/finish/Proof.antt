@@ -1,6 +1,6 @@
 -- `finish` meets its contract: the longer record is judged, and its key is written from its parts.
 use Prim.Native.Nat.{ℕ, _+_, _-_, _≤_}
-use mathlib.Core.Path.{_≡_, _∙_, sym, ap}
+use mathlib.Core.Path.{_≡_, refl, _∙_, sym, ap}
 use mathlib.Core.List.{List, [], _∷_, _++_}
 use native.Mathlib.Omega.{arith}
 use lib.Dec.{leb}
@@ -9,6 +9,7 @@ use lib.Seq.{length-take-le}
 use borrow.Author.Needs.{needs}
 use borrow.Author.Tests.{not-true, not-false}
 use Rattle.sheet.specs.Refusal.{windowBound}
+use Rattle.basics.proofs.Tests.{not-both}
 use Rattle.nodes.specs.Evaluate.{view}
 use Rattle.extend.specs.Key.{encodedKey}
 use Rattle.extend.specs.Step.{Store, storeOf, judgedIn}
@@ -49,7 +50,8 @@ returns c =
     let at = c .before .before in
     record {
       answer = sym (not-true (at .judge-letter .result .ok) (c .if1 .taken)) ∙ ap (λ j. j .ok) (judged-is at);
-      new = λ e. let z : _≡_ {A = ℕ} 0 1 = cc in absurd (omega arith);
+      new = λ e. not-both e;
+      kept = λ e. refl;
     }
 
 slice-aggregate-firsts-after : tie.Need-slice-aggregate-firsts-after
@@ -123,6 +125,7 @@ returns-2 c =
     record {
       answer = sym (not-false (at .judge-letter .result .ok) (c .before .before .before .before .before .before .before .before .before .before .before .if1 .left)) ∙ ap (λ j. j .ok) judged;
       new = λ e. c .before .before .write-key .ensures ∙ (λ i. encodedKey (sym (all-long start) i) (letters i) (c .before .before .before .before .before .before .before .before .before .firsts-after .ensures .0 i) (judged i .marks));
+      kept = λ e. not-both (sym e);
     }
 
 pub finish-spec : {M : Type 1} → statement M

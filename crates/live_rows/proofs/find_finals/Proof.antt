@@ -1,7 +1,7 @@
 -- `live_rows::find_finals` meets its contract: each pass starts from what the pass before left.
 use mathlib.Core.Path.{refl, _∙_}
 use borrow.Author.Tests.{not-true, not-false}
-use Rattle.marks.proofs.Laws.{says-yes, says-no}
+use Rattle.basics.proofs.Answers.{says-yes, says-no}
 use Rattle.live_rows.proofs.Loops.{finds-finals}
 use borrow.Author.Needs.{needs}
 use Rattle.live_rows.proofs.find_finals.Statement.{statement}

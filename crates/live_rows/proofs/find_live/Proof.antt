@@ -2,7 +2,7 @@
 use mathlib.Core.Path.{refl, _∙_}
 use native.Mathlib.Omega.{arith}
 use borrow.Author.Tests.{not-true, not-false}
-use Rattle.marks.proofs.Laws.{says-yes, says-no}
+use Rattle.basics.proofs.Answers.{says-yes, says-no}
 use Rattle.live_rows.proofs.Loops.{finds-live}
 use borrow.Author.Needs.{needs}
 use Rattle.live_rows.proofs.find_live.Statement.{statement}

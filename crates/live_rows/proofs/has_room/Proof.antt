@@ -1,7 +1,7 @@
 -- `live_rows::has_room` meets its contract.
 use native.Mathlib.Omega.{arith}
-use Rattle.marks.proofs.Laws.{says-both}
 use borrow.Author.Needs.{needs}
+use Rattle.basics.proofs.Answers.{says-both}
 use Rattle.live_rows.proofs.has_room.Statement.{statement}
 use Rattle.live_rows.proofs.has_room.Tie as tie
 

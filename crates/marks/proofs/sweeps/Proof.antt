@@ -4,7 +4,7 @@ use mathlib.Core.Path.{_≡_, refl, _∙_}
 use native.Mathlib.Omega.{arith}
 use borrow.Author.Tests.{not-true, not-false}
 use lib.ListN.{length}
-use Rattle.marks.specs.Sweeps.{rows-left, Turns}
+use Rattle.marks.specs.Sweeps.{rowsLeft, Turns}
 use Rattle.marks.proofs.Sweeping.{turns-none, turns-then, swept-fewer, swept-closed}
 use Rattle.marks.proofs.sweeps.Statement.{statement}
 use Rattle.marks.proofs.sweeps.Tie as tie
@@ -13,7 +13,7 @@ abbrev Inv-loop : tie.InvT-loop
 Inv-loop entries letters to marks₀ marks = (length marks ≡ length marks₀) × Turns to letters entries marks₀ marks
 
 abbrev μ-loop : tie.MeasureT-loop
-μ-loop entries letters to marks₀ marks = rows-left to marks
+μ-loop entries letters to marks₀ marks = rowsLeft to marks
 
 -- the marks after a sweep down
 after-down : (c : tie.After-sweep-down Inv-loop μ-loop) → Inv-loop (c .before .before .before .before .before .args .entries .now) (c .before .before .before .before .before .args .letters) (c .before .before .before .before .before .args .to) (c .before .before .before .before .before .args .marks .now) (c .sweep-down .last .1 .1 .1 .0)

@@ -2,7 +2,7 @@
 use native.Mathlib.Omega.{arith}
 use borrow.Author.Tests.{not-true, not-false}
 use lib.ListN.{length}
-use Rattle.marks.proofs.Laws.{row-fits}
+use Rattle.basics.proofs.Lists.{row-fits}
 use Rattle.marks.proofs.Sweeping.{settled-mark, settled-successor, swept-keep, swept-turn}
 use borrow.Author.Needs.{needs}
 use Rattle.marks.proofs.turn_row.Statement.{statement}

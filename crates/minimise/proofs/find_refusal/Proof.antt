@@ -3,7 +3,7 @@ use mathlib.Core.Path.{refl}
 use mathlib.Core.Logic.{inl, inr}
 use native.Mathlib.Omega.{arith}
 use borrow.Author.Tests.{not-true, not-false}
-use Rattle.marks.proofs.Laws.{says-yes, says-no}
+use Rattle.basics.proofs.Answers.{says-yes, says-no}
 use Rattle.minimise.proofs.Reducing.{reduced-empty}
 use borrow.Author.Needs.{needs}
 use Rattle.minimise.proofs.find_refusal.Statement.{statement}

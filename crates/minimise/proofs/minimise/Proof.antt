@@ -2,7 +2,7 @@
 use mathlib.Core.Path.{refl, ap₂, _∙_}
 use mathlib.Core.List.{_∷_}
 use native.Mathlib.Omega.{arith}
-use Rattle.marks.proofs.Clearing.{zeroed}
+use Rattle.basics.proofs.Clearing.{zeroed}
 use Rattle.minimise.proofs.Outcome.{ran-fits, ran-outcome}
 use borrow.Author.Needs.{needs}
 use Rattle.minimise.proofs.minimise.Statement.{statement}

@@ -3,7 +3,7 @@ use Prim.Native.Nat.{_≤_, _-_, _+_, _*_}
 use native.Mathlib.Nat.{mul-le-mul-right}
 use native.Mathlib.Omega.{arith}
 use lib.ListN.{length, getD}
-use Rattle.marks.proofs.Laws.{row-fits}
+use Rattle.basics.proofs.Lists.{row-fits}
 use Rattle.minimise.proofs.Compacting.{first-least, IsCompacting, compacting-start, compacting-next, compacting-end}
 use borrow.Author.Needs.{needs}
 use Rattle.minimise.proofs.move_rows.Statement.{statement}

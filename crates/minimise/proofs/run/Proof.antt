@@ -9,7 +9,7 @@ use lib.ListN.{length, take, drop}
 use lib.Seq.{length-take-le, take-at}
 use borrow.Table.Elements.{same-len}
 use borrow.Author.Tests.{not-true, not-false}
-use Rattle.marks.proofs.Laws.{says-yes, says-no}
+use Rattle.basics.proofs.Answers.{says-yes, says-no}
 use Rattle.minimise.specs.Outcome.{WorkHasRoom}
 use Rattle.minimise.proofs.Reducing.{judged-word, word-rows, judged-ran, tabled-ran}
 use borrow.Author.Needs.{needs}

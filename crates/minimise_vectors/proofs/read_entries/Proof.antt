@@ -1,4 +1,4 @@
--- `minimise_vectors::read_entries` is safe and ends.
+-- `minimise_vectors::read_entries` is safe and ends: the table keeps its length, and a place within its bytes and the text's fits.
 use Prim.Native.Nat.{_-_}
 use mathlib.Core.Path.{_≡_}
 use lib.ListN.{length}
@@ -7,13 +7,25 @@ use Rattle.minimise_vectors.proofs.read_entries.Statement.{statement}
 use Rattle.minimise_vectors.proofs.read_entries.Tie as tie
 
 abbrev Inv-loop : tie.InvT-loop
-Inv-loop text from entries₀ at₀ i₀ entries at i = length entries ≡ length entries₀
+Inv-loop heading text entries₀ flags size i₀ entries i = length entries ≡ length entries₀
 
 abbrev μ-loop : tie.MeasureT-loop
-μ-loop text from entries₀ at₀ i₀ entries at i = length entries₀ - i
+μ-loop heading text entries₀ flags size i₀ entries i = size - i
+
+bytes-lent-requires : tie.Need-bytes-lent-requires Inv-loop μ-loop
+bytes-lent-requires c κs = search needs
+
+entries-lent-requires : tie.Need-entries-lent-requires Inv-loop μ-loop
+entries-lent-requires c κs = search needs
 
 loop-holds : tie.Need-loop-holds Inv-loop μ-loop
 loop-holds c = search needs
+
+mul-number : tie.Need-mul-number Inv-loop μ-loop
+mul-number c = search needs
+
+add-number : tie.Need-add-number Inv-loop μ-loop
+add-number c = search needs
 
 number-requires : tie.Need-number-requires Inv-loop μ-loop
 number-requires c κs = search needs
@@ -48,7 +60,11 @@ read-entries-spec =
     (tie.spec
     Inv-loop
     μ-loop
+    bytes-lent-requires
+    entries-lent-requires
     loop-holds
+    mul-number
+    add-number
     number-requires
     cast-entries
     mul-entries

@@ -8,7 +8,7 @@ use lib.IntN.{pos}
 use lib.ListN.{getD}
 use borrow.Author.Needs.{needs}
 use Rattle.normal.specs.Fields.{leftBehind, rightBehind}
-use Rattle.normal.specs.Table.{rowAt, storedPlace}
+use Rattle.normal.specs.Table.{rowIn, storedPlace}
 use Rattle.normal.proofs.Entries.{entry-beyond, entry-within}
 use Rattle.normal.proofs.entry_at.Statement.{statement}
 use Rattle.normal.proofs.entry_at.Tie as tie
@@ -145,7 +145,7 @@ returns-2 : tie.Need-returns-2
 returns-2 c =
     let a = c .before .before .before .before .before .before .before .before .before .before .before .before .before .before .before .before .before .before .before .before .before .before .args in
     let numbers = a .numbers .now in
-    let row = rowAt numbers (a .i) in
+    let row = rowIn numbers (a .i) in
     let is-left = c .before .before .before .before .before .before .before .before .before .before .before .before .before .before .before .before .before .left-is-node .ensures in
     let is-right = c .before .before .before .before .before .before .before .before .before .before .before .before .before .before .before .before .right-is-node .ensures in
     let before-left : c .before .before .before .before .before .before .before .before .before .before .before .before .before .behind-node .result ≡ leftBehind row = c .before .before .before .before .before .before .before .before .before .before .before .before .before .behind-node .ensures ∙ (λ k. cond (is-left k) (suc (row .left)) (c .before .before .before .before .before .before .before .before .before .before .before .before .before .before .wide .ensures k)) in

@@ -8,12 +8,13 @@ use native.Mathlib.Omega.{arith}
 use lib.ListN.{length}
 use borrow.Author.Needs.{needs}
 use borrow.Author.Tests.{not-true, not-false}
+use Rattle.scan.proofs.Codes.{no-prefix}
 use Rattle.text.specs.Bytes.{bytesOf, tokens}
 use Rattle.parse.specs.Numbered.{tokensFrom}
 use Rattle.parse.proofs.Numbers.{token-within, token-empty, token-tokens, token-number, placed-later}
 use Rattle.parse.proofs.Store.{below-refl, below-trans}
 use Rattle.parse.proofs.Readers.{part-empty, word-is, word-number, operator-at}
-use Rattle.parse.proofs.Parts.{reading-missing, reading-found, found-placed, number-placed, firsts-inside-most, no-prefix, leaf-reading, open-missing, partner-forward, inside-placed, inside-length, bracket-missing, bracket-longer, closing-stored, bracket-found}
+use Rattle.parse.proofs.Parts.{reading-missing, reading-found, found-placed, number-placed, firsts-inside-most, leaf-reading, open-missing, partner-forward, inside-placed, inside-length, bracket-missing, bracket-longer, closing-stored, bracket-found}
 use Rattle.parse.proofs.Prefixes.{passes-later, passes-length, passes-room, passes-missing, passes-front}
 use Rattle.parse.proofs.Expressions.{if-reading, part-missing, part-alone, second-missing, second-found, condition-missing, then-missing, then-number, then-fewer, branch-missing, else-missing, else-number, else-fewer, last-missing, last-found}
 use borrow.Fn.Kinds.{In}

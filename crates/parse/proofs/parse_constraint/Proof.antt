@@ -38,8 +38,8 @@ unread-requires-2 c κs = search needs
 returns-2 : tie.Need-returns-2
 returns-2 c = too-long (λ w. omega (arith, c .before .if2 .taken, w .firsts)) (c .unread2 .ensures)
 
-has-room-requires : tie.Need-has-room-requires
-has-room-requires c κs = search needs
+tokens-fit-requires : tie.Need-tokens-fit-requires
+tokens-fit-requires c κs = search needs
 
 unread-requires-3 : tie.Need-unread-requires-3
 unread-requires-3 c κs = search needs
@@ -47,24 +47,24 @@ unread-requires-3 c κs = search needs
 returns-3 : tie.Need-returns-3
 returns-3 c =
     let a = c .before .before .before .before .before .before .before .args in
-    too-long (no-room (a .line .now) (a .from) (a .firsts) (c .before .before .has-room .ensures) (not-true (c .before .before .has-room .result) (c .before .if3 .taken))) (c .unread3 .ensures)
+    too-long (no-room (a .line .now) (a .from) (a .firsts) (c .before .before .tokens-fit .ensures) (not-true (c .before .before .tokens-fit .result) (c .before .if3 .taken))) (c .unread3 .ensures)
 
 store-token-starts-requires : tie.Need-store-token-starts-requires
 store-token-starts-requires c κs =
     let a = c .before .before .before .before .before .before .before .args in
-    room (a .line .now) (a .from) (a .firsts) (c .before .before .has-room .ensures) (not-false (c .before .before .has-room .result) (c .before .if3 .left)) (c .before .before .before .before .if1 .left)
+    room (a .line .now) (a .from) (a .firsts) (c .before .before .tokens-fit .ensures) (not-false (c .before .before .tokens-fit .result) (c .before .if3 .left)) (c .before .before .before .before .if1 .left)
 
 sides-requires : tie.Need-sides-requires
 sides-requires c κs =
     let at-start = c .before .before .before .before .before .before .before .before .before .before .before .before .before in
     let at-if1 = c .before .before .before .before .before .before .before .before .before .before .if1 in
     let at-if2 = c .before .before .before .before .before .before .before .before .before .if2 in
-    let at-has-room = c .before .before .before .before .before .before .before .before .has-room in
+    let at-tokens-fit = c .before .before .before .before .before .before .before .before .tokens-fit in
     let at-if3 = c .before .before .before .before .before .before .before .if3 in
     let at-store-token-starts = c .before .before .before .before .before .store-token-starts in
     let size = c .before .before .before .sides-arg2 .given .0 in
     let line = at-start .args .line .now in
-    let fits = room line (at-start .args .from) (at-start .args .firsts) (at-has-room .ensures) (not-false (at-has-room .result) (at-if3 .left)) (at-if1 .left) in
+    let fits = room line (at-start .args .from) (at-start .args .firsts) (at-tokens-fit .ensures) (not-false (at-tokens-fit .result) (at-if3 .left)) (at-if1 .left) in
     let last = at-store-token-starts .ensures .0 in
     let count = last ∙ ap (λ n. at-start .args .from + n) (sym (token-starts-length line)) in
     (record { nodes = fits; firsts = at-if2 .left }, (omega arith, omega arith, stored-starts (at-start .args .token-starts .now) (at-start .args .from) (tokenStarts line) (at-store-token-starts .ensures .1) count (omega arith)))
@@ -74,9 +74,9 @@ returns-4 c =
     let a = c .before .before .before .before .before .before .before .before .before .before .before .before .before .before .args in
     let at-if1 = c .before .before .before .before .before .before .before .before .before .before .before .if1 in
     let at-if2 = c .before .before .before .before .before .before .before .before .before .before .if2 in
-    let at-has-room = c .before .before .before .before .before .before .before .before .before .has-room in
+    let at-tokens-fit = c .before .before .before .before .before .before .before .before .before .tokens-fit in
     let at-if3 = c .before .before .before .before .before .before .before .before .if3 in
-    let fits = room (a .line .now) (a .from) (a .firsts) (at-has-room .ensures) (not-false (at-has-room .result) (at-if3 .left)) (at-if1 .left) in
+    let fits = room (a .line .now) (a .from) (a .firsts) (at-tokens-fit .ensures) (not-false (at-tokens-fit .result) (at-if3 .left)) (at-if1 .left) in
     (areStored (record { nodes = fits; firsts = at-if2 .left }) (c .before .before .before .before .before .before .store-token-starts .ensures .1), c .sides .ensures)
 
 pub parse-constraint-spec : {M : Type 1} → statement M
@@ -87,7 +87,7 @@ parse-constraint-spec =
     returns
     unread-requires-2
     returns-2
-    has-room-requires
+    tokens-fit-requires
     unread-requires-3
     returns-3
     store-token-starts-requires

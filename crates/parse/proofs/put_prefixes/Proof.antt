@@ -10,7 +10,7 @@ use borrow.Author.Needs.{needs}
 use Rattle.nodes.specs.Evaluate.{stored}
 use Rattle.parse.specs.Numbered.{tokensFrom}
 use Rattle.parse.specs.Reading.{prefixValue}
-use Rattle.parse.specs.Prefixes.{readUpTo, Passes, Leads}
+use Rattle.parse.specs.Prefixes.{readUpTo, Passes, ReadLeads}
 use Rattle.parse.proofs.Numbers.{token-within, placed-later}
 use Rattle.parse.proofs.Prefixes.{passes-room, last-passed, kind-is, before-is, leads-none, leads-more, leads-end}
 use Rattle.parse.proofs.put_prefixes.Statement.{statement}
@@ -19,7 +19,7 @@ use Rattle.parse.proofs.put_prefixes.Tie as tie
 abbrev Inv-loop : tie.InvT-loop
 Inv-loop text origin token-starts at kinds₀ values₀ starts₀ nodes firsts inner number₀ inside₀ last₀ kinds values starts number inside last =
     Passes (tokensFrom text origin token-starts) at firsts number inside
-    × Leads (tokensFrom text origin token-starts) nodes number₀ inside₀ (stored kinds₀ values₀ starts₀) inner number inside (stored kinds values starts) (readUpTo inner last)
+    × ReadLeads (tokensFrom text origin token-starts) nodes number₀ inside₀ (stored kinds₀ values₀ starts₀) inner number inside (stored kinds values starts) (readUpTo inner last)
     × (nodes ≤ last)
     × (last + number ≤ 1024 + at)
 

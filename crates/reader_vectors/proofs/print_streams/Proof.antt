@@ -29,17 +29,11 @@ mul-high c = search needs
 element-copy-out-high : tie.Need-element-copy-out-high Inv-loop μ-loop
 element-copy-out-high c = search needs
 
-mul-print-name : tie.Need-mul-print-name Inv-loop μ-loop
-mul-print-name c = search needs
+mul-print-stream : tie.Need-mul-print-stream Inv-loop μ-loop
+mul-print-stream c = search needs
 
-print-name-requires : tie.Need-print-name-requires Inv-loop μ-loop
-print-name-requires c κs = search needs
-
-print-signed-requires : tie.Need-print-signed-requires Inv-loop μ-loop
-print-signed-requires c κs = search needs
-
-print-signed-requires-2 : tie.Need-print-signed-requires-2 Inv-loop μ-loop
-print-signed-requires-2 c κs = search needs
+print-stream-requires : tie.Need-print-stream-requires Inv-loop μ-loop
+print-stream-requires c κs = search needs
 
 add-i : tie.Need-add-i Inv-loop μ-loop
 add-i c = search needs
@@ -65,10 +59,8 @@ print-streams-spec =
     element-copy-out-low
     mul-high
     element-copy-out-high
-    mul-print-name
-    print-name-requires
-    print-signed-requires
-    print-signed-requires-2
+    mul-print-stream
+    print-stream-requires
     add-i
     loop-less
     loop-again

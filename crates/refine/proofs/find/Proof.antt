@@ -4,7 +4,8 @@ use mathlib.Core.Path.{_≡_, refl}
 use mathlib.Core.Logic.{⊎-elim}
 use native.Mathlib.Omega.{arith}
 use lib.ListN.{length}
-use Rattle.marks.proofs.Laws.{says-yes, says-no, row-fits}
+use Rattle.basics.proofs.Lists.{row-fits}
+use Rattle.basics.proofs.Answers.{says-yes, says-no}
 use Rattle.refine.specs.Signatures.{SameSignature}
 use Rattle.refine.specs.Splitting.{here}
 use Rattle.refine.proofs.Chains.{Searching, searching-start, searching-next, searching-end}

@@ -6,8 +6,8 @@ use mathlib.Core.List.{List}
 use Prim.Native.Nat.{ℕ}
 use borrow.Author.Tests.{not-true, not-false}
 use native.Mathlib.Omega.{arith}
-use Rattle.marks.proofs.Laws.{says-yes, says-no}
-use Rattle.marks.proofs.Clearing.{zeroed}
+use Rattle.basics.proofs.Answers.{says-yes, says-no}
+use Rattle.basics.proofs.Clearing.{zeroed}
 use Rattle.refine.specs.Classes.{Sizes}
 use Rattle.refine.specs.Steps.{RefineOutcome}
 use borrow.Author.Needs.{needs}

@@ -5,7 +5,7 @@ use mathlib.Core.List.{List}
 use native.Mathlib.Omega.{arith}
 use native.Mathlib.Decide.{decLt}
 use lib.ListN.{length, getD, List·getD-eq-default}
-use Rattle.marks.proofs.Clearing.{zeros}
+use Rattle.basics.proofs.Clearing.{zeros}
 use borrow.Author.Needs.{needs}
 use Rattle.refine.proofs.round.Statement.{statement}
 use Rattle.refine.proofs.round.Tie as tie

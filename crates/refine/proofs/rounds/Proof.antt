@@ -7,7 +7,7 @@ use mathlib.Core.Bool.{true}
 use native.Mathlib.Omega.{arith}
 use borrow.Author.Tests.{not-true, not-false}
 use lib.ListN.{length}
-use Rattle.marks.proofs.Clearing.{zeros}
+use Rattle.basics.proofs.Clearing.{zeros}
 use Rattle.refine.proofs.Refinement.{slack, Going, going-start, going-ready, next-same, going-next, round-rises, round-refined, round-refined-before}
 use borrow.Author.Needs.{needs}
 use Rattle.refine.proofs.rounds.Statement.{statement}

@@ -5,8 +5,8 @@ use mathlib.Core.Path.{_≡_, refl, ap, _∙_}
 use mathlib.Core.Logic.{inl, inr}
 use native.Mathlib.Omega.{arith}
 use lib.ListN.{length, length-set}
-use Rattle.marks.proofs.Laws.{row-fits}
-use Rattle.refine.specs.Signatures.{bucketOf, rowBucket}
+use Rattle.basics.proofs.Lists.{row-fits}
+use Rattle.refine.specs.Signatures.{signatureBucket, rowBucket}
 use Rattle.refine.proofs.Chains.{joins-found, begins-missed}
 use borrow.Author.Needs.{needs}
 use Rattle.refine.proofs.split_row.Statement.{statement}
@@ -18,7 +18,7 @@ fits c = row-fits (c .args .row) (length (c .args .class .now)) (c .args .letter
 
 -- the bucket that was found is the row's
 its-bucket : (c : tie.After-bucket) → c .bucket .result ≡ rowBucket (length (c .before .before .before .before .before .before .before .args .heads .now)) (c .before .before .before .before .before .before .before .args .letters) (c .before .before .before .before .before .before .before .args .entries .now) (c .before .before .before .before .before .before .before .args .class .now) (c .before .before .before .before .before .before .before .args .row)
-its-bucket c = c .bucket .ensures .1 ∙ ap (bucketOf (length (c .before .before .before .before .before .before .before .args .heads .now))) (c .before .hash-row .ensures .1)
+its-bucket c = c .bucket .ensures .1 ∙ ap (signatureBucket (length (c .before .before .before .before .before .before .before .args .heads .now))) (c .before .hash-row .ensures .1)
 
 mul-hash-row : tie.Need-mul-hash-row
 mul-hash-row c = omega (arith, fits (c .before .before .before .before), c .before .before .before .before .good)

@@ -1,9 +1,8 @@
--- `situations::explored` meets its contract: the parts of the stored sheet are within its arrays' room, the letters' values are there, and what
--- the exploration finds and leaves are the laws `exploration-found` and `exploration-leaves`.
+-- `situations::explored` meets its contract: the parts of the stored sheet are within its arrays' room, and they are the stored sheet as it is explored.
 use native.Mathlib.Omega.{arith}
 use borrow.Author.Needs.{needs}
 use Rattle.situations.proofs.Stored.{cut-fits, cut-long}
-use Rattle.situations.proofs.Found.{exploration-leaves, exploration-found}
+use Rattle.situations.proofs.Found.{parts-explored}
 use Rattle.situations.proofs.explored.Statement.{statement}
 use Rattle.situations.proofs.explored.Tie as tie
 
@@ -93,12 +92,9 @@ same-length-6 c = c .before .before .before .before .before .before .before .bef
 
 returns : tie.Need-returns
 returns c =
-    let call = c .before .before .before .before .before .before .before .before .before .before .before .explore-stored .ensures in
+    let a = c .before .before .before .before .before .before .before .before .before .before .before .before .before .before .before .before .before .before .before .before .before .before .before .before .before .before .before .before .before .before .before .before .before .before .before .before .before .before .before .before .before .before .before .before .before .before .before .before .before .before .args in
     let values = c .before .before .before .before .before .before .before .before .before .before .before .before .before .before .before .before .before .before .before .before .before .before .before .before .before .before .before .before .fill-letters in
-    let rows = c .rows-found .ensures in (
-      rw rows (exploration-leaves call),
-      λ long s accepted same room. rw rows (exploration-found accepted same (c .before .before .before .before .before .before .before .before .before .before .before .before .before .before .before .before .before .before .before .before .before .before .before .before .before .before .before .before .before .before .before .before .before .before .before .before .before .before .before .before .before .fewer .ensures) (c .before .before .before .before .before .before .before .before .before .before .before .before .before .before .before .before .before .before .before .before .before .before .before .before .before .before .before .before .before .before .before .before .before .before .before .before .before .fewer2 .ensures) (c .before .before .before .before .before .before .before .before .before .before .before .before .before .before .before .before .before .before .before .before .before .before .before .before .before .before .before .before .before .before .before .before .before .before .before .fewer3 .ensures) (c .before .before .before .before .before .before .before .before .before .before .before .before .before .before .before .before .before .before .before .before .before .before .before .before .before .before .before .before .before .before .before .before .fewer4 .ensures) (c .before .before .before .before .before .before .before .before .before .before .before .before .before .before .before .before .before .before .fewer5 .ensures) _ _ long (values .ensures .1) (values .kept .1 .1 .0) room call),
-    )
+    parts-explored (a .sheet) (a .letter-values .now) (c .before .before .before .before .before .before .before .before .before .before .before .before .before .before .before .before .before .before .before .before .before .before .before .before .before .before .before .before .before .before .before .before .before .before .before .before .before .before .before .before .before .fewer .ensures) (c .before .before .before .before .before .before .before .before .before .before .before .before .before .before .before .before .before .before .before .before .before .before .before .before .before .before .before .before .before .before .before .before .before .before .before .before .before .fewer2 .ensures) (c .before .before .before .before .before .before .before .before .before .before .before .before .before .before .before .before .before .before .before .before .before .before .before .before .before .before .before .before .before .before .before .before .before .before .before .fewer3 .ensures) (c .before .before .before .before .before .before .before .before .before .before .before .before .before .before .before .before .before .before .before .before .before .before .before .before .before .before .before .before .before .before .before .before .fewer4 .ensures) (c .before .before .before .before .before .before .before .before .before .before .before .before .before .before .before .before .before .before .fewer5 .ensures) (values .ensures .1) (c .before .before .before .before .before .before .before .before .before .before .before .explore-stored .ensures) (c .rows-found .ensures)
 
 pub explored-spec : {M : Type 1} → statement M
 explored-spec =

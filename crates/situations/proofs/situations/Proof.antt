@@ -1,15 +1,8 @@
--- `situations::situations` meets its contract: either list has room for the values of the letters, so that `explored` gives it.
-use Prim.Native.Nat.{ℕ, _+_, _*_, _≤_}
-use native.Mathlib.Omega.{arith}
-use native.Mathlib.Nat.{le-refl}
+-- `situations::situations` meets its contract: either list is the one for so many letters, so that `explored` gives it.
 use borrow.Author.Needs.{needs}
-use Rattle.situations.proofs.Stored.{sheet-letters}
+use Rattle.situations.proofs.Found.{small-list, large-list}
 use Rattle.situations.proofs.situations.Statement.{statement}
 use Rattle.situations.proofs.situations.Tie as tie
-
--- A list with 8 numbers for each of so many letters, and 8 more, has room for the values of fewer letters.
-fits : (letters most : ℕ) {room : ℕ} → letters ≤ most → most * 8 + 8 ≤ room → letters * 8 + 8 ≤ room
-fits letters most few room = omega arith
 
 slice-aggregate-explored : tie.Need-slice-aggregate-explored
 slice-aggregate-explored c = search needs
@@ -33,9 +26,7 @@ same-length-5 : tie.Need-same-length-5
 same-length-5 c = c .before .before .before .before .before .before .before .before .before .before .before .explored .kept .1 .1 .1 .1 .1 .1 .1 .0
 
 returns : tie.Need-returns
-returns c =
-    let explored = c .before .before .before .before .before .before .before .before .before .before .before .explored .ensures in
-    record { leaves = explored .0; found = λ s accepted same room. explored .1 (fits _ 64 (c .before .before .before .before .before .before .before .before .before .before .before .before .before .before .before .before .before .before .if1 .taken) (le-refl 520)) s accepted same room }
+returns c = small-list (c .before .before .before .before .before .before .before .before .before .before .before .before .before .before .before .before .before .before .if1 .taken) (c .before .before .before .before .before .before .before .before .before .before .before .explored .ensures)
 
 slice-aggregate-explored-2 : tie.Need-slice-aggregate-explored-2
 slice-aggregate-explored-2 c = search needs
@@ -59,9 +50,7 @@ same-length-10 : tie.Need-same-length-10
 same-length-10 c = c .before .before .before .before .before .before .before .before .before .before .before .explored2 .kept .1 .1 .1 .1 .1 .1 .1 .0
 
 returns-2 : tie.Need-returns-2
-returns-2 c =
-    let explored = c .before .before .before .before .before .before .before .before .before .before .before .explored2 .ensures in
-    record { leaves = explored .0; found = λ s accepted same room. explored .1 (fits _ 1024 (omega (arith, sheet-letters s same, accepted .letters)) (le-refl 8200)) s accepted same room }
+returns-2 c = large-list (c .before .before .before .before .before .before .before .before .before .before .before .before .before .before .before .before .before .before .if1 .left) (c .before .before .before .before .before .before .before .before .before .before .before .explored2 .ensures)
 
 pub situations-spec : {M : Type 1} → statement M
 situations-spec =

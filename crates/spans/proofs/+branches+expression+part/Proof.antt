@@ -5,8 +5,9 @@ use native.Mathlib.Omega.{arith}
 use mathlib.Core.Path.{sym, _∙_}
 use lib.ListN.{length}
 use borrow.Author.Needs.{needs}
+use Rattle.scan.proofs.Codes.{no-prefix, no-operator}
 use Rattle.spans.proofs.Token.{token-ordered}
-use Rattle.spans.proofs.Phrases.{reached-on, behind-word, place-behind, part-none, part-prefix, part-bracket, part-leaf, expression-conditional, expression-alone, expression-operation, branches-found, no-prefix, a-prefix, no-operator, an-operator}
+use Rattle.spans.proofs.Phrases.{reached-on, behind-word, place-behind, part-none, part-prefix, part-bracket, part-leaf, expression-conditional, expression-alone, expression-operation, branches-found, a-prefix, an-operator}
 use borrow.Fn.Kinds.{In}
 use borrow.Fn.PlainCycle.{Measures, is, falls, and}
 use Rattle.spans.proofs.branches.Reads as branches

@@ -5,13 +5,13 @@ use mathlib.Core.Path.{_≡_, ap, _∙_}
 use mathlib.Core.Logic.{⊎-elim}
 use lib.ListN.{length, drop}
 use borrow.Author.Needs.{needs}
-use Rattle.spans.specs.Spans.{lineStart}
+use Rattle.spans.specs.Spans.{lineOffset}
 use Rattle.spans.proofs.Lines.{start-none, start-over, start-ends, start-goes-on}
 use Rattle.spans.proofs.behind_header.Statement.{statement}
 use Rattle.spans.proofs.behind_header.Tie as tie
 
 abbrev Inv-loop : tie.InvT-loop
-Inv-loop text left₀ i₀ left i = (i ≤ length text) × (lineStart 3 text ≡ i + lineStart left (drop i text))
+Inv-loop text left₀ i₀ left i = (i ≤ length text) × (lineOffset 3 text ≡ i + lineOffset left (drop i text))
 
 abbrev μ-loop : tie.MeasureT-loop
 μ-loop text left₀ i₀ left i = length text - i
@@ -23,7 +23,7 @@ returns : tie.Need-returns Inv-loop μ-loop
 returns c =
     let text = c .before .before .before .args .text .now in
     let i = c .before .before .loop .i in
-    let none = ap (λ k. lineStart k (drop i text)) (c .if1 .taken) ∙ start-none (drop i text) in
+    let none = ap (λ k. lineOffset k (drop i text)) (c .if1 .taken) ∙ start-none (drop i text) in
     omega arith
 
 shared-slice-read-if2 : tie.Need-shared-slice-read-if2 Inv-loop μ-loop
@@ -44,8 +44,8 @@ loop-again c =
     let i = c .before .before .before .before .loop .i in
     let left = c .before .before .before .before .loop .left in
     ⊎-elim
-    (λ w. (omega arith, let step = start-ends text i (omega arith) left (omega arith) (w .0 .taken) in let less = ap (λ k. lineStart k (drop (i + 1) text)) (w .1) in omega arith))
-    (λ w. (omega arith, let step = start-goes-on text i (omega arith) left (omega arith) (w .0 .left) in let less = ap (λ k. lineStart k (drop (i + 1) text)) (w .1) in omega arith))
+    (λ w. (omega arith, let step = start-ends text i (omega arith) left (omega arith) (w .0 .taken) in let less = ap (λ k. lineOffset k (drop (i + 1) text)) (w .1) in omega arith))
+    (λ w. (omega arith, let step = start-goes-on text i (omega arith) left (omega arith) (w .0 .left) in let less = ap (λ k. lineOffset k (drop (i + 1) text)) (w .1) in omega arith))
     (c .if2 .came)
 
 returns-2 : tie.Need-returns-2 Inv-loop μ-loop

@@ -5,9 +5,9 @@ use mathlib.Core.Logic.{_⊎_, inl, inr}
 use native.Mathlib.Numerals.{add-one}
 use native.Mathlib.Omega.{arith}
 use lib.ListN.{length, getD}
+use Rattle.basics.proofs.Lists.{row-fits}
 use Rattle.automaton.specs.Table.{noState}
 use Rattle.automaton.specs.Stored.{entryAt}
-use Rattle.marks.proofs.Laws.{row-fits}
 use Rattle.marks.proofs.Tests.{marked-test, test-marked}
 use Rattle.stored_graph.proofs.Checking.{flag-stays, checked-old, checked-new, order-broken}
 use borrow.Author.Needs.{needs}

@@ -1,7 +1,7 @@
 -- `stored_graph::has_sizes` meets its contract.
 use native.Mathlib.Omega.{arith}
-use Rattle.marks.proofs.Laws.{says-both}
 use borrow.Author.Needs.{needs}
+use Rattle.basics.proofs.Answers.{says-both}
 use Rattle.stored_graph.proofs.has_sizes.Statement.{statement}
 use Rattle.stored_graph.proofs.has_sizes.Tie as tie
 

@@ -4,7 +4,7 @@ use native.Mathlib.Numerals.{add-one}
 use native.Mathlib.Omega.{arith}
 use lib.Dec.{eqb}
 use borrow.Author.Tests.{eqb-true, eqb-false}
-use Rattle.marks.proofs.Laws.{says-either}
+use Rattle.basics.proofs.Answers.{says-either}
 use Rattle.stored_graph.specs.Checking.{Checked}
 use Rattle.stored_graph.proofs.Checking.{checked-start, checked-row, row-unmet, checked-graph}
 use borrow.Author.Needs.{needs}

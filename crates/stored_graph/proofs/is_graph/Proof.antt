@@ -1,6 +1,6 @@
 -- `stored_graph::is_graph` meets its contract: a graph has the sizes, and its flags are 1 or 0.
 use borrow.Author.Tests.{not-true, not-false}
-use Rattle.marks.proofs.Laws.{says-yes, says-no}
+use Rattle.basics.proofs.Answers.{says-yes, says-no}
 use Rattle.stored_graph.proofs.Checking.{graph-sizes}
 use borrow.Author.Needs.{needs}
 use Rattle.stored_graph.proofs.is_graph.Statement.{statement}

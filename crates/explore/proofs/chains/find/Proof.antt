@@ -4,8 +4,8 @@ use mathlib.Core.Path.{refl, sym, _∙_}
 use native.Mathlib.Omega.{arith}
 use lib.ListN.{length}
 use native.Mathlib.Nat.{not-suc-le-zero}
+use Rattle.basics.proofs.Answers.{says-yes, says-no}
 use Rattle.sizes.specs.Room.{keySize}
-use Rattle.marks.proofs.Laws.{says-yes, says-no}
 use Rattle.extend.proofs.Parts.{part-size, part-long}
 use Rattle.explore.proofs.ChainLaws.{Left, left-first, left-next}
 use borrow.Author.Needs.{needs}

@@ -11,7 +11,7 @@ use borrow.Author.Count.{below-more, below-none}
 use lib.ListN.{length, getD}
 use lib.Seq.{ext-getD}
 use borrow.Author.Needs.{needs}
-use Rattle.marks.specs.Answers.{Says}
+use Rattle.basics.specs.Answers.{Says}
 use Rattle.explore.proofs.chains.same.Statement.{statement}
 use Rattle.explore.proofs.chains.same.Tie as tie
 

@@ -1,18 +1,16 @@
--- `keys::add_letter` meets its contract: if the letter's values are there, they are copied after those of the letters that are held, and before what
--- stands behind the window.
+-- `keys::add_letter` meets its contract: if the letter's values are there, they are copied after those of the letters that are held.
 use Prim.Native.Nat.{ℕ, _+_, _-_, _*_, _≤_}
-use mathlib.Core.Path.{_≡_, refl, sym, _∙_, ap, subst}
+use mathlib.Core.Path.{_≡_, sym, _∙_, subst}
 use mathlib.Core.List.{List}
 use native.Mathlib.Omega.{arith}
 use lib.IntN.{ℤ}
 use lib.ListN.{length, take, drop}
 use borrow.Author.Needs.{needs}
+use Rattle.basics.proofs.Answers.{says-yes, says-no}
 use Rattle.sheet.specs.Refusal.{streamBound}
-use Rattle.marks.proofs.Laws.{says-yes, says-no}
-use Rattle.extend.specs.Step.{windowRoom}
+use Rattle.sizes.specs.Room.{windowRoom}
 use Rattle.extend.proofs.Parts.{part-long}
-use Rattle.extend.proofs.KeyLists.{letter-put}
-use Rattle.extend.proofs.PreparedLaws.{one-more, copy-room, place-small, all-streams, paste-behind}
+use Rattle.extend.proofs.PreparedLaws.{copy-room, place-small, all-streams, letter-missing, letter-copied}
 use Rattle.extend.proofs.keys.add_letter.Statement.{statement}
 use Rattle.extend.proofs.keys.add_letter.Tie as tie
 
@@ -70,20 +68,15 @@ same-length c = search needs
 returns : tie.Need-returns
 returns c =
     let at = c .before .before .before .before in
-    let start = at .before .before in
-    let args = start .args in
-    let put = c .before .copy-values in
-    let fits : args .held * args .streams + streamBound ≤ length (args .window .now) = omega (arith, room start, start .pre .2) in (
-      λ inside.
-          ap (λ n. take n (put .last .0)) (one-more (args .held) (args .streams)) ∙ ap (take (args .held * args .streams + args .streams)) (put .ensures)
-          ∙ letter-put (args .streams) (args .letter-values .now) streamBound (args .letter) (args .held * args .streams) (args .letter * args .streams) (args .window .now) (start .pre .0) refl inside fits,
-      ap (drop windowRoom) (put .ensures) ∙ paste-behind (args .window .now) (args .held * args .streams) (copied start) (omega arith) windowRoom (omega (arith, copied-long at, room start)) (start .pre .2),
-    )
+    let args = at .before .before .args in
+    c .before .copy-values .ensures ∙ sym (letter-copied (args .streams) (args .letter-values .now) (args .held) (args .letter) (args .window .now) (there at))
 
 returns-2 : tie.Need-returns-2
 returns-2 c =
     let start = c .before .before in
-    (λ inside. absurd (says-no (c .if1 .left) (c .before .has-values .ensures) (subst (There start) (sym (all-streams (start .pre .0))) inside)), refl)
+    let args = start .args in
+    let missing : ¬ There start (args .streams) = subst (λ n. ¬ There start n) (all-streams (start .pre .0)) (says-no (c .if1 .left) (c .before .has-values .ensures)) in
+    sym (letter-missing (args .streams) (args .letter-values .now) (args .held) (args .letter) (args .window .now) (omega (arith, missing)))
 
 pub add-letter-spec : {M : Type 1} → statement M
 add-letter-spec =

@@ -1,20 +1,21 @@
--- `keys::fill_window` meets its contract: before each turn the window has the values of the letters passed.
+-- `keys::fill_window` meets its contract: before each turn the window has the values of the letters passed, and behind them what it had.
 use Prim.Native.Nat.{suc, _≤_, _-_, _*_, _+_}
 use mathlib.Core.Path.{_≡_, refl, sym, ap, _∙_}
 use native.Mathlib.Omega.{arith}
 use native.Mathlib.Nat.{zero-mul, suc-mul, mul-le-mul-right}
 use native.Mathlib.Numerals.{add-one}
-use lib.ListN.{length, getD, take}
+use mathlib.Core.List.{_++_}
+use lib.ListN.{length, getD, take, drop, take-append-drop}
 use lib.Seq.{take-all}
 use Rattle.extend.specs.Step.{windowOf}
 use Rattle.extend.proofs.Parts.{part-long}
-use Rattle.extend.proofs.KeyLists.{windowOf-none, window-more, window-long}
+use Rattle.extend.proofs.KeyLists.{windowOf-none, window-more, window-long, behind-more}
 use borrow.Author.Needs.{needs}
 use Rattle.extend.proofs.keys.fill_window.Statement.{statement}
 use Rattle.extend.proofs.keys.fill_window.Tie as tie
 
 abbrev Inv-loop : tie.InvT-loop
-Inv-loop window₀ letter-values streams letters p₀ at₀ window p at = (p ≤ length letters) × (at ≡ p * streams) × (take at window ≡ windowOf streams letter-values (take p letters)) × (length window ≡ length window₀)
+Inv-loop window₀ letter-values streams letters p₀ at₀ window p at = (p ≤ length letters) × (at ≡ p * streams) × (take at window ≡ windowOf streams letter-values (take p letters)) × (length window ≡ length window₀) × (drop at window ≡ drop at window₀)
 
 abbrev μ-loop : tie.MeasureT-loop
 μ-loop window₀ letter-values streams letters p₀ at₀ window p at = length letters - p
@@ -35,7 +36,7 @@ room c =
     omega (arith, suc-mul (at-loop .loop .p) streams, at-loop .loop .inv .1, at-loop .loop .inv .3, start at-loop .pre .0)
 
 loop-holds : tie.Need-loop-holds Inv-loop μ-loop
-loop-holds c = (search needs, sym (zero-mul _), sym (windowOf-none _ _), refl)
+loop-holds c = (search needs, sym (zero-mul _), sym (windowOf-none _ _), refl, refl)
 
 mul-from : tie.Need-mul-from Inv-loop μ-loop
 mul-from c = search needs
@@ -88,6 +89,7 @@ loop-again c =
       rw (add-one, suc-mul) (omega (arith, loop .inv .1)),
       rw (c .before .copy-values .ensures) (window-more streams (args .letter-values .now) (args .letters .now) (loop .p) (loop .at) from (loop .window) (in-loop .loop-test .taken) refl (inside in-loop) (room in-loop) (loop .inv .2)),
       rw (c .before .copy-values .ensures) (window-long streams (args .letter-values .now) streams (getD (args .letters .now) (loop .p) 0) (loop .at) from (loop .window) (omega arith) refl (inside in-loop) (room in-loop)) ∙ loop .inv .3,
+      rw (c .before .copy-values .ensures) (behind-more streams (args .letter-values .now) (getD (args .letters .now) (loop .p) 0) (loop .at) from (args .window .now) (loop .window) refl (inside in-loop) (room in-loop) (loop .inv .4)),
     )
 
 same-length : tie.Need-same-length Inv-loop μ-loop
@@ -97,9 +99,11 @@ returns : tie.Need-returns Inv-loop μ-loop
 returns c =
     let at-loop = c .before in
     let args = start at-loop .args in
+    let window = at-loop .loop .window in
     let end : at-loop .loop .p ≡ length (args .letters .now) = omega arith in
-    let at-end : length (args .letters .now) * args .streams ≡ at-loop .loop .at = ap (λ n. n * args .streams) (sym end) ∙ sym (at-loop .loop .inv .1) in
-    ap (λ n. take n (at-loop .loop .window)) at-end ∙ at-loop .loop .inv .2 ∙ ap (windowOf (args .streams) (args .letter-values .now)) (ap (λ n. take n (args .letters .now)) end ∙ take-all (length (args .letters .now)) (args .letters .now) (omega arith))
+    let at-end : at-loop .loop .at ≡ length (args .letters .now) * args .streams = at-loop .loop .inv .1 ∙ ap (λ n. n * args .streams) end in
+    let values = at-loop .loop .inv .2 ∙ ap (windowOf (args .streams) (args .letter-values .now)) (ap (λ n. take n (args .letters .now)) end ∙ take-all (length (args .letters .now)) (args .letters .now) (omega arith)) in
+    sym (take-append-drop (at-loop .loop .at) window) ∙ (λ i. values i ++ (at-loop .loop .inv .4 ∙ ap (λ n. drop n (args .window .now)) at-end) i)
 
 pub fill-window-spec : {M : Type 1} → statement M
 fill-window-spec =

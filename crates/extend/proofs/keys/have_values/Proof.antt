@@ -5,8 +5,8 @@ use native.Mathlib.Omega.{arith}
 use lib.ListN.{length, getD}
 use borrow.Author.Tests.{not-true, not-false}
 use borrow.Author.Count.{below-more}
+use Rattle.basics.proofs.Answers.{says-yes, says-no}
 use Rattle.sheet.specs.Refusal.{streamBound}
-use Rattle.marks.proofs.Laws.{says-yes, says-no}
 use Rattle.extend.proofs.PreparedLaws.{all-streams}
 use borrow.Author.Needs.{needs}
 use Rattle.extend.proofs.keys.have_values.Statement.{statement}

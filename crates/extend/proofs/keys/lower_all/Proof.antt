@@ -9,7 +9,7 @@ use native.Mathlib.Numerals.{add-one}
 use lib.ListN.{length, getD, set, length-set, length-map, List·getD-map}
 use lib.Seq.{paste, paste-zero, paste-suc}
 use Rattle.extend.specs.Key.{lowered}
-use Rattle.extend.specs.Step.{windowRoom}
+use Rattle.sizes.specs.Room.{windowRoom}
 use borrow.Author.Needs.{needs}
 use Rattle.extend.proofs.keys.lower_all.Statement.{statement}
 use Rattle.extend.proofs.keys.lower_all.Tie as tie

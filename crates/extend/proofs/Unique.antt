@@ -1,0 +1,78 @@
+-- The contracts of `extend` and `prepare` leave nothing open: two outcomes for the same arguments are equal. From the definitions, whose conditions can be
+-- decided.
+use Prim.Native.Nat.{ℕ, zero, suc, _+_, _-_, _*_, _<_, min}
+use native.Mathlib.Omega.{arith}
+use native.Mathlib.Numerals.{add-one}
+use native.Mathlib.Decide.{ℕ-discrete, decLe, map-dec}
+use mathlib.Core.Path.{_≡_, refl, sym, _∙_, ap, subst}
+use mathlib.Core.Bool.{Bool, true, false}
+use mathlib.Core.Logic.{Dec·and}
+use mathlib.Core.List.{List}
+use lib.IntN.{ℤ}
+use lib.ListN.{length, getD}
+use borrow.Author.Count.{below-more}
+use Rattle.sheet.specs.Refusal.{streamBound, firstBound, windowBound}
+use Rattle.sizes.specs.Room.{keySize, preparedSize}
+use Rattle.extend.specs.Key.{sizeIn, firstsIn, marksIn}
+use Rattle.extend.specs.Step.{Store, lettersAfter, viewIn, judgedIn, keyFrom, PreparableSizes, IsPreparable, Prepares, SizesFit, Continues, Extends}
+
+-- ---- the conditions can be decided
+
+all-below : {P : ℕ → Type 0} → ((p : ℕ) → Dec (P p)) → (n : ℕ) → Dec ((p : ℕ) → p < n → P p)
+all-below d zero = yes (λ p h. absurd (omega arith))
+all-below {P} d (suc n) = by (all-below d n) (d n)
+  where
+    by : Dec ((p : ℕ) → p < n → P p) → Dec (P n) → Dec ((p : ℕ) → p < suc n → P p)
+    by (yes f) (yes x) = yes (λ p h. below-more P n f x p (subst (p <_) (sym (add-one n)) h))
+    by (yes f) (no x) = no (λ g. x (g n (omega arith)))
+    by (no f) x = no (λ g. f (λ p h. g p (omega arith)))
+
+fit-dec : (key prepared fresh : ℕ) → Dec (SizesFit key prepared fresh)
+fit-dec key prepared fresh =
+    map-dec (λ p. (p .0, p .1 .0, p .1 .1)) (λ p. (p .0, (p .1, p .2))) (Dec·and (ℕ-discrete key keySize) (Dec·and (ℕ-discrete prepared preparedSize) (ℕ-discrete fresh keySize)))
+
+sizes-dec : (streams width count key room : ℕ) → Dec (PreparableSizes streams width count key room)
+sizes-dec streams width count key room =
+    map-dec (λ p. (p .0, p .1 .0, p .1 .1 .0, p .1 .1 .1 .0, p .1 .1 .1 .1)) (λ p. (p .0, (p .1, (p .2, (p .3, p .4)))))
+    (Dec·and (decLe width windowBound) (Dec·and (decLe streams streamBound) (Dec·and (decLe count firstBound) (Dec·and (ℕ-discrete key keySize) (ℕ-discrete room preparedSize)))))
+
+preparable-dec : (values streams width count : ℕ) (key : List ℕ) (room : ℕ) → Dec (IsPreparable values streams width count key room)
+preparable-dec values streams width count key room =
+    map-dec (λ p. record { sizes = p .0; letters = p .1 }) (λ p. (p .sizes, p .letters))
+    (Dec·and (sizes-dec streams width count (length key) room) (all-below (λ p. decLe (getD key (suc p) 0 * streams + streamBound) values) (min (sizeIn key) width)))
+
+-- ---- two outcomes
+
+pub prepares-unique : {letterValues : List ℤ} {streams width count : ℕ} {key : List ℕ} {list list′ list″ : List ℤ}
+    → Prepares letterValues streams width count key list list′ → Prepares letterValues streams width count key list list″ → list′ ≡ list″
+prepares-unique {letterValues} {streams} {width} {count} {key} {list} {list′} {list″} x y = by (preparable-dec (length letterValues) streams width count key (length list))
+  where
+    by : Dec (IsPreparable (length letterValues) streams width count key (length list)) → list′ ≡ list″
+    by (yes p) = x .done p ∙ sym (y .done p)
+    by (no p) = x .refused p ∙ sym (y .refused p)
+
+module _ {key : List ℕ} {a : ℕ} {prepared : List ℤ} {fresh : List ℕ} {prepared′ prepared″ : List ℤ} {fresh′ fresh″ : List ℕ} {ok ok′ : Bool} where
+  continues-unique : {K : Store} → Continues K key a prepared fresh prepared′ fresh′ ok → Continues K key a prepared fresh prepared″ fresh″ ok′ → (ok ≡ ok′) × (prepared′ ≡ prepared″) × (fresh′ ≡ fresh″)
+  continues-unique {K} x y = (answers, lists, by ok refl)
+    where
+      lists : prepared′ ≡ prepared″
+      lists = x .put ∙ sym (y .put)
+
+      answers : ok ≡ ok′
+      answers = x .finished .answer ∙ ap (λ l. judgedIn K (viewIn K key l) (length (lettersAfter K key a) - 1) (marksIn key) .ok) lists ∙ sym (y .finished .answer)
+
+      by : (b : Bool) → ok ≡ b → fresh′ ≡ fresh″
+      by false e = x .finished .kept e ∙ sym (y .finished .kept (sym answers ∙ e))
+      by true e =
+          x .finished .new e ∙ ap (λ l. keyFrom K (viewIn K key l) (sizeIn key) (lettersAfter K key a) (marksIn key) (firstsIn (length (K .firstNodes)) key)) lists
+          ∙ sym (y .finished .new (sym answers ∙ e))
+
+  pub extends-unique : {K : Store} → Extends K key a prepared fresh prepared′ fresh′ ok → Extends K key a prepared fresh prepared″ fresh″ ok′ → (ok ≡ ok′) × (prepared′ ≡ prepared″) × (fresh′ ≡ fresh″)
+  extends-unique x y = by (fit-dec (length key) (length prepared) (length fresh))
+    where
+      by : Dec (SizesFit (length key) (length prepared) (length fresh)) → (ok ≡ ok′) × (prepared′ ≡ prepared″) × (fresh′ ≡ fresh″)
+      by (yes fit) = continues-unique (x .done fit) (y .done fit)
+      by (no misfit) =
+          let s = x .refused misfit in
+          let t = y .refused misfit in
+          (s .0 ∙ sym (t .0), s .1 ∙ sym (t .1), s .2 ∙ sym (t .2))
