@@ -14,9 +14,13 @@ pub record IsCase (space : List ℕ) (r : Case) : Type 0 where
   pub within : Counts (r .size) space
   pub sized : r .size ≡ cond (r .found) (numberAt 4 (r .heading) 0) 0
 
--- So many elements of a table, or all where it has fewer. The other parts follow from the first: as in `Counts`, they are what `&table[..r]` asks.
-abbrev pub IsWithin : ℕ → List ℕ → ℕ → Type 0
-IsWithin count table r = (r ≡ min count (length table)) × (r ≤ length table) × (r ≡ length (take r table))
+-- How many elements of a table are taken, where so many are asked for: all where it has fewer.
+unfoldable pub taken : ℕ → List ℕ → ℕ
+taken count table = min count (length table)
+
+-- The number taken. The other parts follow from the first: as in `Counts`, they are what `&table[..r]` asks.
+abbrev pub IsTaken : ℕ → List ℕ → ℕ → Type 0
+IsTaken count table r = (r ≡ taken count table) × (r ≤ length table) × (r ≡ length (take r table))
 
 -- How many numbers of the list are not 0.
 unfoldable pub nonzeros : List ℕ → ℕ

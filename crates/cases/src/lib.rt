@@ -5,12 +5,12 @@ use libc::STDIN_FILENO;
 use libc::STDOUT_FILENO;
 ghost use mathlib.Core.Path.{_≡_};
 ghost use mathlib.Core.List.{[], _∷_};
-ghost use Prim.Native.Nat.{_+_, _%_, _^_, _<_, _≤_, min};
+ghost use Prim.Native.Nat.{_+_, _%_, _^_, _<_, _≤_};
 ghost use lib.IntN.{natAbs};
 ghost use lib.ListN.{length, getD, replicate, take};
 ghost use Rattle.io.specs.Counts.{Counts};
 ghost use Rattle.stored.specs.Number.{numberAt};
-ghost use Rattle.cases.specs.Cases.{IsCase, IsWithin, nonzeros, Printed};
+ghost use Rattle.cases.specs.Cases.{IsCase, taken, IsTaken, nonzeros, Printed};
 
 // ---- a case
 
@@ -44,6 +44,7 @@ pub struct Case {
     pub heading: [u8; 44],
 }
 
+// What is given where no whole case can be read.
 fn no_case(space: &[u8]) -> Case
     ensures { λ r. ⌜ IsCase (now (space .entry)) r ⌝ }
 {
@@ -83,42 +84,30 @@ pub fn read_case(heading_size: usize, space: &mut [u8]) -> Case
 
 // ---- tables
 
-// So many numbers of a table, or all where it has fewer.
-fn words_within(count: usize, table: &[u32]) -> usize
-    ensures { λ r. ⌜ IsWithin count (now (table .entry)) r ⌝ }
-{
-    fewer(count, table.len())
-}
-
-pub fn entries_within(count: usize, table: &[u16]) -> usize
-    ensures { λ r. ⌜ IsWithin count (now (table .entry)) r ⌝ }
-{
-    fewer(count, table.len())
-}
-
+// So many bytes of a table, or all where it has fewer.
 pub fn bytes_within(count: usize, table: &[u8]) -> usize
-    ensures { λ r. ⌜ IsWithin count (now (table .entry)) r ⌝ }
+    ensures { λ r. ⌜ IsTaken count (now (table .entry)) r ⌝ }
 {
     fewer(count, table.len())
 }
 
-// How many numbers of a table are lent: as many as the heading gives at this place, or all that the table has.
+// How many elements of a table are lent: as many as the heading gives at this place, or all where it has fewer.
 pub fn words_lent(heading: &[u8], at: usize, table: &[u32]) -> usize
-    ensures { λ r. ⌜ IsWithin (numberAt 4 (now (heading .entry)) at) (now (table .entry)) r ⌝ }
+    ensures { λ r. ⌜ IsTaken (numberAt 4 (now (heading .entry)) at) (now (table .entry)) r ⌝ }
 {
-    words_within(number(heading, at) as usize, table)
+    fewer(number(heading, at) as usize, table.len())
 }
 
 pub fn entries_lent(heading: &[u8], at: usize, table: &[u16]) -> usize
-    ensures { λ r. ⌜ IsWithin (numberAt 4 (now (heading .entry)) at) (now (table .entry)) r ⌝ }
+    ensures { λ r. ⌜ IsTaken (numberAt 4 (now (heading .entry)) at) (now (table .entry)) r ⌝ }
 {
-    entries_within(number(heading, at) as usize, table)
+    fewer(number(heading, at) as usize, table.len())
 }
 
 pub fn bytes_lent(heading: &[u8], at: usize, table: &[u8]) -> usize
-    ensures { λ r. ⌜ IsWithin (numberAt 4 (now (heading .entry)) at) (now (table .entry)) r ⌝ }
+    ensures { λ r. ⌜ IsTaken (numberAt 4 (now (heading .entry)) at) (now (table .entry)) r ⌝ }
 {
-    bytes_within(number(heading, at) as usize, table)
+    fewer(number(heading, at) as usize, table.len())
 }
 
 // 1 for a number that is not 0, and 0 for 0.
@@ -167,7 +156,7 @@ pub fn nonzero_bytes(table: &[u8]) -> usize
 
 // `sum` and how many of the lent numbers of a table are not 0, modulo 2^64.
 pub fn add_nonzero(sum: u64, heading: &[u8], at: usize, table: &[u32]) -> u64
-    ensures { λ r. ⌜ r ≡ (sum + nonzeros (take (min (numberAt 4 (now (heading .entry)) at) (length (now (table .entry)))) (now (table .entry)))) % 2 ^ 64 ⌝ }
+    ensures { λ r. ⌜ r ≡ (sum + nonzeros (take (taken (numberAt 4 (now (heading .entry)) at) (now (table .entry))) (now (table .entry)))) % 2 ^ 64 ⌝ }
 {
     let size = words_lent(heading, at, table);
     std::num::wrapping_add_u64(sum, nonzero_words(&table[..size]) as u64)

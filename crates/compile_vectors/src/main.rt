@@ -5,6 +5,7 @@
 ghost use mathlib.Core.Path.{_≡_};
 ghost use lib.ListN.{length};
 ghost use Rattle.io.specs.Counts.{Counts};
+use basics::fewer;
 use cases::add_nonzero;
 use cases::number;
 use cases::print;
@@ -17,7 +18,7 @@ use libc::STDOUT_FILENO;
 fn used_entries(states: u32, letters: u32, entries: &[u16]) -> usize
     ensures { λ r. ⌜ Counts r (now (entries .entry)) ⌝ }
 {
-    cases::entries_within(states as usize * letters as usize, entries)
+    fewer(states as usize * letters as usize, entries.len())
 }
 
 // Prints the used entries of those lent, and gives how many numbers beyond them are not 0.
