@@ -2,7 +2,8 @@
 
     python3 enumerator/write_programs.py VECTORS CRATES
 
-The files are CRATES/NAME/stdin and CRATES/NAME/stdout.
+The files are CRATES/NAME/stdin and CRATES/NAME/stdout; for a program with
+arguments CRATES/NAME/args, the files of CRATES/NAME/data that they name, and stdout.
 """
 
 import json
@@ -22,6 +23,9 @@ LARGEST_SHEET = 512
 ENTRY_ROOM = 65536
 ROW_ROOM = 4112
 KEY_NUMBERS = 16
+
+# The sizes of the chunks in which the program `replay_vectors` plays a record, one after the other.
+CHUNKS = (1, 2, 3, 5, 7, 64)
 
 
 def load(folder, name):
@@ -148,12 +152,38 @@ def normal_program(vectors, texts):
     return text, expected.encode()
 
 
-def write(folder, crate, files):
-    for name, content in zip(("stdin", "stdout"), files):
+def replay_case(vector):
+    """The bytes of one case: lengths, whether a start is given, and the texts; and what is printed once for each size of chunks."""
+    sheet, record = (vector[key].encode("latin-1") for key in ("sheet", "record"))
+    start = vector["start"]
+    given = (start or "").encode("latin-1")
+    numbers = (len(sheet), len(record), start is not None, len(given))
+    return b"".join(map(word, numbers)) + sheet + record + given, vector["printed"].encode() * len(CHUNKS)
+
+
+def replay_vectors_program(vectors):
+    """All cases, in order."""
+    cases = [replay_case(vector) for vector in vectors]
+    return b"".join(case[0] for case in cases), b"".join(case[1] for case in cases)
+
+
+def replay_program(vectors):
+    """The first case, as files and arguments, and what `replay` prints for it."""
+    first = vectors[0]
+    return {"args": b"sheet\nrecord\n", "data/sheet": first["sheet"].encode("latin-1"),
+            "data/record": first["record"].encode("latin-1"), "stdout": first["printed"].encode()}
+
+
+def write_files(folder, crate, files):
+    for name, content in files.items():
         path = os.path.join(folder, crate, name)
         os.makedirs(os.path.dirname(path), exist_ok=True)
         with open(path, "wb") as out:
             out.write(content)
+
+
+def write(folder, crate, files):
+    write_files(folder, crate, dict(zip(("stdin", "stdout"), files)))
 
 
 def main(vectors, crates):
@@ -166,6 +196,9 @@ def main(vectors, crates):
     write(crates, "compile_vectors", compile_program(load(vectors, "compile.jsonl"), sheets))
     write(crates, "sluice", sluice_program(sheets))
     write(crates, "sluice_vectors", sluice_vectors_program(sheets, examples))
+    replays = load(vectors, "replay.jsonl")
+    write_files(crates, "replay", replay_program(replays))
+    write(crates, "replay_vectors", replay_vectors_program(replays))
 
 
 if __name__ == "__main__":

@@ -20,6 +20,8 @@ from intervals import deepest_back, deepest_reach, firsts, untils
 from limits import SITUATIONS, STEP_REFUSED
 from normal_form import entry_texts, normal_form, normal_form_of
 from reading import letter_count
+from replay import replay
+from replay_cases import replay_cases
 from sluice import sluice_output
 from spellings import spelling_sheets
 from step import move
@@ -32,6 +34,8 @@ RANDOM_SHEETS = 400
 NORMAL_STRIDE = 3
 DAMAGED_EACH = 16
 STEPS = 160
+DRAWN_REPLAYS = 40
+LAWFUL_REPLAYS = 30
 # Drawn sheets with larger tables are left out, to keep the files short.
 RANDOM_ENTRIES = 600
 
@@ -131,6 +135,13 @@ def step_vector(case):
             "place": {"before": list(case.place), "after": list(place)}}
 
 
+def replay_vector(sheet, record, start):
+    return {"sheet": sheet.decode("latin-1"),
+            "record": record.decode("latin-1"),
+            "start": None if start is None else start.decode("latin-1"),
+            "printed": replay(sheet, record, start).decode()}
+
+
 def write_lines(directory, name, vectors):
     lines = [json.dumps(vector, sort_keys=True) for vector in vectors]
     (directory / name).write_text("".join(line + "\n" for line in lines))
@@ -154,14 +165,18 @@ def main(directory):
     normals = [vector for case in chosen + drawn[::NORMAL_STRIDE]
                for vector in normal_vectors(*case)]
     steps = [step_vector(case) for case in step_cases(SEED, STEPS)]
+    replays = [replay_vector(*case) for case
+               in replay_cases(SEED, DRAWN_REPLAYS, LAWFUL_REPLAYS)]
     for name, vectors in (("sheets", sheets), ("compile", compiles),
-                          ("normal", normals), ("step", steps)):
+                          ("normal", normals), ("step", steps),
+                          ("replay", replays)):
         write_lines(directory, name + ".jsonl", vectors)
     print_counts("sheets", (vector["refusal"] for vector in sheets))
     print_counts("compiles", (vector["refusal"] for vector in compiles))
     print_counts("normal forms", (vector["refusal"] for vector in normals))
     print_counts("steps", (max(0, vector["answer"] - STEP_REFUSED)
                            for vector in steps))
+    print("replays: %d" % len(replays))
 
 
 if __name__ == "__main__":

@@ -19,7 +19,7 @@ use Rattle.nodes.proofs.Record.{letter-length}
 use Rattle.sheet.specs.Refusal.{letterBound}
 use Rattle.letters.specs.Described.{described, cutCount, hasLetter, withLetter, lettersBelow, hasRoom, withLetters}
 use Rattle.letters.proofs.Counts.{length-described}
-use Rattle.letters.proofs.Streams.{unnamed, letterCount-unnamed, letterOf-unnamed}
+use Rattle.letters.proofs.Streams.{unnamed, letterCount-unnamed, letterOf-unnamed, length-unnamed}
 
 -- ---- the places of the letters
 
@@ -154,10 +154,6 @@ module _ (lows highs out : List ℤ) where
         all-filled s f = let t = all-of (room-there streams (length out) (omega arith) fits) in (t .0, f ∙ ap filled (s ∙ exact) ∙ t .1)
 
 -- ---- the sheet's streams
-
-length-unnamed : (ss : List Stream) → length (unnamed ss) ≡ length ss
-length-unnamed [] = refl
-length-unnamed (s ∷ ss) = ap suc (length-unnamed ss)
 
 lettersBelow-unnamed : (ss : List Stream) (n : ℕ) → lettersBelow (unnamed ss) n ≡ lettersBelow ss n
 unfolding lettersBelow

@@ -1,6 +1,6 @@
 -- The streams that a sheet's lowest and highest values describe have the letters of the sheet's own streams; and the test for a letter decides
 -- whether the values are one.
-use Prim.Native.Nat.{ℕ, _+_, _*_, _/_, _%_}
+use Prim.Native.Nat.{ℕ, _+_, _*_, _/_, _%_, suc}
 use native.Mathlib.Omega.{arith}
 use mathlib.Core.Path.{_≡_, refl, sym, _∙_, ap, ap₂, subst}
 use mathlib.Core.Bool.{Bool, true, _&&_}
@@ -8,6 +8,7 @@ use mathlib.Core.List.{List, [], _∷_}
 use lib.Dec.{T}
 use lib.IntN.{pos, natAbs, _+ℤ_, _-ℤ_}
 use lib.Signed.{leZ, leZ-yes}
+use lib.ListN.{length}
 use Rattle.basics.proofs.Tests.{true-of-T}
 use Rattle.meaning.specs.Expression.{Stream}
 use Rattle.meaning.specs.Letter.{Letter, IsLetter, none, more, size, letterCount, letterNumber, letterOf}
@@ -20,6 +21,10 @@ use Rattle.letters.specs.Described.{described, isLetter}
 -- The streams without their names.
 abbrev pub unnamed : List Stream → List Stream
 unnamed ss = described (lowsOf ss) (highsOf ss)
+
+pub length-unnamed : (ss : List Stream) → length (unnamed ss) ≡ length ss
+length-unnamed [] = refl
+length-unnamed (s ∷ ss) = ap suc (length-unnamed ss)
 
 pub letterCount-unnamed : (ss : List Stream) → letterCount (unnamed ss) ≡ letterCount ss
 unfolding letterCount

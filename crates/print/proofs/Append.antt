@@ -6,7 +6,7 @@ use mathlib.Core.Bool.{Bool, true, false}
 use mathlib.Core.List.{List, [], _∷_, _++_}
 use lib.Dec.{leb}
 use lib.ListN.{length, length-append}
-use lib.Seq.{sets}
+use lib.Seq.{sets, length-sets}
 use borrow.Author.Tests.{leb-true, leb-false}
 use Rattle.basics.proofs.Lists.{sets-append}
 use Rattle.print.specs.Append.{Appends}
@@ -14,9 +14,14 @@ use Rattle.print.specs.Append.{Appends}
 pub appends-nothing : {at : ℕ} {out : List ℕ} → at ≤ suc (length out) → Appends at [] out out at
 appends-nothing h = record { same-length = refl; written = λ b. (refl, omega arith); no-room = λ b. omega arith }
 
--- A byte for which there is no room.
-pub byte-left : {at : ℕ} (out : List ℕ) (byte : ℕ) → length out ≤ at → Appends at (byte ∷ []) out out (length out + 1)
-byte-left out byte h = record { same-length = refl; written = λ b. absurd (omega arith); no-room = λ b. omega arith }
+-- A text for which there is no room.
+pub text-left : {at : ℕ} (out text : List ℕ) → length out < at + length text → Appends at text out out (length out + 1)
+text-left out text h = record { same-length = refl; written = λ b. absurd (omega arith); no-room = λ b. omega arith }
+
+-- A text that is stored whole, by whatever stores.
+pub text-stored : {at : ℕ} {out out′ text : List ℕ} {r : ℕ} → at + length text ≤ length out → out′ ≡ sets out at text → r ≡ at + length text → Appends at text out out′ r
+text-stored {at} {out} {out′} {text} h e p =
+    record { same-length = ap length e ∙ length-sets out at text; written = λ b. (e, p); no-room = λ b. absurd (omega arith) }
 
 module _ {at : ℕ} {a out out₁ : List ℕ} {r₁ : ℕ} (p : Appends at a out out₁ r₁) where
   -- The place after a text is at most one more than the length, so that the next text can follow.

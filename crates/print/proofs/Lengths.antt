@@ -1,4 +1,4 @@
--- How long the lines can be: at most 32 bytes for a refusal, 128 for a heading and 256 for an entry.
+-- How long the lines can be: at most 32 bytes for a refusal and for two numbers, 128 for a heading and 256 for an entry.
 use Prim.Native.Nat.{ℕ, zero, suc, _+_, _*_, _/_, _%_, _≤_, _<_, min}
 use native.Mathlib.Omega.{arith}
 use native.Mathlib.Nat.{div-lt-iff-lt-mul, div-le-self}
@@ -17,7 +17,7 @@ use Rattle.nodes.proofs.Record.{letter-length}
 use Rattle.automaton.specs.Table.{noState}
 use Rattle.letters.specs.Described.{described}
 use Rattle.letters.proofs.Above.{between-fits}
-use Rattle.print.specs.Text.{digits, decimal, spaced, headingLine, entryLine, refusalLine}
+use Rattle.print.specs.Text.{digits, decimal, spaced, line, headingLine, entryLine, refusalLine}
 use Rattle.print.specs.Table.{placeText, storedName, storedNames, AllFit}
 use Rattle.print.proofs.Decimal.{digits-one, digits-more}
 use Rattle.print.proofs.Lines.{spaced-more}
@@ -29,14 +29,21 @@ abbrev tens : ℕ → ℕ
 tens zero = 1
 tens (suc k) = tens k * 10
 
-one-digit : (n : ℕ) → n < 10 → length (digits n) ≡ 1
+pub one-digit : (n : ℕ) → n < 10 → length (digits n) ≡ 1
 one-digit n h = ap length (digits-one n h)
 
-more-digits : (n : ℕ) → 10 ≤ n → length (digits n) ≡ length (digits (n / 10)) + 1
+pub more-digits : (n : ℕ) → 10 ≤ n → length (digits n) ≡ length (digits (n / 10)) + 1
 more-digits n h = ap length (digits-more n h) ∙ length-append (digits (n / 10)) ((48 + n % 10) ∷ [])
 
+pub some-digit : (n : ℕ) → 1 ≤ length (digits n)
+some-digit n = by (ltb n 10) refl
+  where
+    by : (t : Bool) → ltb n 10 ≡ t → 1 ≤ length (digits n)
+    by true e = let o = one-digit n (ltb-true n 10 e) in omega arith
+    by false e = let m = more-digits n (ltb-false n 10 e) in omega arith
+
 -- A number below 10 to the power of k has at most k digits, where k is not 0.
-digits-length : (k n : ℕ) → n < tens (suc k) → length (digits n) ≤ suc k
+pub digits-length : (k n : ℕ) → n < tens (suc k) → length (digits n) ≤ suc k
 digits-length zero n h = let o = one-digit n (omega arith) in omega arith
 digits-length (suc k) n h = by (digits-length k (n / 10)) (ltb n 10) refl
   where
@@ -48,7 +55,7 @@ digits-length (suc k) n h = by (digits-length k (n / 10)) (ltb n 10) refl
         omega arith
 
 -- A number of the machine takes at most 20 bytes, with its sign.
-natural-length : (n : ℕ) → n < 18446744073709551616 → length (digits n) ≤ 20
+pub natural-length : (n : ℕ) → n < 18446744073709551616 → length (digits n) ≤ 20
 natural-length n h = digits-length 19 n (omega arith)
 
 integer-length : (z : ℤ) → SFits w64 z → length (decimal z) ≤ 20
@@ -59,6 +66,16 @@ integer-length (negsuc n) f = let l = digits-length 18 (suc n) (omega arith) in 
 
 pub refusal-length : (number : ℕ) → number < 4294967296 → length (refusalLine number) ≤ 32
 refusal-length number h = let l = digits-length 9 number (omega arith) in let a = length-append (digits number) (10 ∷ []) in omega arith
+
+pub pair-length : (first second : ℕ) → first < 18446744073709551616 → second < 4294967296 → length (line (decimal (pos first) ∷ []) (decimal (pos second))) ≤ 32
+pair-length first second f s =
+    let rest = digits second ++ (10 ∷ []) in
+    let a = length-append (digits first ++ (32 ∷ [])) rest in
+    let b = length-append (digits first) (32 ∷ []) in
+    let c = length-append (digits second) (10 ∷ []) in
+    let p = natural-length first f in
+    let q = digits-length 9 second (omega arith) in
+    omega arith
 
 -- Names of at most eight bytes.
 names-length : (names lengths : List ℕ) (k : ℕ) → length (spaced (storedNames names lengths k)) ≤ 9 * k

@@ -15,7 +15,7 @@ use mir.Val.{SFits}
 use mir.ValLaws.{toZ-ofZ}
 use Rattle.text.specs.Bytes.{Token, bytesOf}
 use Rattle.arithmetic.proofs.Machine.{held, number-negative, number-natural}
-use Rattle.print.specs.Text.{digits, decimal, spaced, headingLine, entryLine, refusalLine}
+use Rattle.print.specs.Text.{digits, decimal, spaced, line, headingLine, entryLine, refusalLine}
 
 -- ---- one integer
 
@@ -74,3 +74,6 @@ refusal-parts number = refl
 pub entry-parts : (state final : ℕ) (values : List ℤ) (next : ℕ)
     → ((((digits state ++ (32 ∷ [])) ++ (digits final ++ (32 ∷ []))) ++ spaced (map decimal values)) ++ digits next) ++ (10 ∷ []) ≡ entryLine state final values next
 entry-parts state final values next = simp append-assoc
+
+pub pair-parts : (first second : ℕ) → ((digits first ++ (32 ∷ [])) ++ digits second) ++ (10 ∷ []) ≡ line (decimal (pos first) ∷ []) (decimal (pos second))
+pair-parts first second = simp append-assoc

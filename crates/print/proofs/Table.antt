@@ -1,16 +1,18 @@
 -- The entries place by place, as the program prints them, are those by state and letter (document 01, P1), and with the heading they are the
--- table's text.
+-- table's text, which is that of the rows of its states alone.
 use Prim.Native.Nat.{ℕ, zero, suc, _+_, _*_, _/_, _%_, _≤_, _<_, min}
 use native.Mathlib.Omega.{arith}
-use mathlib.Core.Path.{_≡_, sym, _∙_, ap, ap₂}
+use native.Mathlib.Nat.{lt-of-lt-of-le}
+use mathlib.Core.Path.{_≡_, refl, sym, _∙_, ap, ap₂}
 use mathlib.Core.Bool.{true, cond, _&&_}
 use mathlib.Core.List.{List, [], _++_, map, append-assoc, append-nil}
-use lib.Arith.{digits-div, digits-mod}
+use lib.Arith.{digits-lt, digits-div, digits-mod}
 use lib.Dec.{eqb}
-use lib.ListN.{length, getD, length-map}
+use lib.ListN.{length, getD, take, length-map}
+use lib.Seq.{getD-take}
 use borrow.Author.Tests.{le-leb, lt-ltb}
 use Rattle.meaning.specs.Expression.{Stream}
-use Rattle.meaning.specs.Letter.{letterCount}
+use Rattle.meaning.specs.Letter.{letterCount, letterOf}
 use Rattle.meaning.specs.Window.{joinOver}
 use Rattle.sheet.specs.Refusal.{letterBound}
 use Rattle.nodes.specs.Bounds.{lowsOf, highsOf}
@@ -76,3 +78,24 @@ module _ (ss : List Stream) (entries finals : List ℕ) (few : length ss ≤ 8) 
       let e : min (length ss) 8 ≡ length ss = omega arith in
       ap₂ (λ l t. headingLine l ++ t)
       (ap (storedNames (joinOver eightBytes ss ++ moreNames) (map (λ x. length (x .name)) ss ++ moreLengths)) e ∙ stored-names moreNames moreLengths ss short) (table-places states)
+
+-- What stands behind the rows of the states has no part in the text.
+module _ (ss : List Stream) (entries finals : List ℕ) {states m n : ℕ} (fits : states * letterCount ss ≤ m) (fits′ : states ≤ n) where
+  entry-part : (state letter : ℕ) → state < states → letter < letterCount ss → entryText ss entries finals state letter ≡ entryText ss (take m entries) (take n finals) state letter
+  entry-part state letter h k =
+      ap₂ (λ e f. cond (eqb e noState) [] (entryLine state f (letterOf ss letter) e)) (sym (getD-take m entries (state * letterCount ss + letter) noState (lt-of-lt-of-le (digits-lt h k) fits)))
+      (sym (getD-take n finals state 0 (omega arith)))
+
+  row-part : (state letter : ℕ) → state < states → letter ≤ letterCount ss → rowText ss entries finals state letter ≡ rowText ss (take m entries) (take n finals) state letter
+  unfolding rowText
+  row-part state zero h k = refl
+  row-part state (suc letter) h k = ap₂ _++_ (row-part state letter h (omega arith)) (entry-part state letter h k)
+
+  table-part : (count : ℕ) → count ≤ states → tableText ss count entries finals ≡ tableText ss count (take m entries) (take n finals)
+  unfolding tableText
+  table-part zero h = refl
+  table-part (suc state) h = ap₂ _++_ (table-part state (omega arith)) (row-part state (letterCount ss) h (omega arith))
+
+  pub printed-part : printed ss states entries finals ≡ printed ss states (take m entries) (take n finals)
+  unfolding printed
+  printed-part = ap (headingLine (map (λ s. s .name) ss) ++_) (table-part states (omega arith))

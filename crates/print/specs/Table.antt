@@ -1,4 +1,4 @@
--- The text of a table (document 01, "Sheets with their answers", P1), and the rows that `sluice` lends.
+-- The text of a table (document 01, "Sheets with their answers", P1).
 use Prim.Native.Nat.{ℕ, zero, suc, _+_, _*_, _/_, _%_, min}
 use mathlib.Core.Bool.{cond}
 use mathlib.Core.List.{List, [], _∷_, _++_, map}
@@ -54,11 +54,6 @@ storedName names lengths i = take (min (getD lengths i 0) 8) (drop (i * 8) names
 unfoldable pub storedNames : List ℕ → List ℕ → ℕ → List Token
 storedNames names lengths zero = []
 storedNames names lengths (suc i) = storedNames names lengths i ++ (storedName names lengths i ∷ [])
-
--- "`sluice` lends 256 rows, or 32,768 divided by the letters, cut to a whole number, if that is fewer." For 0 letters, which no sheet has, the
--- quotient is 0.
-abbrev pub rowsLent : ℕ → ℕ
-rowsLent letters = min 256 (32768 / letters)
 
 -- The values are numbers of the machine, so that each has at most 20 bytes in decimal.
 abbrev pub AllFit : List ℤ → Type 0

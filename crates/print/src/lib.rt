@@ -1,14 +1,15 @@
-// Writes the lines that `sluice` prints to lent bytes: the heading, the line of an entry, and the line of a refusal. An answer is how many
-// bytes the line takes, or one more than the lent bytes where it has no room there.
+// Writes lines to lent bytes: those that `sluice` prints (the heading, the line of an entry, and the line of a refusal), a line of two numbers,
+// and any text. An answer is how many bytes it takes, or one more than the lent bytes where it has no room there.
 use basics::fewer;
 ghost use mathlib.Core.Path.{_≡_};
 ghost use mathlib.Core.List.{[], _∷_, _++_, map};
 ghost use Prim.Native.Nat.{suc, _+_, _<_, _≤_, min};
-ghost use lib.IntN.{natAbs};
+ghost use lib.IntN.{pos, natAbs};
 ghost use lib.ListN.{length, getD};
+ghost use lib.Seq.{sets};
 ghost use Rattle.print.specs.Append.{Appends};
-ghost use Rattle.print.specs.Text.{digits, decimal, spaced, headingLine, entryLine, refusalLine};
-ghost use Rattle.print.specs.Table.{placeText, storedName, storedNames, rowsLent};
+ghost use Rattle.print.specs.Text.{digits, decimal, spaced, line, headingLine, entryLine, refusalLine};
+ghost use Rattle.print.specs.Table.{placeText, storedName, storedNames};
 
 // ---- pieces of a line, each from the place where the last one ended
 
@@ -44,16 +45,45 @@ fn digit(value: u64) -> u8
     48 + value as u8
 }
 
-// The digits of a number, those of its tenth first.
+// How many digits a number has.
+fn digit_count(value: u64) -> usize
+    ensures { λ r. ⌜ (r ≡ length (digits value)) × (r ≤ 20) ⌝ }
+{
+    let mut rest = value;
+    let mut count = 1;
+    while 10 <= rest {
+        rest /= 10;
+        count += 1;
+    }
+    count
+}
+
+// Stores the digits of a number, the last one first.
+fn put_digits(out: &mut [u8], at: usize, count: usize, value: u64)
+    requires { ⌜ (count ≡ length (digits value)) × (at + count ≤ length (now out)) ⌝ }
+    ensures { λ r. ⌜ now (out .exit) ≡ sets (now (out .entry)) at (digits value) ⌝ }
+{
+    let mut rest = value;
+    let mut to = at + count - 1;
+    while 10 <= rest {
+        out[to] = digit(rest % 10);
+        rest /= 10;
+        to -= 1;
+    }
+    out[to] = digit(rest);
+}
+
+// The digits of a number.
 fn append_natural(out: &mut [u8], at: usize, value: u64) -> usize
     requires { ⌜ at ≤ suc (length (now out)) ⌝ }
     ensures { λ r. ⌜ Appends at (digits value) (now (out .entry)) (now (out .exit)) r ⌝ }
 {
-    if value < 10 {
-        return append_byte(out, at, digit(value));
+    let count = digit_count(value);
+    if out.len() < at + count {
+        return out.len() + 1;
     }
-    let to = append_natural(out, at, value / 10);
-    append_byte(out, to, digit(value % 10))
+    put_digits(out, at, count, value);
+    at + count
 }
 
 // The magnitude of a number. Below 0 it is one more than -1 less the number, so that no difference leaves the signed numbers.
@@ -169,6 +199,22 @@ pub fn refusal_line(number: u32, out: &mut [u8]) -> usize
     append_byte(out, end, 10)
 }
 
+// A line of two numbers.
+pub fn pair_line(first: u64, second: u64, out: &mut [u8]) -> usize
+    ensures { λ r. ⌜ Appends 0 (line (decimal (pos first) ∷ []) (decimal (pos second))) (now (out .entry)) (now (out .exit)) r ⌝ }
+{
+    let to = append_count(out, 0, first);
+    let end = append_natural(out, to, second);
+    append_byte(out, end, 10)
+}
+
+// A text as it is given.
+pub fn text(bytes: &[u8], out: &mut [u8]) -> usize
+    ensures { λ r. ⌜ Appends 0 (now (bytes .entry)) (now (out .entry)) (now (out .exit)) r ⌝ }
+{
+    append_bytes(out, 0, bytes)
+}
+
 // The line of the entry at a place, counted by state and letter; nothing where the entry is 65,535, where there is no such place, or where the
 // streams have no letters, or more of either than a sheet can have.
 pub fn entry_text(
@@ -200,14 +246,4 @@ pub fn entry_text(
     let state = place / count;
     let streams = fewer(lows.len(), highs.len());
     entry_line(state, byte_at(finals, state), &values[..streams], next, out)
-}
-
-// The rows that `sluice` lends for a sheet with so many letters.
-pub fn rows_lent(letters: usize) -> usize
-    ensures { λ r. ⌜ r ≡ rowsLent letters ⌝ }
-{
-    if letters == 0 {
-        return 0;
-    }
-    fewer(256, 32768 / letters)
 }

@@ -17,17 +17,13 @@ use Rattle.meaning.specs.Window.{joinOver}
 use Rattle.sheet.specs.Form.{namesOf}
 use Rattle.sheet.specs.Refusal.{InBounds}
 use Rattle.sheet.specs.Accepted.{Accepted}
-use Rattle.letters.proofs.Streams.{unnamed, letterCount-unnamed, letterNumber-unnamed, isLetter-unnamed}
+use Rattle.letters.proofs.Streams.{unnamed, letterCount-unnamed, letterNumber-unnamed, isLetter-unnamed, length-unnamed}
 use Rattle.records.specs.Line.{valueLine, isNamesLine}
 use Rattle.records.specs.Machine.{lineStart, lineByte, lineEnd, endOf, storedName, namesStart, namesByte, namesEnd}
 use Rattle.records.proofs.Values.{AcceptedRanges, line-read}
 use Rattle.records.proofs.Names.{names-read, storedBytes, stored-names}
 
 -- ---- the values
-
-unnamed-length : (ss : List Stream) → length (unnamed ss) ≡ length ss
-unnamed-length [] = refl
-unnamed-length (s ∷ ss) = ap suc (unnamed-length ss)
 
 -- Each of them has the range of a stream of the sheet.
 unnamed-member : (ss : List Stream) (x : Stream) → List·Memᴰ x (unnamed ss) → (y : Stream) × List·Memᴰ y ss × (y .range ≡ x .range)
@@ -36,7 +32,7 @@ unnamed-member (s ∷ ss) x (List·Memᴰ·tail m) = let h = unnamed-member ss x
 
 valueLine-unnamed : (ss : List Stream) (l : List ℕ) → valueLine (unnamed ss) l ≡ valueLine ss l
 unfolding valueLine
-valueLine-unnamed ss l = simp (unnamed-length, isLetter-unnamed, letterNumber-unnamed)
+valueLine-unnamed ss l = simp (length-unnamed, isLetter-unnamed, letterNumber-unnamed)
 
 module _ {s : Sheet} (a : Accepted s) where
   abbrev streams : List Stream
@@ -45,7 +41,7 @@ module _ {s : Sheet} (a : Accepted s) where
   accepted-ranges : AcceptedRanges (unnamed streams)
   accepted-ranges =
       record {
-        few = subst (λ n. n ≤ 8) (sym (unnamed-length streams)) (a .streamCount);
+        few = subst (λ n. n ≤ 8) (sym (length-unnamed streams)) (a .streamCount);
         ordered = λ x m. let h = unnamed-member streams x m in subst (λ (I : Interval). I .low ≤ℤ I .high) (h .2) (a .rangesOrdered (h .0) (h .1));
         inBounds = λ x m. let h = unnamed-member streams x m in subst InBounds (h .2) (a .rangesInBounds (h .0) (h .1));
         fewLetters = subst (λ n. n ≤ 1024) (sym (letterCount-unnamed streams)) (a .letters);

@@ -2,20 +2,23 @@
 use Prim.Native.Nat.{ℕ, zero, suc, _+_, _*_, _≤_, _<_}
 use native.Mathlib.Omega.{arith}
 use mathlib.Core.Path.{_≡_, refl, sym, _∙_, ap, ap₂}
-use mathlib.Core.Bool.{Bool, true, false}
+use mathlib.Core.Bool.{Bool, true, false, _&&_}
 use mathlib.Core.List.{List, [], _∷_}
+use lib.Dec.{leb, leb→le}
 use lib.IntN.{ℤ}
 use lib.ListN.{take, drop}
-use borrow.Author.Tests.{lt-ltb, le-ltb}
-use Rattle.basics.proofs.Tests.{not-both, T-of-true}
+use borrow.Author.Tests.{lt-ltb, le-ltb, le-leb, ne-eqb}
+use Rattle.basics.proofs.Tests.{not-both, T-of-true, and-left, and-right}
 use Rattle.text.specs.Bytes.{inside, classOf, classFrom, isBracket, isInside}
 use Rattle.text.specs.Fold.{TokenReading, classByte, endToken}
+use Rattle.text.specs.Token.{isDigit}
 use Rattle.text.proofs.Bytes.{bracket-not-inside}
 use Rattle.meaning.specs.Expression.{Stream}
 use Rattle.meaning.specs.Letter.{letterCount}
 use Rattle.sheet.specs.Refusal.{letterBound}
 use Rattle.letters.specs.Described.{described, cutCount, numberOf}
 use Rattle.letters.proofs.Counts.{product-fits}
+use Rattle.records.specs.Line.{isPlain}
 use Rattle.records.specs.Machine.{streamAt, nextNumber}
 
 class-inside : (b : ℕ) → isInside b ≡ true → classOf b ≡ inside
@@ -24,6 +27,21 @@ class-inside b e = by (isBracket b) refl
     by : (t : Bool) → isBracket b ≡ t → classFrom t (isInside b) ≡ inside
     by true p = not-both (sym (bracket-not-inside b (T-of-true (isBracket b) p)) ∙ e)
     by false p = ap (classFrom false) e
+
+-- A digit is a plain byte inside a run.
+pub digit-plain : (b : ℕ) → isDigit b ≡ true → isPlain b ≡ true
+digit-plain b e =
+    let t = T-of-true (isDigit b) e in
+    let l = leb→le 48 b (and-left (leb 48 b) (leb b 57) t) in
+    let h = leb→le b 57 (and-right (leb 48 b) (leb b 57) t) in
+    ap₂ _&&_ (le-leb 32 b (omega arith)) (le-leb b 126 (omega arith))
+
+pub digit-inside : (b : ℕ) → isDigit b ≡ true → isInside b ≡ true
+digit-inside b e =
+    let t = T-of-true (isDigit b) e in
+    let l = leb→le 48 b (and-left (leb 48 b) (leb b 57) t) in
+    let h = leb→le b 57 (and-right (leb 48 b) (leb b 57) t) in
+    simp (le-leb 33 b (omega arith), le-leb b 126 (omega arith), ne-eqb b 40 (λ p. omega arith), ne-eqb b 41 (λ p. omega arith))
 
 abbrev pub reading : {S : Type 0} → Bool → S → TokenReading S
 reading begun s = record { begun = begun; state = s }

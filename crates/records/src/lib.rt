@@ -268,12 +268,20 @@ pub fn line_start() -> LineState
     }
 }
 
-// A line of values with one byte more. A bracket is a token by itself, and a byte that is in no token ends the one that is begun.
+// A line of values with one byte more. A bracket is a token by itself, and a byte that is in no token ends the one that is begun. Most bytes are
+// digits, so that they are told first.
 pub fn line_byte(line: LineState, byte: u8, lows: &[i64], highs: &[i64]) -> LineState
     ensures { λ r. ⌜ r ≡ lineByte (described (now (lows .entry)) (now (highs .entry))) line byte ⌝ }
 {
-    let barred = either(line.barred, !is_plain(byte));
     let values = line.values;
+    if is_digit(byte) {
+        return LineState {
+            barred: line.barred,
+            begun: true,
+            values: value_byte(values, byte),
+        };
+    }
+    let barred = either(line.barred, !is_plain(byte));
     if scan::is_inside(byte) {
         return LineState {
             barred: barred,

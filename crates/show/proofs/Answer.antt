@@ -1,18 +1,19 @@
--- A text prints one text, and always one; what `show` gives back is of that text. From the one answer to a text (sheet), the one outcome of a compile
--- (outcome) and the text of a printout (pages).
+-- A text prints one text, and always one; what `show` gives back is of that text. From the one outcome of a compile in the rows lent (lend) and the
+-- text of a printout (pages).
 use Prim.Native.Nat.{ℕ, zero, suc, _-_, _*_, _≤_, min}
 use native.Mathlib.Omega.{arith}
+use native.Mathlib.Nat.{le-trans}
 use mathlib.Core.Path.{_≡_, refl, sym, _∙_, ap, subst}
 use mathlib.Core.List.{List, [], _∷_, _++_, map, List·Memᴰ, List·Memᴰ·head, List·Memᴰ·tail, Memᴰ·map}
 use mathlib.Core.Bool.{Bool, true, false}
 use lib.Dec.{ltb}
 use lib.IntN.{ℤ, pos, negℤ}
-use lib.ListN.{length, take, replicate, length-append, length-map, length-replicate}
+use lib.ListN.{length, take, replicate, length-append, length-map, length-replicate, length-take}
 use Rattle.basics.proofs.Reflects.{to-true, T-reflects}
 use Rattle.meaning.specs.Expression.{Stream, Sheet}
 use Rattle.meaning.proofs.Order.{≤ℤ-trans}
 use Rattle.meaning.specs.Letter.{letterCount}
-use Rattle.sheet.specs.Refusal.{Answer, refused, sheet, AnswerTo, magnitudeBound}
+use Rattle.sheet.specs.Refusal.{Answer, refused as isRefusedWith, sheet, AnswerTo, magnitudeBound}
 use Rattle.text.specs.Token.{isName}
 use Rattle.nodes.specs.Bounds.{lowsOf, highsOf}
 use Rattle.letters.proofs.Above.{between-fits}
@@ -21,47 +22,33 @@ use mir.Syntax.{w64}
 use mir.Val.{SFits}
 use Rattle.sheet.specs.Reading.{answerTo}
 use Rattle.sheet.specs.Accepted.{Accepted}
-use Rattle.sheet.proofs.Reading.{answer-correct, answer-unique}
+use Rattle.sheet.proofs.Reading.{answer-correct}
 use Rattle.sheet.proofs.Accepted.{accepted-facts}
 use Rattle.reader.specs.declared.Reading.{Reading}
 use Rattle.reader.specs.Stored.{storedSheet, readingOf, nameBytes, nameLengths}
 use Rattle.reader.proofs.Streams.{name-fits}
-use Rattle.outcome.specs.Compile.{CompileAnswer, Tables, CompileCall, unread as textUnread, read}
-use Rattle.outcome.proofs.Answers.{one-number, one-sheet, refused≢sheet}
-use Rattle.outcome.proofs.AcceptedCompile.{refusal-positive, accepted-compile}
-use Rattle.outcome.proofs.CompileUnique.{compile-unique}
-use Rattle.outcome.proofs.CompileTotal.{compile-total}
-use Rattle.situations.proofs.Stored.{part-held, lows-part, highs-part, sheet-letters}
+use Rattle.outcome.specs.Compile.{CompileAnswer}
+use Rattle.situations.proofs.Stored.{part-held, lows-part, highs-part}
+use Rattle.lend.specs.Lend.{rowsLent, LentCall}
+use Rattle.lend.proofs.Outcome.{compiled-unique, compiled-held, refused-unique, refused-not-compiled, HasOutcome, isRefused, isCompiled, lent-total, stored-is, call-refused, call-compiled}
 use Rattle.pages.specs.Output.{Printout, outputText}
 use Rattle.pages.proofs.Output.{refused-text, table-text}
 use Rattle.print.specs.Text.{refusalLine}
 use Rattle.print.specs.Table.{printed, AllFit}
 use Rattle.print.proofs.Names.{Short}
+use Rattle.print.proofs.Table.{printed-part}
 use Rattle.show.specs.declared.Printed.{Printed}
-use Rattle.show.specs.Answer.{lentRoom, Prints, unread, notCompiled, compiled, Shown, printoutOf, HasRanges, CompiledWith}
+use Rattle.show.specs.Answer.{Prints, refused, compiled, Shown, printoutOf, HasRanges, CompiledWith}
 
 -- ---- a text prints one text
 
 module _ {text : List ℕ} where
-  same-outcome : {s q : Sheet} {a b : CompileAnswer} {t u : Tables} → s ≡ q → CompileCall text (lentRoom (letterCount (s .streams))) a t
-      → CompileCall text (lentRoom (letterCount (q .streams))) b u → (a ≡ b) × (t ≡ u)
-  same-outcome {s} {q} {a} {b} {t} {u} e o p =
-      compile-unique text (lentRoom (letterCount (q .streams)))
-      (subst (λ z. CompileCall text (lentRoom (letterCount (z .streams))) a t) e o) p
-
   pub prints-unique : {m n : ℕ} {b c : List ℕ} → Prints text m b → Prints text n c → (m ≡ n) × (b ≡ c)
-  prints-unique (unread r) (unread r′) = let e = one-number r r′ in (e, ap refusalLine e)
-  prints-unique (unread r) (notCompiled r′ o h) = absurd (refused≢sheet r r′)
-  prints-unique (unread r) (compiled r′ o z) = absurd (refused≢sheet r r′)
-  prints-unique (notCompiled r o h) (unread r′) = absurd (refused≢sheet r′ r)
-  prints-unique (compiled r o z) (unread r′) = absurd (refused≢sheet r′ r)
-  prints-unique (notCompiled r o h) (notCompiled r′ o′ h′) =
-      let e = same-outcome (one-sheet r r′) o o′ .0 in (ap (λ a. a .refusal) e, ap (λ a. refusalLine (a .refusal)) e)
-  prints-unique (notCompiled r o h) (compiled r′ o′ z) = absurd (omega (arith, ap (λ a. a .refusal) (same-outcome (one-sheet r r′) o o′ .0)))
-  prints-unique (compiled r o z) (notCompiled r′ o′ h) = absurd (omega (arith, ap (λ a. a .refusal) (same-outcome (one-sheet r r′) o o′ .0)))
-  prints-unique (compiled r o z) (compiled r′ o′ z′) =
-      let e = same-outcome (one-sheet r r′) o o′ in
-      (ap (λ a. a .refusal) (e .0), λ i. printed (one-sheet r r′ i .streams) (e .0 i .states) (e .1 i .entries) (e .1 i .finals))
+  prints-unique (refused r) (refused r′) = let e = refused-unique r r′ in (e, ap refusalLine e)
+  prints-unique (refused r) (compiled c z) = absurd (refused-not-compiled r c z)
+  prints-unique (compiled c z) (refused r) = absurd (refused-not-compiled r c z)
+  prints-unique (compiled c z) (compiled c′ z′) =
+      let e = compiled-unique c c′ in (refl, λ i. printed (e .0 i .streams) (e .1 .0 i .states) (e .1 .1 i .entries) (e .1 .1 i .finals))
 
 -- ---- and always one
 
@@ -71,16 +58,11 @@ pub record HasOutput (text : List ℕ) : Type 0 where
   pub prints : Prints text number bytes
 
 pub prints-total : (text : List ℕ) → HasOutput text
-prints-total text = go (answerTo text) (answer-correct text)
+prints-total text = go (lent-total text)
   where
-    by : {s : Sheet} {a : CompileAnswer} {t : Tables} → AnswerTo text (sheet s)
-        → CompileCall text (lentRoom (letterCount (s .streams))) a t → (b : Bool) → ltb 0 (a .refusal) ≡ b → HasOutput text
-    by {s} {a} r o true e = record { number = _; bytes = _; prints = notCompiled r o (ltb-true 0 (a .refusal) e) }
-    by {s} {a} r o false e = record { number = _; bytes = _; prints = compiled r o (omega (arith, ltb-false 0 (a .refusal) e)) }
-
-    go : (x : Answer) → AnswerTo text x → HasOutput text
-    go (refused n) r = record { number = n; bytes = refusalLine n; prints = unread r }
-    go (sheet s) r = let o = compile-total text (lentRoom (letterCount (s .streams))) in by r (o .outcome) (ltb 0 (o .answer .refusal)) refl
+    go : HasOutcome text → HasOutput text
+    go (isRefused r) = record { number = _; bytes = _; prints = refused r }
+    go (isCompiled c z) = record { number = _; bytes = _; prints = compiled c z }
 
 -- ---- the ranges of a stored sheet
 
@@ -135,47 +117,48 @@ module _ (text : List ℕ) {reading : Reading} (read-as : reading ≡ readingOf 
   read-ranges = subst (λ x. HasRanges (x .sheet)) (sym read-as) (go (answerTo text) (answer-correct text))
     where
       go : (x : Answer) → AnswerTo text x → HasRanges (readingOf x .sheet)
-      go (refused n) r = record { lowCount = refl; highCount = refl; lows = fit-zeros 8; highs = fit-zeros 8 }
+      go (isRefusedWith n) r = record { lowCount = refl; highCount = refl; lows = fit-zeros 8; highs = fit-zeros 8 }
       go (sheet s) r = stored-ranges (accepted-facts r)
 
-  -- The stored sheet is that of the sheet which the text is.
-  stored-is : {s : Sheet} → AnswerTo text (sheet s) → reading .sheet ≡ storedSheet s
-  stored-is {s} r = ap (λ x. x .sheet) (read-as ∙ ap readingOf (answer-unique (answer-correct text) r))
-
-  abbrev shownAs : CompileAnswer → Tables → Printout
-  shownAs a t = printoutOf (reading .sheet) (a .refusal) (a .states) (t .entries) (t .finals)
+  abbrev shownAs : CompileAnswer → (entries finals : List ℕ) → Printout
+  shownAs a entries finals = printoutOf (reading .sheet) (a .refusal) (a .states) entries finals
 
   -- The text of a table is that of the sheet's streams.
-  table-bytes : {s : Sheet} (a : CompileAnswer) (t : Tables) → AnswerTo text (sheet s) → a .refusal ≡ 0 → a .states * letterCount (s .streams) ≤ length (t .entries)
-      → outputText (shownAs a t) ≡ printed (s .streams) (a .states) (t .entries) (t .finals)
+  table-bytes : {s : Sheet} (a : CompileAnswer) (entries finals : List ℕ) → AnswerTo text (sheet s) → a .refusal ≡ 0 → a .states * letterCount (s .streams) ≤ length entries
+      → outputText (shownAs a entries finals) ≡ printed (s .streams) (a .states) entries finals
   unfolding storedSheet
-  table-bytes {s} a t x z fits =
+  table-bytes {s} a entries finals x z fits =
       let f = accepted-facts x in
-      let same = stored-is x in
+      let same = stored-is text read-as x in
       let few = f .streamCount in
       let k : min (reading .sheet .streams) 8 ≡ reading .sheet .streams = omega (arith, ap (λ y. y .streams) same) in
-      table-text (shownAs a t) z few (f .letters) (short-names f) (replicate (64 - length (nameBytes (s .streams))) 0) (replicate (8 - length (nameLengths (s .streams))) 0)
+      table-text (shownAs a entries finals) z few (f .letters) (short-names f) (replicate (64 - length (nameBytes (s .streams))) 0) (replicate (8 - length (nameLengths (s .streams))) 0)
       (ap (λ y. y .names) same) (ap (λ y. y .lengths) same) (ap (λ n. take n (reading .sheet .lows)) k ∙ part-held (lows-part s same)) (ap (λ n. take n (reading .sheet .highs)) k ∙ part-held (highs-part s same)) fits
 
-  sheet-prints : {s : Sheet} {a : CompileAnswer} {t : Tables} → AnswerTo text (sheet s) → CompileCall text (lentRoom (letterCount (s .streams))) a t
-      → (b : Bool) → ltb 0 (a .refusal) ≡ b → Prints text (a .refusal) (outputText (shownAs a t))
-  sheet-prints {s} {a} {t} x o true e =
-      let h = ltb-true 0 (a .refusal) e in subst (Prints text (a .refusal)) (sym (refused-text (shownAs a t) (λ z. omega arith))) (notCompiled x o h)
-  sheet-prints {s} {a} {t} x o false e =
-      let z : a .refusal ≡ 0 = omega (arith, ltb-false 0 (a .refusal) e) in
-      let c = accepted-compile o z in
-      let fits = subst (λ q. a .states * letterCount (q .streams) ≤ length (t .entries)) (one-sheet (c .read) x) (c .held .table .entries-fit) in
-      subst (Prints text (a .refusal)) (sym (table-bytes a t x z fits)) (compiled x o z)
-
   -- The bytes of the pages of a call in the rows lent are what the text prints.
-  pub call-prints : {a : CompileAnswer} {t : Tables} → CompileCall text (lentRoom (reading .sheet .letters)) a t → Prints text (a .refusal) (outputText (shownAs a t))
-  call-prints {a} {t} (textUnread x) = let h = refusal-positive x in subst (Prints text (a .refusal)) (sym (refused-text (shownAs a t) (λ z. omega arith))) (unread x)
-  call-prints {a} {t} (read x o) =
-      sheet-prints x (subst (λ k. CompileCall text (lentRoom k) a t) (sheet-letters _ (stored-is x)) (read x o)) (ltb 0 (a .refusal)) refl
+  pub call-prints : {a : CompileAnswer} {entries finals : List ℕ} → LentCall text (reading .sheet .letters) a entries finals → Prints text (a .refusal) (outputText (shownAs a entries finals))
+  call-prints {a} {entries} {finals} o = go (ltb 0 (a .refusal)) refl
+    where
+      go : (b : Bool) → ltb 0 (a .refusal) ≡ b → Prints text (a .refusal) (outputText (shownAs a entries finals))
+      go true e =
+          let h = ltb-true 0 (a .refusal) e in
+          subst (Prints text (a .refusal)) (sym (refused-text (shownAs a entries finals) (λ z. omega arith))) (refused (call-refused text read-as (o .call) h))
+      go false e =
+          let z : a .refusal ≡ 0 = omega (arith, ltb-false 0 (a .refusal) e) in
+          let c = call-compiled text read-as (o .call) z in
+          let held = compiled-held (c .1) z .table in
+          let streams = c .0 .streams in
+          let rows = rowsLent (reading .sheet .letters) in
+          let size = length-take (rows * reading .sheet .letters) entries in
+          let fits : a .states * letterCount streams ≤ length entries = le-trans (held .entries-fit) (omega arith) in
+          let inside : a .states * letterCount streams ≤ rows * reading .sheet .letters = le-trans (held .entries-fit) (omega arith) in
+          let inside′ : a .states ≤ rows = omega (arith, held .finals-fit, length-take rows finals) in
+          let text-of = table-bytes a entries finals (c .1 .reads) z fits ∙ printed-part streams entries finals inside inside′ in
+          subst (λ n. Prints text n (outputText (shownAs a entries finals))) (sym z) (subst (Prints text 0) (sym text-of) (compiled (c .1) z))
 
-  pub shown-of : {r : Printed} → CompiledWith text (lentRoom (reading .sheet .letters)) (reading .sheet) r → Shown text r
+  pub shown-of : {r : Printed} → CompiledWith text (reading .sheet) r → Shown text r
   shown-of {r} c =
-      let bytes = outputText (shownAs (c .answer) (c .tables)) in
+      let bytes = outputText (shownAs (c .answer) (c .entries) (c .finals)) in
       record {
         bytes = bytes;
         prints = subst (λ n. Prints text n bytes) (sym (c .prints .number)) (call-prints (c .outcome));

@@ -1,44 +1,25 @@
 -- What `sluice` prints for a text, and what `show` gives back (document 01, "a program `sluice` that reads a sheet from standard input and prints its
 -- table").
-use Prim.Native.Nat.{ℕ, _*_, _<_, min}
+use Prim.Native.Nat.{ℕ, _<_, min}
 use mathlib.Core.Path.{_≡_}
 use mathlib.Core.Bool.{true, false}
-use mathlib.Core.List.{List, [], _∷_}
+use mathlib.Core.List.{List}
 use lib.ListN.{length, take}
 use Rattle.meaning.specs.Expression.{Sheet}
-use Rattle.meaning.specs.Letter.{letterCount}
-use Rattle.sheet.specs.Refusal.{refused, sheet, AnswerTo}
 use Rattle.reader.specs.declared.Sheet.{Sheet as StoredSheet}
-use Rattle.outcome.specs.Room.{LentTable}
-use Rattle.outcome.specs.Compile.{CompileAnswer, Room, Tables, CompileCall}
+use Rattle.outcome.specs.Compile.{CompileAnswer, Tables}
+use Rattle.lend.specs.Lend.{CompiledLent, RefusedLent, LentCall}
 use Rattle.print.specs.Text.{refusalLine}
-use Rattle.print.specs.Table.{printed, rowsLent, AllFit}
+use Rattle.print.specs.Table.{printed, AllFit}
 use Rattle.pages.specs.Output.{Printout, outputText}
 use Rattle.show.specs.declared.Printed.{Printed}
 
--- "`sluice` lends 256 rows, or 32,768 divided by the letters, cut to a whole number, if that is fewer." Of the work tables the keys take 16 numbers
--- a row, and each of the other six takes one.
-abbrev pub lentRoom : ℕ → Room
-lentRoom letters =
-    let rows = rowsLent letters in
-    let one : LentTable = record { perRow = 1; size = rows } in
-    record {
-      entries = rows * letters;
-      finals = rows;
-      work = record { perRow = 16; size = rows * 16 } ∷ (one ∷ (one ∷ (one ∷ (one ∷ (one ∷ (one ∷ []))))));
-    }
-
 -- What `sluice` prints for a text, with the number of the refusal that it prints, or 0.
 pub data Prints (text : List ℕ) : ℕ → List ℕ → Type 0 where
-  -- a refusal 1 to 7
-  unread : {n : ℕ} → AnswerTo text (refused n) → Prints text n (refusalLine n)
-  -- "printed as the one line `refused 9`", in the rows lent
-  notCompiled : {s : Sheet} {a : CompileAnswer} {t : Tables} → AnswerTo text (sheet s)
-      → CompileCall text (lentRoom (letterCount (s .streams))) a t → 0 < a .refusal → Prints text (a .refusal) (refusalLine (a .refusal))
+  -- "printed as the one line `refused 9`"
+  refused : {n : ℕ} → RefusedLent text n → Prints text n (refusalLine n)
   -- "a heading with the names, then a line for each entry that is not 65,535, by state and letter"
-  compiled : {s : Sheet} {a : CompileAnswer} {t : Tables} → AnswerTo text (sheet s)
-      → CompileCall text (lentRoom (letterCount (s .streams))) a t → a .refusal ≡ 0
-      → Prints text (a .refusal) (printed (s .streams) (a .states) (t .entries) (t .finals))
+  compiled : {s : Sheet} {a : CompileAnswer} {t : Tables} → CompiledLent text s a t → a .refusal ≡ 0 → Prints text 0 (printed (s .streams) (a .states) (t .entries) (t .finals))
 
 -- What `show` gives back: the refusal's number or 0, and how many bytes were taken by writes: as many as `sluice` prints where every write took its
 -- bytes, and else fewer.
@@ -77,9 +58,10 @@ pub record PrintsAll (p : Printout) (r : Printed) : Type 0 where
   pub handed : r .whole ≡ true → r .size ≡ length (outputText p)
   pub cut : r .whole ≡ false → r .size < length (outputText p)
 
--- The compile of the text in the room is printed, with the stored sheet's names and ranges.
-pub record CompiledWith (text : List ℕ) (room : Room) (stored : StoredSheet) (r : Printed) : Type 0 where
+-- The compile of the text in the rows lent for the stored sheet's letters is printed, with the stored sheet's names and ranges.
+pub record CompiledWith (text : List ℕ) (stored : StoredSheet) (r : Printed) : Type 0 where
   pub answer : CompileAnswer
-  pub tables : Tables
-  pub outcome : CompileCall text room answer tables
-  pub prints : PrintsAll (printoutOf stored (answer .refusal) (answer .states) (tables .entries) (tables .finals)) r
+  pub entries : List ℕ
+  pub finals : List ℕ
+  pub outcome : LentCall text (stored .letters) answer entries finals
+  pub prints : PrintsAll (printoutOf stored (answer .refusal) (answer .states) entries finals) r

@@ -1,12 +1,11 @@
 // Prints what `sluice` prints for a sheet: its table, or the line of its refusal. The crate `pages` gives the bytes; what is left here is the loop
 // that writes them. No contract can say what reaches standard output, so the loop counts the bytes that it hands over.
 use basics::fewer;
-ghost use mathlib.Core.Path.{_≡_};
-ghost use Prim.Native.Nat.{_*_, _≤_};
+ghost use Prim.Native.Nat.{_≤_};
 ghost use lib.ListN.{length};
 ghost use Rattle.pages.specs.Lines.{IsPage};
 ghost use Rattle.pages.specs.Output.{outputAt, placesOf};
-ghost use Rattle.show.specs.Answer.{HasRanges, lentRoom, printoutOf, PrintsAll, CompiledWith, Shown};
+ghost use Rattle.show.specs.Answer.{HasRanges, printoutOf, PrintsAll, CompiledWith, Shown};
 use libc::STDOUT_FILENO;
 use pages::Page;
 
@@ -85,68 +84,16 @@ fn write_pages(
     }
 }
 
-// Room for the entries, the final bytes, the keys with 16 numbers a row, and a work table with one.
-fn entry_room() -> [u16; 32768]
-    ensures { λ r. ⌜ 32768 ≡ length r ⌝ }
-{
-    [0; 32768]
-}
-
-fn final_room() -> [u8; 256]
-    ensures { λ r. ⌜ 256 ≡ length r ⌝ }
-{
-    [0; 256]
-}
-
-fn key_room() -> [u32; 4096]
-    ensures { λ r. ⌜ 4096 ≡ length r ⌝ }
-{
-    [0; 4096]
-}
-
-fn work_room() -> [u32; 256]
-    ensures { λ r. ⌜ 256 ≡ length r ⌝ }
-{
-    [0; 256]
-}
-
-// Compiles the text in "256 rows, or 32,768 divided by the letters, cut to a whole number, if that is fewer", and prints the table or the refusal.
+// Compiles the text in the rows lent for the sheet's letters, and prints the table or the refusal. What stands behind the rows lent is not printed.
 fn show_sheet(text: &[u8], sheet: reader::Sheet) -> Printed
     requires { ⌜ HasRanges sheet ⌝ }
-    ensures { λ r. ⌜ CompiledWith (now (text .entry)) (lentRoom (sheet .letters)) sheet r ⌝ }
+    ensures { λ r. ⌜ CompiledWith (now (text .entry)) sheet r ⌝ }
 {
+    let mut entries = [0u16; 32768];
+    let mut finals = [0u8; 256];
     let letters = sheet.letters as usize;
-    let rows = print::rows_lent(letters);
-    let room = rows * letters;
-    let key_size = rows * 16;
-    let mut entries = entry_room();
-    let mut finals = final_room();
-    let mut keys = key_room();
-    let mut live = work_room();
-    let mut class = work_room();
-    let mut next = work_room();
-    let mut heads = work_room();
-    let mut links = work_room();
-    let mut shared = work_room();
-    let compiled = compile::compile(
-        text,
-        &mut entries[..room],
-        &mut finals[..rows],
-        &mut keys[..key_size],
-        &mut live[..rows],
-        &mut class[..rows],
-        &mut next[..rows],
-        &mut heads[..rows],
-        &mut links[..rows],
-        &mut shared[..rows],
-    );
-    write_pages(
-        sheet,
-        compiled.refusal,
-        compiled.states,
-        &entries[..room],
-        &finals[..rows],
-    )
+    let compiled = lend::compile_lent(text, letters, &mut entries, &mut finals);
+    write_pages(sheet, compiled.refusal, compiled.states, &entries, &finals)
 }
 
 // "a program `sluice` that reads a sheet from standard input and prints its table", for the bytes that were read. Gives the number of the refusal

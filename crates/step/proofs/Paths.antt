@@ -12,13 +12,14 @@ use Rattle.stored.proofs.Table.{length-tableBytes, numberAt-tableBytes}
 use Rattle.automaton.specs.Words.{AllBelow}
 use Rattle.automaton.specs.Table.{noState, walk, PathFrom, IsPath}
 use Rattle.automaton.specs.Stored.{entryAt}
-use Rattle.step.specs.Step.{entryWidth, rowBytes, rowCount, entryFollowed, mostRows, StepAnswer}
+use Rattle.step.specs.Step.{entryWidth, rowBytes, rowCount, entryFollowed, mostRows, refusedStep, StepAnswer}
 use Rattle.step.specs.Step.Refusal12.{missing}
+use Rattle.step.specs.Step.StepAnswer.{refused11}
 use Rattle.step.specs.RunningPlace.{StepRefused}
 use Rattle.step.specs.Followed.{Followed, WholeTable}
 use Rattle.step.specs.Followed.Followed.{stays, steps}
-use Rattle.step.proofs.Refusals.{Sound, not-refusal11, answers-state}
-use Rattle.step.proofs.Answers.{answer-unique}
+use Rattle.step.proofs.Refusals.{Sound, not-refusal11, answers-12, answers-state}
+use Rattle.step.proofs.Answers.{answer-unique, answer-refused}
 
 abbrev entryBytes : List ℕ → List ℕ
 entryBytes entries = tableBytes entryWidth entries
@@ -87,6 +88,17 @@ module _ {k n : ℕ} {entries : List ℕ} (whole : WholeTable k n entries) where
   step-refused : (i a : ℕ) → i < n → a < k → entryAt k entries i a ≡ noState → StepRefused (entryBytes entries) k i a
   step-refused i a inside is-letter none = inr (missing (entry-read i a inside is-letter ∙ none))
 
+  -- so a step is refused with 12 exactly if the entry is 65,535
+  pub refused-12↔missing : (i a : ℕ) → i < n → a < k → StepAnswer (tableBytes entryWidth entries) k i a (refusedStep 12) ↔ (entryAt k entries i a ≡ noState)
+  refused-12↔missing i a inside is-letter = (to, λ none. answers-12 (sound i a inside is-letter) noState (sym (entry-read i a inside is-letter ∙ none)) refl)
+    where
+      to : StepAnswer (entryBytes entries) k i a (refusedStep 12) → entryAt k entries i a ≡ noState
+      to answer =
+          elim (answer-refused answer (omega arith)) [
+            | inl eleven ↦ absurd (omega (arith, answer-unique answer (refused11 eleven)))
+            | inr twelve ↦ sym (entry-read i a inside is-letter) ∙ (elim twelve [ missing none ↦ none ])
+          ]
+
   -- from any state, and then from the start
 
   path-followed : (i : ℕ) (r : List ℕ) → i < n → AllBelow k r → PathFrom (entryAt k entries) i r
@@ -108,12 +120,16 @@ module _ {k n : ℕ} {entries : List ℕ} (whole : WholeTable k n entries) where
         later .1 ∙ ap (λ (state : ℕ). walk (entryAt k entries) state rest) same,
       )
 
+  pub followed↔path-from : (i : ℕ) → i < n → (r : List ℕ) (last : ℕ) → AllBelow k r
+      → Followed (tableBytes entryWidth entries) k i r last ↔ (PathFrom (entryAt k entries) i r × (last ≡ walk (entryAt k entries) i r))
+  followed↔path-from i inside r last letters = (
+    followed-path i last r inside letters,
+    λ path. subst (Followed (entryBytes entries) k i r) (sym (path .1)) (path-followed i r inside letters (path .0)),
+  )
+
   pub followed↔path : (r : List ℕ) (last : ℕ) → AllBelow k r
       → Followed (tableBytes entryWidth entries) k 0 r last ↔ (IsPath (entryAt k entries) r × (last ≡ walk (entryAt k entries) 0 r))
-  followed↔path r last letters = (
-    followed-path 0 last r (whole .some-row) letters,
-    λ path. subst (Followed (entryBytes entries) k 0 r) (sym (path .1)) (path-followed 0 r (whole .some-row) letters (path .0)),
-  )
+  followed↔path r last letters = followed↔path-from 0 (whole .some-row) r last letters
 
   -- so a record can be followed by steps exactly if it is a path
   pub path↔followed : (r : List ℕ) → AllBelow k r → IsPath (entryAt k entries) r ↔ ((last : ℕ) × Followed (tableBytes entryWidth entries) k 0 r last)

@@ -125,7 +125,7 @@ module _ {text : List ℕ} {room : Room} {a : CompileAnswer} {t : Tables} (call 
         → IsPath (entryAt k (t .entries)) (map (letterNumber (s .streams)) r) ↔ BeginsSolution s r
     path↔solution r h = path↔begins-solution s (read-known read) (held .table) r h
 
-    few-states : a .states ≤ situationBound
+    pub few-states : a .states ≤ situationBound
     few-states =
         let c = accepted-compile call accepted in
         omega (arith, states-at-most-situations (c .source) (c .held .table .table) (c .fit .counted), c .fit .withinBound)

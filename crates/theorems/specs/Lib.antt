@@ -1,2 +1,4 @@
 pub mod Following
 pub mod Refusals
+pub mod Replaying
+pub mod WorkedRecords

@@ -1,6 +1,8 @@
 -- `print::append_byte` meets its contract: the byte is stored where there is room for it.
+use native.Mathlib.Omega.{arith}
+use mathlib.Core.List.{[], _∷_}
 use borrow.Author.Needs.{needs}
-use Rattle.print.proofs.Append.{byte-left}
+use Rattle.print.proofs.Append.{text-left}
 use Rattle.print.proofs.append_byte.Statement.{statement}
 use Rattle.print.proofs.append_byte.Tie as tie
 
@@ -20,7 +22,7 @@ add-result-2 : tie.Need-add-result-2
 add-result-2 c = search needs
 
 returns-2 : tie.Need-returns-2
-returns-2 c = byte-left (c .before .args .out .now) (c .before .args .byte) (c .if1 .left)
+returns-2 c = text-left (c .before .args .out .now) (c .before .args .byte ∷ []) (omega arith)
 
 pub append-byte-spec : {M : Type 1} → statement M
 append-byte-spec =

@@ -1,0 +1,4 @@
+pub mod Judged
+pub mod Opening
+pub mod Plays
+pub mod Printing

@@ -1,0 +1,138 @@
+-- What `replay` prints is there for every sheet, record and start, and is one; and a program that prints the refusal that `open` gives, or plays the
+-- record from the state and with the entries that it gives, prints it. From the one outcome of a compile in the rows lent (lend).
+use Prim.Native.Nat.{ℕ, zero, suc, _+_, _-_, _*_, _<_}
+use native.Mathlib.Omega.{arith}
+use mathlib.Core.Path.{_≡_, refl, sym, _∙_, ap, subst}
+use mathlib.Core.Bool.{cond}
+use mathlib.Core.List.{List, [], _∷_, _++_}
+use mathlib.Core.Option.{Option, none, some}
+use lib.ListN.{length, getD}
+use Rattle.text.specs.Bytes.{Token, lines}
+use Rattle.meaning.specs.Expression.{Stream, Sheet}
+use Rattle.meaning.specs.Letter.{letterCount}
+use Rattle.sheet.specs.Refusal.{sheet, AnswerTo}
+use Rattle.sheet.specs.Form.{namesOf}
+use Rattle.reader.specs.Stored.{storedSheet}
+use Rattle.basics.proofs.Clearing.{zeros as zero-at}
+use Rattle.outcome.specs.Room.{zeros}
+use Rattle.outcome.specs.Compile.{CompileAnswer, Tables}
+use Rattle.lend.specs.Lend.{CompiledLent}
+use Rattle.lend.proofs.Outcome.{compiled-unique, refused-positive, refused-unique, refused-not-compiled, HasOutcome, isRefused, isCompiled, lent-total, stored-is}
+use Rattle.print.specs.Text.{refusalLine}
+use Rattle.records.specs.Line.{ValueLine, malformed, outside, letter, valueLine, isNamesLine}
+use Rattle.replaying.specs.Replay.{startState, replayHeading, lineThen, outcomeFrom, entered, replayed, replayedLines}
+use Rattle.opening.specs.declared.Opened.{Opened}
+use Rattle.opening.specs.Plays.{Plays, refusedSheet, noStart, played}
+use Rattle.opening.specs.Opens.{openedAs, Opens, refusedSheet as givesRefusal, noStart as givesNoStart, opened}
+
+-- ---- one outcome
+
+none≢some : {o : Option ℕ} {state : ℕ} → o ≡ none → o ≡ some state → ⊥
+none≢some p q = let z : _≡_ {A = ℕ} 0 1 = cc in omega arith
+
+module _ {text : List ℕ} (start : Option Token) where
+  -- A start that is judged for two compiles of the text is judged the same.
+  same-start : {s q : Sheet} {a b : CompileAnswer} {t u : Tables} {o p : Option ℕ} → CompiledLent text s a t → CompiledLent text q b u → startState (a .states) start ≡ o → startState (b .states) start ≡ p → o ≡ p
+  same-start c d e f = sym e ∙ ap (λ x. startState (x .states) start) (compiled-unique c d .1 .0) ∙ f
+
+  same-state : {s q : Sheet} {a b : CompileAnswer} {t u : Tables} {i j : ℕ} → CompiledLent text s a t → CompiledLent text q b u → startState (a .states) start ≡ some i → startState (b .states) start ≡ some j → i ≡ j
+  same-state {i = i} {j} c d e f = inside (same-start c d e f)
+    where
+      inside : some i ≡ some j → i ≡ j
+      inside e = cc
+
+  module _ {recordText : List ℕ} where
+    pub plays-unique : {b c : List ℕ} → Plays text recordText start b → Plays text recordText start c → b ≡ c
+    plays-unique (refusedSheet r) (refusedSheet q) = ap refusalLine (refused-unique r q)
+    plays-unique (refusedSheet r) (noStart d z f) = absurd (refused-not-compiled r d z)
+    plays-unique (refusedSheet r) (played d z f) = absurd (refused-not-compiled r d z)
+    plays-unique (noStart c y e) (refusedSheet q) = absurd (refused-not-compiled q c y)
+    plays-unique (noStart c y e) (noStart d z f) = refl
+    plays-unique (noStart c y e) (played d z f) = absurd (none≢some (sym (same-start c d e refl)) f)
+    plays-unique (played c y e) (refusedSheet q) = absurd (refused-not-compiled q c y)
+    plays-unique (played c y e) (noStart d z f) = absurd (none≢some f (sym (same-start c d e refl)))
+    plays-unique (played c y e) (played d z f) =
+        let same = compiled-unique c d in
+        let state = same-state c d e f in
+        λ i. replayedLines (same .0 i .streams) (same .1 .1 i .entries) (state i) (lines recordText)
+
+  -- What `open` gives back, and what it leaves in the entries, is one.
+  pub opens-unique : {r q : Opened} {entries others : List ℕ} → Opens text start r entries → Opens text start q others → (r ≡ q) × (entries ≡ others)
+  opens-unique (givesRefusal r) (givesRefusal q) = (ap (λ n. openedAs n 0 text) (refused-unique r q), refl)
+  opens-unique (givesRefusal r) (givesNoStart d z f) = absurd (refused-not-compiled r d z)
+  opens-unique (givesRefusal r) (opened d z f) = absurd (refused-not-compiled r d z)
+  opens-unique (givesNoStart c y e) (givesRefusal q) = absurd (refused-not-compiled q c y)
+  opens-unique (givesNoStart c y e) (givesNoStart d z f) = (refl, refl)
+  opens-unique (givesNoStart c y e) (opened d z f) = absurd (none≢some (sym (same-start c d e refl)) f)
+  opens-unique (opened c y e) (givesRefusal q) = absurd (refused-not-compiled q c y)
+  opens-unique (opened c y e) (givesNoStart d z f) = absurd (none≢some f (sym (same-start c d e refl)))
+  opens-unique (opened c y e) (opened d z f) =
+      (ap (λ i. openedAs 0 i text) (same-state c d e f), ap (λ t. t .entries ++ zeros (32768 - length (t .entries))) (compiled-unique c d .1 .1))
+
+-- ---- and always one
+
+pub record HasOutput (text recordText : List ℕ) (start : Option Token) : Type 0 where
+  pub bytes : List ℕ
+  pub plays : Plays text recordText start bytes
+
+pub plays-total : (text recordText : List ℕ) (start : Option Token) → HasOutput text recordText start
+plays-total text recordText start = go (lent-total text)
+  where
+    by : {s : Sheet} {a : CompileAnswer} {t : Tables} → CompiledLent text s a t → a .refusal ≡ 0 → (o : Option ℕ) → startState (a .states) start ≡ o → HasOutput text recordText start
+    by c z none e = record { bytes = _; plays = noStart c z e }
+    by c z (some state) e = record { bytes = _; plays = played c z e }
+
+    go : HasOutcome text → HasOutput text recordText start
+    go (isRefused r) = record { bytes = _; plays = refusedSheet r }
+    go (isCompiled {a = a} c z) = by c z (startState (a .states) start) refl
+
+-- ---- zeros behind the entries
+
+zeros-behind : (l : List ℕ) (n i : ℕ) → getD l i 0 ≡ getD (l ++ zeros n) i 0
+zeros-behind [] n i = sym (zero-at n i)
+zeros-behind (x ∷ l) n zero = refl
+zeros-behind (x ∷ l) n (suc i) = zeros-behind l n i
+
+-- An entry that a list does not have is read as 0, so what is printed is the same with zeros behind the entries.
+module _ (ss : List Stream) (entries others : List ℕ) (same : (i : ℕ) → getD entries i 0 ≡ getD others i 0) where
+  same-outcome : (state : ℕ) (v : ValueLine) → outcomeFrom ss entries state v ≡ outcomeFrom ss others state v
+  same-outcome state malformed = refl
+  same-outcome state outside = refl
+  same-outcome state (letter a) = ap entered (same (state * letterCount ss + a))
+
+  same-replayed : (ls : List (List ℕ)) (number state : ℕ) → replayed ss entries number state ls ≡ replayed ss others number state ls
+  unfolding replayed
+  same-replayed [] number state = refl
+  same-replayed (l ∷ ls) number state = λ i. lineThen number (λ next. same-replayed ls (suc number) next i) (same-outcome state (valueLine ss l) i)
+
+  same-lines : (state : ℕ) (ls : List (List ℕ)) → replayedLines ss entries state ls ≡ replayedLines ss others state ls
+  unfolding replayedLines
+  same-lines state [] = refl
+  same-lines state (l ∷ ls) = ap (λ printed. cond (isNamesLine (namesOf ss) l) (replayHeading ++ printed) (refusalLine 13)) (same-replayed ls 1 state)
+
+-- ---- what a program prints with what `open` gives back
+
+-- The stored sheet is that of the text, and each record is played along the entries from the state.
+pub record PlaysOpened (text : List ℕ) (start : Option Token) (r : Opened) (entries : List ℕ) : Type 0 where
+  pub source : Sheet
+  pub reads : AnswerTo text (sheet source)
+  pub stored : r .sheet ≡ storedSheet source
+  pub plays : (recordText : List ℕ) → Plays text recordText start (replayedLines (source .streams) entries (r .state) (lines recordText))
+
+module _ {text : List ℕ} {start : Option Token} where
+  pub refused-plays : {r : Opened} {entries : List ℕ} → Opens text start r entries → 0 < r .refusal → (recordText : List ℕ) → Plays text recordText start (refusalLine (r .refusal))
+  refused-plays (givesRefusal r) h recordText = refusedSheet r
+  refused-plays (givesNoStart c z e) h recordText = noStart c z e
+  refused-plays (opened c z e) h recordText = absurd (omega arith)
+
+  pub opened-plays : {r : Opened} {entries : List ℕ} → Opens text start r entries → r .refusal ≡ 0 → PlaysOpened text start r entries
+  opened-plays (givesRefusal r) z = absurd (omega (arith, refused-positive r))
+  opened-plays (givesNoStart c y e) z = absurd (omega arith)
+  opened-plays (opened {s} {t = t} {state} c y e) z =
+      let behind = zeros-behind (t .entries) (32768 - length (t .entries)) in
+      record {
+        source = s;
+        reads = c .reads;
+        stored = stored-is text refl (c .reads);
+        plays = λ recordText. subst (Plays text recordText start) (same-lines (s .streams) (t .entries) (t .entries ++ zeros (32768 - length (t .entries))) behind state (lines recordText)) (played c y e);
+      }

@@ -1,0 +1,8 @@
+pub mod Slices
+pub mod Runs
+pub mod Outcomes
+pub mod Steps
+pub mod Plays
+pub mod Lines
+pub mod Ends
+pub mod Chunks

@@ -1,0 +1,187 @@
+"""Runs the programs through tools/launch: help, usage, exit statuses, links, files that cannot be read, output that cannot be written.
+
+    python3 tests/launch/run.py
+
+Uses target/bin/sluice, which `rt check sluice` makes, and target/bin/replay where it is there. How a program is built, what is passed on and how
+long it is kept is tested in a folder of its own, with stand-ins for `rt` and for the program.
+"""
+
+import os
+import pathlib
+import shutil
+import subprocess
+import sys
+import tempfile
+import time
+
+ROOT = pathlib.Path(__file__).resolve().parents[2]
+SHEET = "x y\n0 0\n1 1\nx until y\n"
+TABLE = "state final x y next\n0 0 0 1 1\n0 0 1 0 0\n0 0 1 1 1\n1 1 0 0 1\n1 1 0 1 1\n1 1 1 0 1\n1 1 1 1 1\n"
+NO_SOLUTION = "x\n0\n1\nnext x == x + 1\n"
+done = 0
+
+
+def run(command, stdin=subprocess.DEVNULL, stdout=subprocess.PIPE, text=None, **more):
+    given = {"input": text} if text is not None else {"stdin": stdin}
+    return subprocess.run([str(word) for word in command], stdout=stdout, stderr=subprocess.PIPE, text=True, timeout=60, **given, **more)
+
+
+def expect(case, answer, printed, status, told):
+    """`told` is a part of standard error; an empty one says that nothing stands there."""
+    global done
+    done += 1
+    right_words = told in answer.stderr if told else answer.stderr == ""
+    if answer.returncode != status or (printed is not None and answer.stdout != printed) or not right_words:
+        sys.exit(f"tests/launch/run.py: {case}: expected status {status}, {printed!r} and {told!r} on standard error, got {answer}")
+
+
+def help_and_usage(name, few, many):
+    tool = ROOT / "tools" / name
+    answer = run([tool, "--help"])
+    expect(f"{name} --help", answer, None, 0, "")
+    if not answer.stdout.startswith(f"usage: tools/{name} ") or "Exit status" not in answer.stdout:
+        sys.exit(f"tests/launch/run.py: {name} --help prints {answer.stdout!r}")
+    expect(f"{name}, too many", run([tool] + ["a"] * many), "", 2, f"usage: tools/{name} ")
+    if few is not None:
+        expect(f"{name}, too few", run([tool] + ["a"] * few), "", 2, f"usage: tools/{name} ")
+
+
+def full_device(command):
+    with open("/dev/full", "w") as device:
+        return run(command, stdout=device)
+
+
+def sluice_cases(folder):
+    tool = ROOT / "tools" / "sluice"
+    sheet = folder / "until.sheet"
+    sheet.write_text(SHEET)
+    help_and_usage("sluice", None, 2)
+    expect("a file", run([tool, sheet]), TABLE, 0, "")
+    expect("standard input", run([tool], text=SHEET), TABLE, 0, "")
+    expect("a refusal", run([tool], text=NO_SOLUTION), "refused 9\n", 1, "")
+    expect("an empty sheet", run([tool], text=""), "refused 3\n", 1, "")
+    expect("no such file", run([tool, folder / "none"]), "refused 3\n", 2, "none' cannot be read")
+    expect("a folder", run([tool, folder]), "refused 3\n", 2, "cannot be read")
+    expect("no standard input", run(["bash", "-c", 'exec "$0" <&-', tool]), "refused 3\n", 2, "cannot be read")
+    expect("a full device", full_device([tool, sheet]), None, 2, "cannot be written")
+    expect("no standard output", run(["bash", "-c", 'exec "$0" "$1" >&-', tool, sheet]), "", 2, "cannot be written")
+    expect("a reader that stops", run(["bash", "-c", '"$0" "$1" | head -n 1', tool, sheet]), TABLE.splitlines(True)[0], 0, "")
+    expect("amid other output", run(["bash", "-c", 'echo a; "$0" "$1"; echo b', tool, sheet]), f"a\n{TABLE}b\n", 0, "")
+    appended = folder / "appended"
+    run(["bash", "-c", '{ echo a; "$0" "$1"; echo b; } >"$2"', tool, sheet, appended])
+    if appended.read_text() != f"a\n{TABLE}b\n":
+        sys.exit(f"tests/launch/run.py: to a file amid other output: {appended.read_text()!r}")
+    link = folder / "another name"
+    link.symlink_to(tool)
+    expect("a link", run([link, sheet]), TABLE, 0, "")
+    expect("a link to a link, from another folder", run(["./again", sheet.name], cwd=linked(folder, link)), TABLE, 0, "")
+    expect("no rt on the PATH", run([tool, sheet], env={"PATH": plain_tools(folder)}), TABLE, 0, "")
+    if os.geteuid() != 0:
+        sheet.chmod(0)
+        expect("a file that may not be read", run([tool, sheet]), "refused 3\n", 2, "cannot be read")
+
+
+def linked(folder, link):
+    (folder / "again").symlink_to(link)
+    return folder
+
+
+def plain_tools(folder):
+    """A folder with the system's tools and without `rt`, to stand alone on the PATH."""
+    tools = folder / "plain"
+    tools.mkdir()
+    for name in ["bash", "cat", "chmod", "dirname", "find", "mkdir", "readlink", "sed", "seq", "sleep", "tail", "tee", "touch"]:
+        (tools / name).symlink_to(shutil.which(name))
+    return str(tools)
+
+
+def replay_cases(folder):
+    tool = ROOT / "tools" / "replay"
+    help_and_usage("replay", 1, 4)
+    if not (ROOT / "target" / "bin" / "replay").exists():
+        print("tests/launch/run.py: target/bin/replay is not there; its cases are left out")
+        return
+    sheet, record, missing = folder / "until.sheet", folder / "year", folder / "none"
+    sheet.write_text(SHEET)
+    record.write_text("x y\n1 0\n1 0\n0 1\n0 0\n")
+    played = "line state\n1 0\n2 0\n3 1\n4 1\n"
+    expect("a record", run([tool, sheet, record]), played, 0, "")
+    expect("from a state", run([tool, sheet, record, "1"]), "line state\n1 1\n2 1\n3 1\n4 1\n", 0, "")
+    expect("a start that is no state", run([tool, sheet, record, "2"]), "refused 11\n", 1, "")
+    expect("an empty start", run([tool, sheet, record, ""]), "refused 11\n", 1, "")
+    expect("no such sheet", run([tool, missing, record]), "refused 3\n", 2, "cannot be read")
+    expect("no such record", run([tool, sheet, missing]), "refused 13\n", 2, "cannot be read")
+    expect("a full device for a record", full_device([tool, sheet, record]), None, 2, "cannot be written")
+    record.write_text("x y\n1 0\n0 0\n9\n")
+    expect("a line that has no way on", run([tool, sheet, record]), "line state\n1 0\nrefused 12\n", 1, "")
+    link = folder / "play"
+    link.symlink_to(tool)
+    expect("a link to replay", run([link, sheet, record]), "line state\n1 0\nrefused 12\n", 1, "")
+
+
+def stand_in(path, text):
+    path.write_text("#!/usr/bin/env bash\n" + text)
+    path.chmod(0o755)
+
+
+def stand_in_cases(folder):
+    """A folder with the tools and stand-ins for `rt` and the program."""
+    for part in ["tools", "crates", "bin"]:
+        (folder / part).mkdir()
+    (folder / "crates.txt").write_text("")
+    for name in ["launch", "sluice"]:
+        shutil.copy(ROOT / "tools" / name, folder / "tools" / name)
+    tool = folder / "tools" / "sluice"
+    program = folder / "target" / "bin" / "sluice"
+    plain = plain_tools(folder)
+    path = {"PATH": f"{folder / 'bin'}:{plain}"}
+
+    expect("no rt and no program", run([tool], env={"PATH": plain}), "", 2, "'rt' is needed")
+    stand_in(folder / "bin" / "rt", "echo 'rt: basics proved (3 s)'; echo 'error: no'; exit 1")
+    expect("a proof that fails", run([tool], env=path), "", 2, "basics proved (3 s)")
+    stand_in(
+        folder / "bin" / "rt",
+        "[ \"$*\" = 'check sluice' ] || exit 1; mkdir -p target/bin; printf '#!/bin/sh\\ncat\\n' >target/bin/sluice; chmod +x target/bin/sluice\n"
+        "cat; echo 'rt: basics proved (3 s)'; echo 'fn basics::fewer: proved'; echo 'rt: text proved (unchanged since it was last proved)'\n",
+    )
+    first = run([tool], text="state\n1\n", env=path)
+    expect("the first call", first, "state\n1\n", 0, "basics proved (3 s)")
+    if "fewer" in first.stderr or "unchanged" in first.stderr:
+        sys.exit(f"tests/launch/run.py: the first call tells too much: {first.stderr!r}")
+    stand_in(folder / "bin" / "rt", "exit 1")
+    expect("a later call", run([tool], text="state\nrefused 12\n", env=path), "state\nrefused 12\n", 1, "")
+    expect("a refusal is a line of its own", run([tool], text="unrefused 12\n", env=path), "unrefused 12\n", 0, "")
+    expect("a refusal stands last", run([tool], text="refused 12\nstate\n", env=path), "refused 12\nstate\n", 0, "")
+
+    stand_in(program, "echo state; echo 'something failed' >&2")
+    expect("something on standard error", run([tool], env=path), "state\n", 2, "something failed")
+    stand_in(program, "echo state; kill -9 $$")
+    expect("a program that is stopped", run([tool], env=path), "state\n", 2, "was stopped")
+    stand_in(program, "seq 300000; echo 'refused 12'")
+    many = "".join(f"{n}\n" for n in range(1, 300001)) + "refused 12\n"
+    expect("many lines", run([tool], env=path), many, 1, "")
+
+    seen = folder / "seen"
+    stand_in(program, f"echo first; for i in $(seq 300); do [ -e '{seen}' ] && echo last && exit; sleep 0.1; done; echo late")
+    with subprocess.Popen([str(tool)], stdin=subprocess.DEVNULL, stdout=subprocess.PIPE, env=path, text=True) as running:
+        line = running.stdout.readline()
+        seen.write_text("")
+        rest = running.stdout.read()
+    if (line, rest, running.returncode) != ("first\n", "last\n", 0):
+        sys.exit(f"tests/launch/run.py: a line is passed on as it comes: {line!r}, {rest!r}, status {running.returncode}")
+
+    stand_in(folder / "bin" / "rt", "echo 'rt: text proved (1 s)'; printf '#!/bin/sh\\necho anew\\n' >target/bin/sluice")
+    later = time.time() + 10
+    (folder / "crates" / "lib.rt").write_text("")
+    os.utime(folder / "crates" / "lib.rt", (later, later))
+    expect("a source that changed", run([tool], env=path), "anew\n", 0, "text proved (1 s)")
+
+
+def main():
+    for cases in [sluice_cases, replay_cases, stand_in_cases]:
+        with tempfile.TemporaryDirectory() as folder:
+            cases(pathlib.Path(folder))
+    print(f"{done} cases: help, usage, statuses, links, reads and writes that fail, the first call")
+
+
+main()

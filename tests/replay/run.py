@@ -1,0 +1,189 @@
+"""Runs the program `replay` on files and compares it with the enumerator.
+
+    python3 tests/replay/run.py [PROGRAM]
+
+The stored cases, a year of hourly lines, a record cut in two, files that cannot
+be read, a read and a write that fail, and a record that is not read to its end.
+PROGRAM is target/bin/replay, which `rt check replay` makes. CC may name another
+C compiler.
+"""
+
+import json
+import os
+import pathlib
+import random
+import subprocess
+import sys
+import tempfile
+import threading
+
+ROOT = pathlib.Path(__file__).resolve().parents[2]
+sys.path.insert(0, str(ROOT / "enumerator"))
+from replay import replay  # noqa: E402
+
+UNTIL = b"x y\n0 0\n1 1\nx until y"
+# A gauge and a gate: the gate opens one hour after the gauge is at 2 or more, and moves at some time.
+WEIR = b"level gate\n-1 0\n3 1\n( level ge 2 ) -> next gate\n1 until gate"
+HOURS = 8760
+LONGEST_RUN = 60
+SHEET_UNREAD = b"replay: the sheet cannot be read\n"
+RECORD_UNREAD = b"replay: the record cannot be read\n"
+NOT_WRITTEN = b"replay: the states cannot be written\n"
+
+
+class Runs:
+    """The program on files of a folder of its own."""
+
+    def __init__(self, program, folder):
+        self.program, self.folder, self.count = program, folder, 0
+
+    def file(self, name, content):
+        path = self.folder / name
+        path.write_bytes(content)
+        return str(path)
+
+    def run(self, arguments, stdout=subprocess.PIPE, shim=None):
+        extra = {"LD_PRELOAD": shim} if shim else {}
+        done = subprocess.run([self.program, *arguments], stdin=subprocess.DEVNULL, stdout=stdout,
+                              stderr=subprocess.PIPE, timeout=LONGEST_RUN, check=True, env={**os.environ, **extra})
+        return done.stdout, done.stderr
+
+    def expect(self, name, got, wanted):
+        if got != wanted:
+            sys.exit("tests/replay/run.py: %s: expected %r, got %r" % (name, wanted, got))
+        self.count += 1
+
+    def compare(self, name, sheet, record, start=None):
+        """The program on files against the enumerator on bytes."""
+        arguments = [self.file("sheet", sheet), self.file("record", record)]
+        arguments += [] if start is None else [start]
+        wanted = replay(sheet, record, start)
+        self.expect(name, self.run(arguments), (wanted, b""))
+        return wanted
+
+
+def stored_cases(runs):
+    with open(ROOT / "vectors" / "replay.jsonl", encoding="latin-1") as lines:
+        for number, line in enumerate(lines):
+            case = json.loads(line)
+            texts = [None if case[key] is None else case[key].encode("latin-1") for key in ("sheet", "record", "start")]
+            printed = runs.compare("stored case %d" % number, *texts)
+            runs.expect("stored case %d, as stored" % number, printed, case["printed"].encode())
+    runs.compare("a start of 5,000 nines", UNTIL, b"x y\n0 1", b"9" * 5000)
+
+
+def weir_lines(rng, count):
+    """Values that the weir's rule allows, hour by hour."""
+    lines, high = [], False
+    for _ in range(count):
+        level = rng.randint(-1, 3)
+        lines.append(b"%d %d" % (level, 1 if high else rng.randrange(2)))
+        high = level >= 2
+    return lines
+
+
+def year(runs):
+    """More than one chunk; then the year in two, at several places."""
+    names, lines = WEIR.split(b"\n")[0], weir_lines(random.Random(1), HOURS)
+    whole = runs.compare("a year of hourly lines", WEIR, b"\n".join([names, *lines]) + b"\n")
+    states = [line.split()[1] for line in whole.splitlines()[1:]]
+    runs.expect("a line for each hour", len(states), HOURS)
+    for cut in (0, 1, 4380, HOURS - 1, HOURS):
+        first = runs.compare("the hours before a cut", WEIR, b"\n".join([names, *lines[:cut]]))
+        last = first.splitlines()[-1].split()[1] if cut else b"0"
+        second = runs.compare("the hours after a cut", WEIR, b"\n".join([names, *lines[cut:]]), last)
+        both = first.splitlines()[1:] + second.splitlines()[1:]
+        runs.expect("the states of both halves", [line.split()[1] for line in both], states)
+    wide = b"  ".join((b"1", b"1")).center(70000)
+    runs.compare("lines longer than a chunk", UNTIL, b"\n".join([b"x y", wide, wide, b"0 0"]))
+
+
+def unreadable(runs):
+    sheet, record = runs.file("sheet", UNTIL), runs.file("record", b"x y\n1 1\n")
+    missing, folder = str(runs.folder / "missing"), str(runs.folder)
+    for name, arguments, wanted in (
+            ("no arguments", [], (b"refused 3\n", SHEET_UNREAD)),
+            ("one argument", [sheet], (b"refused 13\n", RECORD_UNREAD)),
+            ("a missing sheet", [missing, record], (b"refused 3\n", SHEET_UNREAD)),
+            ("a missing record", [sheet, missing], (b"refused 13\n", RECORD_UNREAD)),
+            ("a folder for a sheet", [folder, record], (b"refused 3\n", SHEET_UNREAD)),
+            ("a folder for a record", [sheet, folder], (b"refused 13\n", RECORD_UNREAD)),
+            ("a path that is too long", [sheet, "r" * 5000], (b"refused 13\n", RECORD_UNREAD)),
+            ("a bad start and a missing record", [sheet, missing, "2"], (b"refused 11\n", b"")),
+            ("an endless sheet", ["/dev/zero", record], (b"refused 1\n", b"")),
+            ("further arguments", [sheet, record, "1", "x"], (b"line state\n1 1\n", b""))):
+        runs.expect(name, runs.run(arguments), wanted)
+
+
+SHIM = """
+#define _GNU_SOURCE
+#include <dlfcn.h>
+#include <errno.h>
+#include <string.h>
+#include <unistd.h>
+// The read after one that gave bytes of a record fails.
+ssize_t read(int file, void *bytes, size_t count) {
+    static int failing;
+    ssize_t (*next)(int, void *, size_t) = (ssize_t (*)(int, void *, size_t))dlsym(RTLD_NEXT, "read");
+    if (failing) { errno = EIO; return -1; }
+    ssize_t got = next(file, bytes, count);
+    failing = got > 3 && count == 65536 && !memcmp(bytes, "x y", 3);
+    return got;
+}
+"""
+
+
+def later_read_fails(runs):
+    source, shim = runs.file("shim.c", SHIM.encode()), str(runs.folder / "shim.so")
+    subprocess.run([os.environ.get("CC", "cc"), "-shared", "-fPIC", source, "-o", shim, "-ldl"], check=True)
+    sheet = runs.file("sheet", UNTIL)
+    for name, record, printed, told in (
+            ("behind a whole line", b"x y\n1 0\n", b"line state\n1 0\nrefused 13\n", RECORD_UNREAD),
+            ("within a line", b"x y\n1 0\n0 1", b"line state\n1 0\nrefused 13\n", RECORD_UNREAD),
+            ("behind the names", b"x y\n", b"line state\nrefused 13\n", RECORD_UNREAD),
+            ("within the names", b"x y ", b"refused 13\n", RECORD_UNREAD),
+            ("behind a refusal", b"x y\n0 0\n", b"line state\nrefused 12\n", b"")):
+        got = runs.run([sheet, runs.file("record", record)], shim=shim)
+        runs.expect("a read that fails " + name, got, (printed, told))
+
+
+def full_device(runs):
+    sheet, record = runs.file("sheet", UNTIL), runs.file("record", b"x y\n" + b"1 1\n" * 20000)
+    with open("/dev/full", "wb") as device:
+        for name, arguments in (("lines", [sheet, record]), ("a refusal", [sheet, record, "2"])):
+            runs.expect("a full device, " + name, runs.run(arguments, device)[1], NOT_WRITTEN)
+
+
+def stops_at_a_refusal(runs):
+    """A writer that never ends by itself, into a pipe with a name."""
+    pipe = str(runs.folder / "pipe")
+    os.mkfifo(pipe)
+
+    def feed():
+        with open(pipe, "wb", buffering=0) as writer:
+            try:
+                writer.write(b"x y\n1 0\n0 0\n")
+                while True:
+                    writer.write(b"1 1\n" * 1000)
+            except BrokenPipeError:
+                pass
+
+    thread = threading.Thread(target=feed, daemon=True)
+    thread.start()
+    got = runs.run([runs.file("sheet", UNTIL), pipe])
+    runs.expect("a record that is not read to its end", got, (b"line state\n1 0\nrefused 12\n", b""))
+    thread.join(LONGEST_RUN)
+
+
+def main():
+    program = pathlib.Path(sys.argv[1] if len(sys.argv) > 1 else ROOT / "target" / "bin" / "replay").resolve()
+    if not program.exists():
+        sys.exit("%s is missing: run `rt check replay` first" % program)
+    with tempfile.TemporaryDirectory() as folder:
+        runs = Runs(str(program), pathlib.Path(folder))
+        for part in (stored_cases, year, unreadable, later_read_fails, full_device, stops_at_a_refusal):
+            part(runs)
+        print("%d comparisons of `replay`, with no difference" % runs.count)
+
+
+main()
