@@ -1,8 +1,8 @@
 -- What is printed for a record to an accepted sheet, however its bytes come in chunks, is what document 02 says of its lines. From the law of texts
 -- in chunks (text, Lines), the laws of one line (records, Sheets), and induction over the lines.
-use Prim.Native.Nat.{ℕ, zero, suc, _+_, _≤_, _<_, min}
+use Prim.Native.Nat.{ℕ, suc, _+_, _≤_, _<_}
 use native.Mathlib.Omega.{arith}
-use mathlib.Core.Path.{_≡_, refl, sym, _∙_, ap, ap₂, subst}
+use mathlib.Core.Path.{_≡_, refl, sym, _∙_, ap}
 use mathlib.Core.Bool.{Bool, true, false, cond}
 use mathlib.Core.List.{List, [], _∷_, _++_, map, append-assoc, append-nil}
 use lib.Dec.{eqb}
@@ -11,18 +11,17 @@ use Rattle.text.specs.Bytes.{lines, addToLines}
 use Rattle.text.specs.Fold.{runBytes}
 use Rattle.text.specs.Lines.{allChunks, runChunks, linesRead, EndsLines}
 use Rattle.text.proofs.Lines.{chunks-lines}
-use Rattle.meaning.specs.Expression.{Stream, Sheet}
+use Rattle.meaning.specs.Expression.{Sheet}
 use Rattle.meaning.specs.Letter.{letterCount}
 use Rattle.meaning.specs.Window.{joinOver}
 use Rattle.nodes.specs.Bounds.{lowsOf, highsOf}
 use Rattle.automaton.specs.Stored.{entryAt}
-use Rattle.sheet.specs.Form.{namesOf}
 use Rattle.sheet.specs.Accepted.{Accepted}
 use Rattle.letters.specs.Described.{cutCount}
 use Rattle.letters.proofs.Streams.{unnamed, letterCount-unnamed}
 use Rattle.print.specs.Text.{refusalLine}
-use Rattle.records.specs.Line.{ValueLine, malformed, outside, letter, valueLine, isNamesLine}
-use Rattle.records.specs.Machine.{lineStart, lineByte, lineEnd, endOf, namesStart, namesByte}
+use Rattle.records.specs.Line.{ValueLine, malformed, outside, letter, valueLine}
+use Rattle.records.specs.Machine.{lineStart, lineByte, endOf, namesStart, namesByte}
 use Rattle.records.specs.declared.NamesState.{NamesState}
 use Rattle.records.proofs.Names.{storedBytes}
 use Rattle.records.proofs.Sheets.{accepted-line, accepted-names}

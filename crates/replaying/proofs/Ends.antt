@@ -1,18 +1,15 @@
 -- The end of a record: a line that is begun ends with it, by one byte 10 more, and a record without lines has no names. From the definitions.
-use Prim.Native.Nat.{ℕ, _+_, _≤_, _<_}
+use Prim.Native.Nat.{ℕ, _≤_, _<_}
 use native.Mathlib.Omega.{arith}
-use mathlib.Core.Path.{_≡_, refl, sym, _∙_, ap, subst}
+use mathlib.Core.Path.{_≡_, refl, sym, _∙_, ap}
 use mathlib.Core.Bool.{Bool, true, false, cond}
-use mathlib.Core.List.{List, [], _∷_, _++_}
-use lib.Dec.{leb}
+use mathlib.Core.List.{List, [], _∷_}
 use lib.ListN.{length}
 use lib.Seq.{sets, length-sets}
 use borrow.Author.Tests.{le-leb, lt-leb}
-use Rattle.text.specs.Fold.{runBytes}
-use Rattle.print.specs.Text.{refusalLine}
 use Rattle.records.specs.Machine.{namesStart}
 use Rattle.replaying.specs.Replay.{LineOutcome, reaches, refuses}
-use Rattle.replaying.specs.Machine.{PlayedSheet, Playing, playing, valuesReplay, endedReplay, lineOutcome, afterOutcome, isNames, endText, endIn, lineEnded, playByte, lastLine, closedIn, closed, played, Advances, lastText, Finishes}
+use Rattle.replaying.specs.Machine.{PlayedSheet, Playing, playing, valuesReplay, endedReplay, lineOutcome, afterOutcome, isNames, endText, endIn, lineEnded, lastLine, closedIn, closed, played, Advances, lastText, Finishes}
 use Rattle.replaying.specs.declared.Stage.{Stage}
 use Rattle.replaying.specs.declared.Stage.the-variants.{Names, Values, Ended}
 use Rattle.replaying.specs.declared.Replay.{Replay}

@@ -1,5 +1,5 @@
 -- What a line of values leads to, by the tests of the code, and its line at the front of lent bytes. From the definitions.
-use Prim.Native.Nat.{ℕ, _+_, _≤_, _<_}
+use Prim.Native.Nat.{ℕ, _≤_, _<_}
 use native.Mathlib.Omega.{arith}
 use mathlib.Core.Path.{_≡_, refl, sym, _∙_, ap, subst}
 use mathlib.Core.Bool.{Bool, true, false, cond}
@@ -8,7 +8,7 @@ use lib.Dec.{eqb}
 use lib.IntN.{pos}
 use lib.ListN.{length}
 use lib.Seq.{sets}
-use borrow.Author.Tests.{eqb-true, eqb-false, eq-eqb, ne-eqb}
+use borrow.Author.Tests.{eqb-false, eq-eqb, ne-eqb}
 use Rattle.meaning.specs.Letter.{letterCount}
 use Rattle.automaton.specs.Table.{noState}
 use Rattle.automaton.specs.Stored.{entryAt}
@@ -20,7 +20,6 @@ use Rattle.records.specs.declared.LineEnd.{LineEnd}
 use Rattle.replaying.specs.Replay.{LineOutcome, reaches, refuses, entered}
 use Rattle.replaying.specs.Machine.{PlayedSheet, storedStreams, outcomeOf, ledTo, HoldsOutcome}
 use Rattle.replaying.specs.declared.Led.{Led}
-use Rattle.replaying.specs.declared.LinePlayed.{LinePlayed}
 
 -- ---- what the line leads to
 

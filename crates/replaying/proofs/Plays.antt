@@ -1,6 +1,6 @@
 -- The bytes of a chunk that are played part by part: none, the bytes of a line, its end, the rest behind a refusal, and one part after another.
 -- From the laws of the machine (Steps) and of parts of a list (Slices).
-use Prim.Native.Nat.{ℕ, zero, suc, _+_, _-_, _≤_, _<_, max}
+use Prim.Native.Nat.{ℕ, suc, _+_, _-_, _≤_, _<_}
 use native.Mathlib.Omega.{arith}
 use mathlib.Core.Path.{_≡_, refl, sym, _∙_, ap, ap₂, subst}
 use mathlib.Core.Logic.{_⊎_, inl, inr, ⊎-elim}
@@ -13,7 +13,7 @@ use borrow.Author.Tests.{ltb-true, ltb-false, eq-eqb}
 use Rattle.basics.proofs.Lists.{sets-append}
 use Rattle.text.specs.Fold.{runBytes}
 use Rattle.text.proofs.Lines.{run-append}
-use Rattle.replaying.specs.Machine.{PlayedSheet, Playing, playing, endedReplay, RunsLine, byteRead, endText, endIn, lineEnded, playByte, played, HasLineRoom, RoomFor, PlaysChunk, Advances}
+use Rattle.replaying.specs.Machine.{PlayedSheet, playing, endedReplay, advancedTo, RunsLine, byteRead, endText, endIn, playByte, played, HasLineRoom, RoomFor, PlaysChunk, Advances}
 use Rattle.replaying.specs.declared.Stage.the-variants.{Ended}
 use Rattle.replaying.specs.declared.Replay.{Replay}
 use Rattle.replaying.specs.declared.Advanced.{Advanced}
@@ -40,7 +40,7 @@ put-rest out size rest =
 module _ (s : PlayedSheet) (chunk : List ℕ) where
   -- ---- nothing
 
-  pub plays-nothing : (replay : Replay) (from : ℕ) (out : List ℕ) → PlaysChunk s replay chunk from out out (record { replay = replay; next = from; size = 0 })
+  pub plays-nothing : (replay : Replay) (from : ℕ) (out : List ℕ) → PlaysChunk s replay chunk from out out (advancedTo replay from 0)
   plays-nothing replay from out =
       let e = slice-empty from chunk in
       let same = ap (runBytes (playByte s) (playing replay [])) e in
@@ -59,7 +59,7 @@ module _ (s : PlayedSheet) (chunk : List ℕ) where
   module _ {replay replay′ : Replay} {from next : ℕ} {out text : List ℕ} (o : from ≤ next) (i : next ≤ length chunk)
       (e : runBytes (playByte s) (playing replay []) (slice from next chunk) ≡ playing replay′ text)
       (k : RoomFor s (length out) (playing replay []) (slice from next chunk)) where
-    pub plays-part : {size : ℕ} {out′ : List ℕ} → size ≡ length text → size ≤ length out → out′ ≡ sets out 0 text → PlaysChunk s replay chunk from out out′ (record { replay = replay′; next = next; size = size })
+    pub plays-part : {size : ℕ} {out′ : List ℕ} → size ≡ length text → size ≤ length out → out′ ≡ sets out 0 text → PlaysChunk s replay chunk from out out′ (advancedTo replay′ next size)
     plays-part n f b =
         record {
           onward = o;
@@ -80,12 +80,12 @@ module _ (s : PlayedSheet) (chunk : List ℕ) where
     line-room = room-other s (length out) (slice from next chunk) (l .bytes) (playing replay []) (omega arith)
 
     -- The bytes of a line print nothing.
-    pub plays-bytes : PlaysChunk s replay chunk from out out (record { replay = replay′; next = next; size = 0 })
+    pub plays-bytes : PlaysChunk s replay chunk from out out (advancedTo replay′ next 0)
     plays-bytes = plays-part (l .onward) (l .inside) line-run line-room refl (omega arith) refl
 
     -- A line and its byte 10 print what the line's end does.
     pub plays-line : next < length chunk → {size : ℕ} {out′ : List ℕ} → size ≡ length (endText s (replay′ .stage) replay′) → size ≤ length out → out′ ≡ sets out 0 (endText s (replay′ .stage) replay′)
-        → PlaysChunk s replay chunk from out out′ (record { replay = endIn s (replay′ .stage) replay′; next = next + 1; size = size })
+        → PlaysChunk s replay chunk from out out′ (advancedTo (endIn s (replay′ .stage) replay′) (next + 1) size)
     plays-line k n f b =
         let o = l .onward in
         let i = l .inside in
@@ -103,7 +103,7 @@ module _ (s : PlayedSheet) (chunk : List ℕ) where
   -- ---- behind a refusal
 
   pub plays-rest : {replay : Replay} {from : ℕ} {out : List ℕ} → replay .stage ≡ Ended → from < length chunk → 32 ≤ length out
-      → PlaysChunk s replay chunk from out out (record { replay = endedReplay (not (eqb (getD chunk (length chunk - 1) 0) 10)); next = length chunk; size = 0 })
+      → PlaysChunk s replay chunk from out out (advancedTo (endedReplay (not (eqb (getD chunk (length chunk - 1) 0) 10))) (length chunk) 0)
   plays-rest {replay} {from} {out} e k h =
       let last = length chunk - 1 in
       let b = getD chunk last 0 in
@@ -174,7 +174,7 @@ module _ (s : PlayedSheet) (chunk : List ℕ) where
           e ∙ ap (λ x. take (r₁ .size) out₁ ++ x) (q .bytes) ∙ sym (sets-part out₁ (r₁ .size) t₂ (omega arith))
           ∙ ap₂ (λ x y. sets x y t₂) (p .bytes) z ∙ sets-append out 0 t₁ t₂
 
-      pub plays-then : {out₃ : List ℕ} → out₃ ≡ take (r₁ .size) out₁ ++ out₂ → PlaysChunk s replay chunk from out out₃ (record { replay = r₂ .replay; next = r₂ .next; size = r₁ .size + r₂ .size })
+      pub plays-then : {out₃ : List ℕ} → out₃ ≡ take (r₁ .size) out₁ ++ out₂ → PlaysChunk s replay chunk from out out₃ (advancedTo (r₂ .replay) (r₂ .next) (r₁ .size + r₂ .size))
       unfolding t₁ t₂
       plays-then e =
           let a = p .onward in
@@ -200,7 +200,7 @@ module _ (s : PlayedSheet) (chunk : List ℕ) where
 
     -- The bytes behind those that are written are lent to the call that plays the next part.
     pub plays-on : {out₂ : List ℕ} {r₂ : Advanced} → PlaysChunk s (r₁ .replay) chunk (r₁ .next) (take (length out₁ - r₁ .size) (drop (r₁ .size) out₁)) out₂ r₂
-        → PlaysChunk s replay chunk from out (take (r₁ .size) out₁ ++ (out₂ ++ drop (length out₁ - r₁ .size) (drop (r₁ .size) out₁))) (record { replay = r₂ .replay; next = r₂ .next; size = r₁ .size + r₂ .size })
+        → PlaysChunk s replay chunk from out (take (r₁ .size) out₁ ++ (out₂ ++ drop (length out₁ - r₁ .size) (drop (r₁ .size) out₁))) (advancedTo (r₂ .replay) (r₂ .next) (r₁ .size + r₂ .size))
     plays-on {out₂} {r₂} q =
         plays-then (subst (λ z. PlaysChunk s (r₁ .replay) chunk (r₁ .next) z out₂ r₂) (lent-rest out₁ (r₁ .size)) q) (put-rest out₁ (r₁ .size) out₂)
 
@@ -247,7 +247,7 @@ module _ (s : PlayedSheet) (chunk : List ℕ) where
             let x = ltb-false (r .next) (q .next) e in
             let y = ltb-false (q .next) (r .next) f in
             let n : r .next ≡ q .next = omega arith in
-            let reached : Advanced = record { replay = played s replay chunk from (r .next) .replay; next = r .next; size = length (played s replay chunk from (r .next) .printed) } in
-            let first : r ≡ reached = ap₂ (λ z k. record { replay = z; next = r .next; size = k }) (a .plays .run) (a .plays .size) in
-            let second : q ≡ record { replay = played s replay chunk from (q .next) .replay; next = q .next; size = length (played s replay chunk from (q .next) .printed) } = ap₂ (λ z k. record { replay = z; next = q .next; size = k }) (b .plays .run) (b .plays .size) in
-            (first ∙ ap (λ k. record { replay = played s replay chunk from k .replay; next = k; size = length (played s replay chunk from k .printed) }) n ∙ sym second, a .plays .bytes ∙ ap (λ k. sets out 0 (played s replay chunk from k .printed)) n ∙ sym (b .plays .bytes))
+            let reached : Advanced = advancedTo (played s replay chunk from (r .next) .replay) (r .next) (length (played s replay chunk from (r .next) .printed)) in
+            let first : r ≡ reached = ap₂ (λ z k. advancedTo z (r .next) k) (a .plays .run) (a .plays .size) in
+            let second : q ≡ advancedTo (played s replay chunk from (q .next) .replay) (q .next) (length (played s replay chunk from (q .next) .printed)) = ap₂ (λ z k. advancedTo z (q .next) k) (b .plays .run) (b .plays .size) in
+            (first ∙ ap (λ k. advancedTo (played s replay chunk from k .replay) k (length (played s replay chunk from k .printed))) n ∙ sym second, a .plays .bytes ∙ ap (λ k. sets out 0 (played s replay chunk from k .printed)) n ∙ sym (b .plays .bytes))

@@ -3,8 +3,8 @@ use Prim.Native.Nat.{ℕ, zero, suc, _+_, _≤_, _<_}
 use native.Mathlib.Omega.{arith}
 use mathlib.Core.Path.{_≡_, refl, sym, _∙_, ap}
 use mathlib.Core.List.{List, [], _∷_, _++_}
-use lib.ListN.{length, getD, take, drop}
-use lib.Seq.{slice, slice-empty, slice-cons, drop-nil}
+use lib.ListN.{length, getD}
+use lib.Seq.{slice, slice-empty, slice-cons}
 
 -- The part to a place, and then the part from there on.
 pub slice-split : (f t u : ℕ) (l : List ℕ) → f ≤ t → t ≤ u → slice f t l ++ slice t u l ≡ slice f u l

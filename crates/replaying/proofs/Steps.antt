@@ -1,20 +1,18 @@
 -- The machine that plays a record, byte by byte: the bytes of a line, its end, what is behind a refusal, and what was printed before, on which
 -- nothing depends. From the definitions, by induction over the bytes.
-use Prim.Native.Nat.{ℕ, zero, suc, _+_, _≤_, _<_}
+use Prim.Native.Nat.{ℕ, _+_}
 use native.Mathlib.Omega.{arith}
-use mathlib.Core.Path.{_≡_, refl, sym, _∙_, ap, ap₂, subst}
+use mathlib.Core.Path.{_≡_, refl, sym, _∙_, ap, subst}
 use mathlib.Core.Bool.{Bool, true, false, not, cond}
 use mathlib.Core.List.{List, [], _∷_, _++_, append-assoc, append-nil}
 use lib.Dec.{eqb}
 use lib.ListN.{length, length-append}
 use Rattle.text.specs.Fold.{runBytes}
-use Rattle.text.proofs.Lines.{run-append}
 use Rattle.records.specs.Machine.{lineByte, namesByte}
 use Rattle.records.specs.declared.LineState.{LineState}
 use Rattle.records.specs.declared.NamesState.{NamesState}
 use Rattle.replaying.specs.Machine.{PlayedSheet, Playing, playing, namesReplay, valuesReplay, endedReplay, NoLineEnd, storedStreams, nameAt, readIn, byteRead, endText, endIn, lineEnded, playByte, HasLineRoom, RoomFor}
-use Rattle.replaying.specs.declared.Stage.{Stage}
-use Rattle.replaying.specs.declared.Stage.the-variants.{Names, Values, Ended}
+use Rattle.replaying.specs.declared.Stage.the-variants.{Ended}
 use Rattle.replaying.specs.declared.Replay.{Replay}
 
 -- Whether bytes stand since the last byte 10, after these.

@@ -60,6 +60,9 @@ valuesReplay begun names line number state = record { stage = Values; begun = be
 abbrev pub endedReplay : Bool → Replay
 endedReplay begun = record { stage = Ended; begun = begun; names = namesStart; line = lineStart; number = 0; state = 0 }
 
+abbrev pub advancedTo : Replay → (next size : ℕ) → Advanced
+advancedTo r next size = record { replay = r; next = next; size = size }
+
 -- "counted from 1"
 abbrev pub startReplay : ℕ → Replay
 startReplay state = namesReplay false namesStart lineStart 1 state

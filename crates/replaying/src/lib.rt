@@ -4,16 +4,16 @@ use records::LineState;
 use records::NamesState;
 ghost use mathlib.Core.Path.{_≡_};
 ghost use Prim.Native.Nat.{ℕ, _<_, _≤_};
-ghost use mathlib.Core.List.{List, [], _∷_};
+ghost use mathlib.Core.List.{List, []};
 ghost use lib.IntN.{ℤ};
-ghost use lib.ListN.{length, getD};
+ghost use lib.ListN.{length};
 ghost use lib.Seq.{slice};
 ghost use Rattle.text.specs.Fold.{runBytes};
 ghost use Rattle.meaning.specs.Letter.{letterCount};
 ghost use Rattle.automaton.specs.Stored.{entryAt};
 ghost use Rattle.letters.specs.Described.{described, cutCount};
 ghost use Rattle.records.specs.Machine.{lineByte, storedName, namesByte};
-ghost use Rattle.replaying.specs.Machine.{PlayedSheet, playedSheet, startReplay, endedReplay, nextLine, RunsLine, ledTo, HoldsOutcome, lineOutcome, PlaysChunk, Advances, Finishes};
+ghost use Rattle.replaying.specs.Machine.{PlayedSheet, playedSheet, startReplay, valuesReplay, endedReplay, advancedTo, nextLine, RunsLine, ledTo, HoldsOutcome, lineOutcome, PlaysChunk, Advances, Finishes};
 
 // What is read next: the line of names, a line of values, or nothing, behind a refusal.
 pub enum Stage {
@@ -52,16 +52,16 @@ struct ValuesRun {
 }
 
 // The refusal that a line of values leads to, or 0 and the state.
-pub struct Led {
-    pub refusal: u32,
-    pub state: u32,
+struct Led {
+    refusal: u32,
+    state: u32,
 }
 
 // Whether a line of values is refused, or the state that it leads to; and how many of the lent bytes its line takes.
-pub struct LinePlayed {
-    pub ended: bool,
-    pub state: u32,
-    pub size: usize,
+struct LinePlayed {
+    ended: bool,
+    state: u32,
+    size: usize,
 }
 
 // Before the first byte of a record, with the state to start from.
@@ -78,19 +78,51 @@ pub fn begin(state: u32) -> Replay
     }
 }
 
-fn ended_replay(begun: bool) -> Replay
-    ensures { λ r. ⌜ r ≡ endedReplay begun ⌝ }
+// A place of a chunk behind a refusal.
+fn ended_at(begun: bool, next: usize, size: usize) -> Advanced
+    ensures { λ r. ⌜ r ≡ advancedTo (endedReplay begun) next size ⌝ }
 {
-    Replay {
-        stage: Stage::Ended,
-        begun: begun,
-        names: records::names_start(),
-        line: records::line_start(),
-        number: 0,
-        state: 0,
+    Advanced {
+        replay: Replay {
+            stage: Stage::Ended,
+            begun: begun,
+            names: records::names_start(),
+            line: records::line_start(),
+            number: 0,
+            state: 0,
+        },
+        next: next,
+        size: size,
     }
 }
 
+// A place of a chunk in the lines of values.
+fn values_at(
+    begun: bool,
+    names: NamesState,
+    line: LineState,
+    number: u64,
+    state: u32,
+    next: usize,
+    size: usize,
+) -> Advanced
+    ensures { λ r. ⌜ r ≡ advancedTo (valuesReplay begun names line number state) next size ⌝ }
+{
+    Advanced {
+        replay: Replay {
+            stage: Stage::Values,
+            begun: begun,
+            names: names,
+            line: line,
+            number: number,
+            state: state,
+        },
+        next: next,
+        size: size,
+    }
+}
+
+// Reads the line of names to its byte 10, or to the end of the chunk.
 fn run_names(start: NamesState, chunk: &[u8], from: usize, names: &[u8], lengths: &[u8]) -> NamesRun
     requires { ⌜ from ≤ length (now chunk) ⌝ }
     ensures { λ r. ⌜ RunsLine (now (chunk .entry)) from (r .next) × (r .names ≡ runBytes (namesByte (storedName (now (names .entry)) (now (lengths .entry)))) start (slice from (r .next) (now (chunk .entry)))) ⌝ }
@@ -111,6 +143,7 @@ fn run_names(start: NamesState, chunk: &[u8], from: usize, names: &[u8], lengths
     }
 }
 
+// Reads a line of values to its byte 10, or to the end of the chunk.
 fn run_values(start: LineState, chunk: &[u8], from: usize, lows: &[i64], highs: &[i64]) -> ValuesRun
     requires { ⌜ from ≤ length (now chunk) ⌝ }
     ensures { λ r. ⌜ RunsLine (now (chunk .entry)) from (r .next) × (r .line ≡ runBytes (lineByte (described (now (lows .entry)) (now (highs .entry)))) start (slice from (r .next) (now (chunk .entry)))) ⌝ }
@@ -247,24 +280,19 @@ fn advance_names(
         };
     }
     if !records::names_end(read, names, lengths) {
-        return Advanced {
-            replay: ended_replay(false),
-            next: at + 1,
-            size: print::refusal_line(13, out),
-        };
+        return ended_at(false, at + 1, print::refusal_line(13, out));
     }
-    Advanced {
-        replay: Replay {
-            stage: Stage::Values,
-            begun: false,
-            names: records::names_start(),
-            line: line,
-            number: replay.number,
-            state: replay.state,
-        },
-        next: at + 1,
-        size: print::text(b"line state\n", out),
-    }
+    let size = print::text(b"line state\n", out);
+    let start = records::names_start();
+    values_at(
+        false,
+        start,
+        line,
+        replay.number,
+        replay.state,
+        at + 1,
+        size,
+    )
 }
 
 // Reads lines of values, as many as there is room for in the lent bytes, up to one that is refused.
@@ -310,11 +338,7 @@ fn advance_values(
             );
             size += played.size;
             if played.ended {
-                return Advanced {
-                    replay: ended_replay(false),
-                    next: at,
-                    size: size,
-                };
+                return ended_at(false, at, size);
             }
             begun = false;
             line = records::line_start();
@@ -322,18 +346,7 @@ fn advance_values(
             state = played.state;
         }
     }
-    Advanced {
-        replay: Replay {
-            stage: Stage::Values,
-            begun: begun,
-            names: names,
-            line: line,
-            number: number,
-            state: state,
-        },
-        next: at,
-        size: size,
-    }
+    values_at(begun, names, line, number, state, at, size)
 }
 
 // Behind a refusal the rest of a chunk prints nothing.
@@ -342,13 +355,10 @@ fn skip_rest(chunk: &[u8], from: usize) -> Advanced
     ensures { λ r. ⌜ (from < r .next) × ((s : PlayedSheet) (replay : Replay) (out : List ℕ) → replay .stage ≡ Stage.Ended → 32 ≤ length out → PlaysChunk s replay (now (chunk .entry)) from out out r) ⌝ }
 {
     let last = chunk.len() - 1;
-    Advanced {
-        replay: ended_replay(chunk[last] != 10),
-        next: chunk.len(),
-        size: 0,
-    }
+    ended_at(chunk[last] != 10, chunk.len(), 0)
 }
 
+// Plays a part of the chunk, which ends with the stage, the chunk or the room.
 fn advance_stage(
     replay: Replay,
     letters: u32,

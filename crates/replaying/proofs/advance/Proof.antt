@@ -5,14 +5,14 @@ use native.Mathlib.Omega.{arith}
 use mathlib.Core.Path.{sym, _∙_, ap, subst}
 use lib.ListN.{length, length-drop}
 use borrow.Author.Needs.{needs}
-use Rattle.replaying.specs.Machine.{playedSheet, PlaysChunk}
+use Rattle.replaying.specs.Machine.{playedSheet, advancedTo, PlaysChunk}
 use Rattle.replaying.proofs.Plays.{plays-nothing, same-room, lent-rest, plays-on, stops-at-end, stops-without-room}
 use Rattle.replaying.proofs.advance.Statement.{statement}
 use Rattle.replaying.proofs.advance.Tie as tie
 
 abbrev Inv-loop : tie.InvT-loop
 Inv-loop chunk from names lengths lows highs entries out₀ letters playing₀ at₀ size₀ out playing at size =
-    PlaysChunk (playedSheet names lengths lows highs entries) playing₀ chunk from out₀ out (record { replay = playing; next = at; size = size })
+    PlaysChunk (playedSheet names lengths lows highs entries) playing₀ chunk from out₀ out (advancedTo playing at size)
 
 abbrev μ-loop : tie.MeasureT-loop
 μ-loop chunk from names lengths lows highs entries out₀ letters playing₀ at₀ size₀ out playing at size = length chunk - at

@@ -2,6 +2,7 @@
 use mathlib.Core.Path.{_≡_}
 use Rattle.replaying.specs.Machine.{playedSheet}
 use Rattle.replaying.specs.declared.Stage.the-variants.{Ended}
+use Rattle.replaying.proofs.Plays.{same-room}
 use borrow.Author.Needs.{needs}
 use Rattle.replaying.proofs.advance_stage.Statement.{statement}
 use Rattle.replaying.proofs.advance_stage.Tie as tie
@@ -22,16 +23,20 @@ enum-told-3 : tie.Need-enum-told-3
 enum-told-3 c = search needs
 
 skip-rest-requires : tie.Need-skip-rest-requires
-skip-rest-requires c κs = search needs
+skip-rest-requires c κs = c .before .before .before .before .before .before .before .pre .1
 
 same-length : tie.Need-same-length
-same-length c = search needs
+same-length c =
+    let a = c .before .before .before .before .before .before .before .before .before .before .before .args in
+    same-room _ _ (c .before .before .advance-names .ensures .1 (a .lows .now) (a .highs .now) (a .entries .now))
 
 returns : tie.Need-returns
 returns c = let a = c .before .before .before .before .before .before .before .before .before .before .before .args in let e = c .before .before .advance-names .ensures in (e .0, e .1 (a .lows .now) (a .highs .now) (a .entries .now))
 
 same-length-2 : tie.Need-same-length-2
-same-length-2 c = search needs
+same-length-2 c =
+    let a = c .before .before .before .before .before .before .before .before .before .before .before .args in
+    same-room _ _ (c .before .before .advance-values .ensures .1 (a .names .now) (a .lengths .now))
 
 returns-2 : tie.Need-returns-2
 returns-2 c = let a = c .before .before .before .before .before .before .before .before .before .before .before .args in let e = c .before .before .advance-values .ensures in (e .0, e .1 (a .names .now) (a .lengths .now))

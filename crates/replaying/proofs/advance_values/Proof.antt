@@ -1,21 +1,21 @@
 -- `replaying::advance_values` meets its contract: before each turn the bytes so far are played, and what they print stands at the front of the lent
 -- bytes; a turn plays one line, or its bytes to the end of the chunk (Lines). The first turn finds room, so that a byte is played.
-use Prim.Native.Nat.{ℕ, _+_, _-_, _≤_, _<_}
+use Prim.Native.Nat.{ℕ, _-_, _≤_, _<_}
 use native.Mathlib.Omega.{arith}
 use mathlib.Core.Path.{_≡_, refl, sym, _∙_, ap, subst}
 use mathlib.Core.Logic.{_⊎_, inl, inr, ⊎-elim}
 use mathlib.Core.List.{List, []}
 use lib.ListN.{length, length-drop}
 use borrow.Author.Needs.{needs}
-use Rattle.replaying.specs.Machine.{playedSheet, valuesReplay, PlaysChunk}
-use Rattle.replaying.proofs.Plays.{plays-nothing, same-room, lent-rest, put-rest}
+use Rattle.replaying.specs.Machine.{playedSheet, advancedTo, valuesReplay, PlaysChunk}
+use Rattle.replaying.proofs.Plays.{plays-nothing, same-room, lent-rest}
 use Rattle.replaying.proofs.Lines.{from-values, values-bytes, values-state, values-refused}
 use Rattle.replaying.proofs.advance_values.Statement.{statement}
 use Rattle.replaying.proofs.advance_values.Tie as tie
 
 abbrev Inv-loop : tie.InvT-loop
 Inv-loop letters chunk from lows highs entries out₀ names begun₀ line₀ number₀ state₀ at₀ size₀ out begun line number state at size =
-    ((ns ls : List ℕ) → PlaysChunk (playedSheet ns ls lows highs entries) (valuesReplay begun₀ names line₀ number₀ state₀) chunk from out₀ out (record { replay = valuesReplay begun names line number state; next = at; size = size }))
+    ((ns ls : List ℕ) → PlaysChunk (playedSheet ns ls lows highs entries) (valuesReplay begun₀ names line₀ number₀ state₀) chunk from out₀ out (advancedTo (valuesReplay begun names line number state) at size))
     × ((from < at) ⊎ (size ≡ 0))
 
 abbrev μ-loop : tie.MeasureT-loop
@@ -55,23 +55,25 @@ add-size c =
     let d = ap length (lent-rest (t .out) (t .size)) ∙ length-drop (t .size) (t .out) in
     omega (arith, p .fits, same-room _ _ p, c .before .before .before .end-values .ensures .fits, c .before .before .before .before .before .before .before .before .before .before .before .before .before .before .before .before .good)
 
-ended-replay-requires : tie.Need-ended-replay-requires Inv-loop μ-loop
-ended-replay-requires c κs = tt
+ended-at-requires : tie.Need-ended-at-requires Inv-loop μ-loop
+ended-at-requires c κs = tt
 
 same-length : tie.Need-same-length Inv-loop μ-loop
 same-length c =
     same-room _ _
-    (values-refused _ _ (c .before .before .before .before .before .before .before .before .before .before .before .before .loop .inv .0 [] []) (c .before .before .before .before .before .before .before .before .before .before .if1 .left) (c .before .before .before .before .before .before .before .before .before .run-values .ensures .0) (c .before .before .before .before .before .before .before .before .before .run-values .ensures .1) (c .before .before .before .before .before .before .before .if2 .taken) (c .before .before .before .before .before .end-values .ensures) (c .before .if3 .taken) (c .ended-replay .ensures))
+    (values-refused _ _ (c .before .before .before .before .before .before .before .before .before .before .before .before .loop .inv .0 [] []) (c .before .before .before .before .before .before .before .before .before .before .if1 .left) (c .before .before .before .before .before .before .before .before .before .run-values .ensures .0) (c .before .before .before .before .before .before .before .before .before .run-values .ensures .1) (c .before .before .before .before .before .before .before .if2 .taken) (c .before .before .before .before .before .end-values .ensures) (c .before .if3 .taken))
 
 returns : tie.Need-returns Inv-loop μ-loop
 returns c =
     let b = c .before .before .before .before .before .before .before .before .before .before .before .before .before .before .before .before .before .before in
     let p = c .before .before .before .before .before .before .before .before .before .before .before .before .loop .inv .0 [] [] in
-    let l = c .before .before .before .before .before .before .before .before .before .run-values .ensures .0 in (
-      omega (arith, p .onward, l .onward),
+    let l = c .before .before .before .before .before .before .before .before .before .run-values .ensures .0 in
+    let e = c .ended-at .ensures in
+    let n = ap (λ x. x .next) e in (
+      omega (arith, n, p .onward, l .onward),
       λ ns ls.
-          from-values (b .args .replay) (b .pre .0)
-          (values-refused _ _ (c .before .before .before .before .before .before .before .before .before .before .before .before .loop .inv .0 ns ls) (c .before .before .before .before .before .before .before .before .before .before .if1 .left) l (c .before .before .before .before .before .before .before .before .before .run-values .ensures .1) (c .before .before .before .before .before .before .before .if2 .taken) (c .before .before .before .before .before .end-values .ensures) (c .before .if3 .taken) (c .ended-replay .ensures)),
+          from-values (b .args .replay) (b .pre .0) e
+          (values-refused _ _ (c .before .before .before .before .before .before .before .before .before .before .before .before .loop .inv .0 ns ls) (c .before .before .before .before .before .before .before .before .before .before .if1 .left) l (c .before .before .before .before .before .before .before .before .before .run-values .ensures .1) (c .before .before .before .before .before .before .before .if2 .taken) (c .before .before .before .before .before .end-values .ensures) (c .before .if3 .taken)),
     )
 
 line-start-requires : tie.Need-line-start-requires Inv-loop μ-loop
@@ -99,24 +101,22 @@ loop-again-2 c =
     let h : c .before .before .before .before .before .loop .at < c .before .before .run-values .result .next = omega (arith, l .inside, c .if2 .left, c .before .before .before .before .loop-test .taken) in
     (λ ns ls. values-bytes _ _ (p ns ls) (c .before .before .before .if1 .left) l (c .before .before .run-values .ensures .1) h, inl (omega (arith, h, p [] [] .onward)))
 
+values-at-requires : tie.Need-values-at-requires Inv-loop μ-loop
+values-at-requires c κs = tt
+
 same-length-2 : tie.Need-same-length-2 Inv-loop μ-loop
-same-length-2 c = same-room _ _ (c .before .loop .inv .0 [] [])
+same-length-2 c = same-room _ _ (c .before .before .loop .inv .0 [] [])
 
 returns-2 : tie.Need-returns-2 Inv-loop μ-loop
 returns-2 c =
-    let b = c .before .before .before .before .before .before .before in
-    let t = c .before .loop in
-    (omega (arith, c .loop-test .left, b .pre .2), λ ns ls. from-values (b .args .replay) (b .pre .0) (t .inv .0 ns ls))
-
-same-length-3 : tie.Need-same-length-3 Inv-loop μ-loop
-same-length-3 c = same-room _ _ (c .before .before .loop .inv .0 [] [])
-
-returns-3 : tie.Need-returns-3 Inv-loop μ-loop
-returns-3 c =
     let b = c .before .before .before .before .before .before .before .before in
     let t = c .before .before .loop in
     let p = t .inv .0 [] [] in
-    (⊎-elim (λ h. h) (λ z. absurd (omega (arith, z, c .if1 .taken, same-room _ _ p, b .pre .3))) (t .inv .1), λ ns ls. from-values (b .args .replay) (b .pre .0) (t .inv .0 ns ls))
+    let e = c .values-at .ensures in
+    let n = ap (λ x. x .next) e in
+    let onward : b .args .from < t .at =
+    ⊎-elim (λ x. omega (arith, x .left, b .pre .2)) (λ x. ⊎-elim (λ h. h) (λ z. absurd (omega (arith, z, x .1 .taken, same-room _ _ p, b .pre .3))) (t .inv .1)) (c .before .loop-test .came) in
+    (omega (arith, n, onward), λ ns ls. from-values (b .args .replay) (b .pre .0) e (t .inv .0 ns ls))
 
 pub advance-values-spec : {M : Type 1} → statement M
 advance-values-spec =
@@ -133,7 +133,7 @@ advance-values-spec =
     part-end-values-end
     end-values-requires
     add-size
-    ended-replay-requires
+    ended-at-requires
     same-length
     returns
     line-start-requires
@@ -142,7 +142,6 @@ advance-values-spec =
     loop-again
     loop-less-2
     loop-again-2
+    values-at-requires
     same-length-2
-    returns-2
-    same-length-3
-    returns-3)
+    returns-2)

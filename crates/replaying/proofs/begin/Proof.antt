@@ -2,15 +2,14 @@
 use mathlib.Core.Path.{ap₂}
 use mathlib.Core.Bool.{false}
 use Rattle.replaying.specs.Machine.{namesReplay}
-use borrow.Author.Needs.{needs}
 use Rattle.replaying.proofs.begin.Statement.{statement}
 use Rattle.replaying.proofs.begin.Tie as tie
 
 names-start-requires : tie.Need-names-start-requires
-names-start-requires c κs = search needs
+names-start-requires c κs = tt
 
 line-start-requires : tie.Need-line-start-requires
-line-start-requires c κs = search needs
+line-start-requires c κs = tt
 
 returns : tie.Need-returns
 returns c = ap₂ (λ n l. namesReplay false n l 1 (c .before .before .args .state)) (c .before .names-start .ensures) (c .line-start .ensures)

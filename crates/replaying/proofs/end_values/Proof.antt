@@ -9,13 +9,13 @@ use Rattle.replaying.proofs.end_values.Statement.{statement}
 use Rattle.replaying.proofs.end_values.Tie as tie
 
 line-leads-requires : tie.Need-line-leads-requires
-line-leads-requires c κs = search needs
+line-leads-requires c κs = c .before .before .pre .0
 
 refusal-line-requires : tie.Need-refusal-line-requires
-refusal-line-requires c κs = search needs
+refusal-line-requires c κs = tt
 
 same-length : tie.Need-same-length
-same-length c = search needs
+same-length c = c .before .before .refusal-line .ensures .same-length
 
 returns : tie.Need-returns
 returns c =
@@ -29,10 +29,10 @@ cast-pair-line : tie.Need-cast-pair-line
 cast-pair-line c = search needs
 
 pair-line-requires : tie.Need-pair-line-requires
-pair-line-requires c κs = search needs
+pair-line-requires c κs = tt
 
 same-length-2 : tie.Need-same-length-2
-same-length-2 c = search needs
+same-length-2 c = c .before .before .pair-line .ensures .same-length
 
 returns-2 : tie.Need-returns-2
 returns-2 c =

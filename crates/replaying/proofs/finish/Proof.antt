@@ -6,6 +6,7 @@ use Rattle.print.proofs.Lengths.{refusal-length}
 use Rattle.replaying.specs.Machine.{playedSheet}
 use Rattle.replaying.specs.declared.Stage.the-variants.{Names, Values, Ended}
 use Rattle.replaying.proofs.Outcomes.{written-line}
+use Rattle.replaying.proofs.Plays.{same-room}
 use Rattle.replaying.proofs.Ends.{no-text, closing-text, text-ends, line-ends}
 use borrow.Author.Needs.{needs}
 use Rattle.replaying.proofs.finish.Statement.{statement}
@@ -21,10 +22,10 @@ slice-aggregate-advance : tie.Need-slice-aggregate-advance
 slice-aggregate-advance c = search needs
 
 advance-requires : tie.Need-advance-requires
-advance-requires c κs = search needs
+advance-requires c κs = tt
 
 same-length : tie.Need-same-length
-same-length c = search needs
+same-length c = same-room _ _ (c .before .before .advance .ensures .plays)
 
 returns-2 : tie.Need-returns-2
 returns-2 c =
@@ -36,7 +37,7 @@ enum-told : tie.Need-enum-told
 enum-told c = search needs
 
 refusal-line-requires : tie.Need-refusal-line-requires
-refusal-line-requires c κs = search needs
+refusal-line-requires c κs = tt
 
 enum-told-2 : tie.Need-enum-told-2
 enum-told-2 c = search needs
@@ -45,7 +46,7 @@ enum-told-3 : tie.Need-enum-told-3
 enum-told-3 c = search needs
 
 same-length-2 : tie.Need-same-length-2
-same-length-2 c = search needs
+same-length-2 c = c .before .before .refusal-line .ensures .same-length
 
 returns-3 : tie.Need-returns-3
 returns-3 c =

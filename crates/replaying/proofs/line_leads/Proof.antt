@@ -4,12 +4,11 @@ use mathlib.Core.List.{[]}
 use Rattle.automaton.specs.Stored.{entryAt}
 use Rattle.replaying.specs.Machine.{playedSheet, outcomeOf, ledTo}
 use Rattle.replaying.proofs.Outcomes.{led-refused, led-nowhere, led-state}
-use borrow.Author.Needs.{needs}
 use Rattle.replaying.proofs.line_leads.Statement.{statement}
 use Rattle.replaying.proofs.line_leads.Tie as tie
 
 line-end-requires : tie.Need-line-end-requires
-line-end-requires c κs = search needs
+line-end-requires c κs = tt
 
 returns : tie.Need-returns
 returns c =
@@ -18,7 +17,7 @@ returns c =
     led-refused s (a .state) (c .before .line-end .result) (c .if1 .taken) ∙ ap (λ e. ledTo (outcomeOf s (a .state) e)) (c .before .line-end .ensures)
 
 entry-at-requires : tie.Need-entry-at-requires
-entry-at-requires c κs = search needs
+entry-at-requires c κs = tt
 
 returns-2 : tie.Need-returns-2
 returns-2 c =
