@@ -285,7 +285,7 @@ def magnitude_bound_sheets():
         ("interval-until-right", 6, one_stream("1 until ( x + 1000000000 )")),
         ("interval-quotient", 6, one_stream(
             "( ( x * 1000000000 ) / 1000000000 ) + 1 >= 0")),
-        ("interval-remainder", 6, one_stream(
+        ("interval-remainder", 0, one_stream(
             "( ( ( x * 1000000000 ) % 2 ) + 1 ) >= 0")),
         ("interval-remainder-top", 0, one_stream(
             "( ( x * 999999999 ) % 2 ) + 1 >= 0")),
@@ -293,10 +293,30 @@ def magnitude_bound_sheets():
             "( x / 1 ) - 999999996 <= 0", high=5)),
         ("interval-quotient-below-top", 0, one_stream(
             "( x / 1 ) - 999999995 <= 0", high=5)),
-        ("interval-remainder-below", 6, one_stream(
+        ("interval-remainder-below", 0, one_stream(
             "( x % 3 ) - 999999996 <= 0", high=5)),
         ("interval-remainder-below-top", 0, one_stream(
             "( x % 3 ) - 999999995 <= 0", high=5)),
+        # Document 02, S-2: the tide clock, and k by the dividend's M or the
+        # divisor's M less 1, with the dividend's sign at either end.
+        ("remainder-tide-clock", 0, one_stream(
+            "( ( x * 1000000 ) % 12 ) * 90000000 >= 0", high=1000)),
+        ("remainder-smaller-less-one", 6, one_stream(
+            "( x % 12 ) * 250000000 >= 0", high=5)),
+        ("remainder-smaller-top", 0, one_stream(
+            "( x % 12 ) * 200000000 >= 0", high=5)),
+        ("remainder-both-signs", 0, one_stream(
+            "( x % -3 ) * 500000000 >= -2000000", low=-5, high=5)),
+        ("remainder-both-signs-over", 6, one_stream(
+            "( x % -3 ) * 500000001 >= -2000000", low=-5, high=5)),
+        ("remainder-high-end-0", 0, one_stream(
+            "( x % 4 ) + 1000000000 >= 0", low=-9, high=-1)),
+        ("remainder-low-end-0", 0, one_stream(
+            "( x % 4 ) - 1000000000 <= 0", high=9)),
+        ("remainder-divisor-0", 0, one_stream(
+            "( x % 0 ) * 1000000000 == 0", high=1000)),
+        ("quotient-not-narrowed", 6, one_stream(
+            "( ( x * 1000000 ) / 12 ) * 90000000 >= 0", high=1000)),
         ("interval-minus-minus", 0, one_stream(
             "x - -999999999 >= 0", "-500000000 * 2 <= x")),
         ("scope-interval-passes", 0, one_stream("x * 1000000 == 0", high=1000)),

@@ -20,6 +20,22 @@ def ends_interval(word, left, right):
     return min(results), max(results)
 
 
+def remainder_interval(dividend, divisor):
+    """"a remainder lies within ±k, k the smaller of the dividend's M and the
+    divisor's M less 1 (not below 0).  Its low end is 0 if the dividend's is at
+    least 0; its high end is 0 if the dividend's is at most 0." (document 02,
+    S-2)"""
+    bound = min(largest_magnitude(dividend),
+                max(largest_magnitude(divisor) - 1, 0))
+    low, high = dividend
+    return (0 if low >= 0 else -bound), (0 if high <= 0 else bound)
+
+
+def largest_magnitude(ends):
+    """"M the larger magnitude of the [..] ends" """
+    return max(abs(end) for end in ends)
+
+
 def interval(expression, ranges):
     """"Each expression has an interval"; ranges maps a name to its range."""
     kind = type(expression)
@@ -34,9 +50,11 @@ def interval(expression, ranges):
     if word in TRUTH_WORDS:
         return 0, 1
     inner = [interval(operand, ranges) for operand in operands(expression)]
-    if word in ("/", "%"):
-        magnitude = max(abs(end) for end in inner[0])
+    if word == "/":
+        magnitude = largest_magnitude(inner[0])
         return -magnitude, magnitude
+    if word == "%":
+        return remainder_interval(*inner)
     if word in ("+", "-", "*"):
         return ends_interval(word, *inner)
     # What is left is `first`, `next` and `fby`.

@@ -312,15 +312,21 @@ static summary over_ends(summary x, int64_t p, int64_t q, int64_t r, int64_t s) 
     return within(x, least(least(p, q), least(r, s)), greatest(greatest(p, q), greatest(r, s)));
 }
 
+static int64_t magnitude(summary a) {
+    return greatest(-a.low, greatest(a.low, greatest(-a.high, a.high)));
+}
+
 static summary operated(uint8_t kind, summary a, summary b) {
     summary x = joined(a, b);
-    int64_t most = greatest(-a.low, greatest(a.low, greatest(-a.high, a.high)));
     if (!x.ok) return x;
+    int64_t most = magnitude(a);
+    int64_t left = least(most, greatest(magnitude(b) - 1, 0));
     switch (kind) {
     case ADD: return within(x, a.low + b.low, a.high + b.high);
     case SUBTRACT: return within(x, a.low - b.high, a.high - b.low);
     case MULTIPLY: return over_ends(x, a.low * b.low, a.low * b.high, a.high * b.low, a.high * b.high);
-    case DIVIDE: case REMAINDER: return within(x, -most, most);
+    case DIVIDE: return within(x, -most, most);
+    case REMAINDER: return within(x, a.low >= 0 ? 0 : -left, a.high <= 0 ? 0 : left);
     default: return within(x, 0, 1);
     }
 }

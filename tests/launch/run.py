@@ -177,7 +177,15 @@ def stand_in_cases(folder):
     expect("a source that changed", run([tool], env=path), "anew\n", 0, "text proved (1 s)")
 
 
+def build():
+    """A program that is older than a source is built by its first call, which says so on standard error."""
+    for name, arguments in [("sluice", []), ("replay", ["", ""])]:
+        if (ROOT / "target" / "bin" / name).exists():
+            subprocess.run([str(ROOT / "tools" / name), *arguments], stdin=subprocess.DEVNULL, capture_output=True)
+
+
 def main():
+    build()
     for cases in [sluice_cases, replay_cases, stand_in_cases]:
         with tempfile.TemporaryDirectory() as folder:
             cases(pathlib.Path(folder))

@@ -1,5 +1,5 @@
 -- Intervals in 64 bits: what the functions on them answer, by their tests.
-use Prim.Native.Nat.{ℕ, zero, suc, _≤_, _<_, max}
+use Prim.Native.Nat.{ℕ, zero, suc, _≤_, _<_, max, min, _-_}
 use native.Mathlib.Omega.{arith}
 use native.Mathlib.Decide.{ℕ-discrete, decLe}
 use mathlib.Core.Path.{_≡_, refl, sym, _∙_, ap, ap₂, subst}
@@ -10,9 +10,9 @@ use lib.ListN.{length, getD}
 use lib.Signed.{ltZ, leZ, _≤ℤ_}
 use borrow.Author.Tests.{le-leb, lt-leb, leb-false, lt-ltb, le-ltb}
 use mir.Syntax.{w64}
-use mir.Val.{SFits}
+use mir.Val.{SFits, ofZ}
 use mir.ValLaws.{toZ-ofZ}
-use Rattle.meaning.specs.Arithmetic.{Interval, least, greatest, overEnds, magnitude, around, truthInterval, operatorInterval, apply}
+use Rattle.meaning.specs.Arithmetic.{Interval, least, greatest, overEnds, magnitude, around, truthInterval, operatorInterval, apply, remainderBound, remainderInterval}
 use Rattle.meaning.proofs.Arithmetic.{magnitude-bounds}
 use Rattle.meaning.proofs.Order.{≤ℤ-trans, least-≤-left, least-≤-right, greatest-≥-left, greatest-≥-right}
 use Rattle.sheet.specs.Refusal.{magnitudeBound}
@@ -239,6 +239,71 @@ module _ (a : Range) (u : usable a ≡ true) where
       let b = most-inBound e in
       ap₂ (λ x y. rangeWithin (between x y)) (minus-exact m b ∙ ap negℤ e) (toZ-ofZ w64 m (inBound-fits m b) ∙ e)
 
+least-pos : (m n : ℕ) → least (pos m) (pos n) ≡ pos (min m n)
+least-pos m n = by (decLe m n)
+  where
+    by : Dec (m ≤ n) → least (pos m) (pos n) ≡ pos (min m n)
+    by (yes h) = simp (le-leb m n h) (ap pos (omega arith))
+    by (no h) = simp (lt-leb m n (omega arith)) (ap pos (omega arith))
+
+less-one : (n : ℕ) → 0 < n → pos n -ℤ pos 1 ≡ pos (n - 1)
+less-one zero h = absurd (omega arith)
+less-one (suc n) h = simp (lt-leb (suc (suc n)) 1 (omega arith))
+
+-- ---- the bound of a remainder, from the magnitudes that were handed on
+
+module _ (a b : Range) (u : usable a ≡ true) (v : usable b ≡ true) where
+  abbrev k : ℕ
+  k = remainderBound (intervalOf a) (intervalOf b)
+
+  -- Where the divisor's magnitude is 0.
+  pub bound-none : {m : ℤ} → m ≡ pos (magnitude (intervalOf b)) → ofZ w64 m ≡ 0 → pos 0 ≡ pos k
+  bound-none e z = let n : magnitude (intervalOf b) ≡ 0 = ap (ofZ w64) (sym e) ∙ z in ap pos (omega arith)
+
+  -- Where it is not.
+  module _ {m : ℤ} (e : m ≡ pos (magnitude (intervalOf b))) (z : ofZ w64 m ≡ 0 → ⊥) where
+    magnitude-less : held m -ℤ pos 1 ≡ pos (magnitude (intervalOf b) - 1)
+    magnitude-less =
+        let n : (magnitude (intervalOf b) ≡ 0 → ⊥) = λ q. z (ap (ofZ w64) (e ∙ ap pos q)) in
+        ap (λ x. x -ℤ pos 1) (toZ-ofZ w64 m (inBound-fits m (most-inBound b v e)) ∙ e) ∙ less-one (magnitude (intervalOf b)) (omega arith)
+
+    less-inBound : inBound (pos (magnitude (intervalOf b) - 1)) ≡ true
+    less-inBound =
+        let s = inBound-Small (pos (magnitude (intervalOf b))) (most-inBound b v refl) in
+        le-leb (magnitude (intervalOf b) - 1) magnitudeBound (omega arith)
+
+    pub less-fits : SFits w64 (held m -ℤ pos 1)
+    less-fits = subst (SFits w64) (sym magnitude-less) (inBound-fits (pos (magnitude (intervalOf b) - 1)) less-inBound)
+
+    pub bound-is : {n r : ℤ} → n ≡ pos (magnitude (intervalOf a)) → SFits w64 r → r ≡ least (held n) (held (held m -ℤ pos 1)) → held r ≡ pos k
+    bound-is {n} {r} d f q =
+        toZ-ofZ w64 r f ∙ q
+        ∙ ap₂ least (toZ-ofZ w64 n (inBound-fits n (most-inBound a u d)) ∙ d) (toZ-ofZ w64 (held m -ℤ pos 1) less-fits ∙ magnitude-less)
+        ∙ least-pos (magnitude (intervalOf a)) (magnitude (intervalOf b) - 1)
+
+  pub bound-inBound : {r : ℤ} → r ≡ pos k → inBound r ≡ true
+  bound-inBound {r} e =
+      let s = inBound-Small (pos (magnitude (intervalOf a))) (most-inBound a u refl) in
+      ap inBound e ∙ le-leb k magnitudeBound (omega arith)
+
+  -- The ends, as each branch of their tests leaves them.
+  module _ {r : ℤ} (e : r ≡ pos k) {t : Bool} where
+    pub low-zero : t ≡ leZ (pos 0) (held (a .low)) → t ≡ true → pos 0 ≡ remainderInterval (intervalOf a) (intervalOf b) .low
+    low-zero q h = sym (ap (λ s. cond s (pos 0) (negℤ (pos k))) (ap (leZ (pos 0)) (sym (toZ-ofZ w64 (a .low) (inBound-fits (a .low) (usable-parts a u .1)))) ∙ sym q ∙ h))
+
+    pub low-bound : t ≡ leZ (pos 0) (held (a .low)) → t ≡ false → held (pos 0 -ℤ held r) ≡ remainderInterval (intervalOf a) (intervalOf b) .low
+    low-bound q h =
+        minus-exact r (bound-inBound e) ∙ ap negℤ e
+        ∙ sym (ap (λ s. cond s (pos 0) (negℤ (pos k))) (ap (leZ (pos 0)) (sym (toZ-ofZ w64 (a .low) (inBound-fits (a .low) (usable-parts a u .1)))) ∙ sym q ∙ h))
+
+    pub high-zero : t ≡ leZ (held (a .high)) (pos 0) → t ≡ true → pos 0 ≡ remainderInterval (intervalOf a) (intervalOf b) .high
+    high-zero q h = sym (ap (λ s. cond s (pos 0) (pos k)) (ap (λ z. leZ z (pos 0)) (sym (toZ-ofZ w64 (a .high) (inBound-fits (a .high) (usable-parts a u .2)))) ∙ sym q ∙ h))
+
+    pub high-bound : t ≡ leZ (held (a .high)) (pos 0) → t ≡ false → held r ≡ remainderInterval (intervalOf a) (intervalOf b) .high
+    high-bound q h =
+        toZ-ofZ w64 r (inBound-fits r (bound-inBound e)) ∙ e
+        ∙ sym (ap (λ s. cond s (pos 0) (pos k)) (ap (λ z. leZ z (pos 0)) (sym (toZ-ofZ w64 (a .high) (inBound-fits (a .high) (usable-parts a u .2)))) ∙ sym q ∙ h))
+
 -- ---- the operators by their kinds
 
 -- What holds of n, and of every later number, holds from n on.
@@ -255,10 +320,11 @@ module _ (I J : Interval) where
       let P : ℕ → Type 0 = λ k. k < 10 → overEnds (apply (operatorAt k)) I J ≡ operatorInterval (operatorAt k) I J in
       from P 7 (λ h. refl) (from P 8 (λ h. refl) (from P 9 (λ h. refl) (λ k l h. absurd (omega arith))))
 
-  around-interval : (k : ℕ) → 10 ≤ k → k < 12 → around (magnitude I) ≡ operatorInterval (operatorAt k) I J
-  around-interval =
-      let P : ℕ → Type 0 = λ k. k < 12 → around (magnitude I) ≡ operatorInterval (operatorAt k) I J in
-      from P 10 (λ h. refl) (from P 11 (λ h. refl) (λ k l h. absurd (omega arith)))
+  around-interval : (k : ℕ) → k ≡ 10 → around (magnitude I) ≡ operatorInterval (operatorAt k) I J
+  around-interval k e = ap (λ j. operatorInterval (operatorAt j) I J) (sym e)
+
+  remainder-interval : (k : ℕ) → k ≡ 11 → remainderInterval I J ≡ operatorInterval (operatorAt k) I J
+  remainder-interval k e = ap (λ j. operatorInterval (operatorAt j) I J) (sym e)
 
   truth-interval : (k : ℕ) → 12 ≤ k → k ≤ 19 → truthInterval ≡ operatorInterval (operatorAt k) I J
   truth-interval =
@@ -290,8 +356,11 @@ module _ (k : ℕ) (a b : Range) where
       pub kind-ends : k < 10 → rangeWithin (overEnds (apply (operatorAt k)) (intervalOf a) (intervalOf b)) ≡ operatorRange k a b
       kind-ends t = of-interval (ends-interval (intervalOf a) (intervalOf b) k l t)
 
-      pub kind-around : 10 ≤ k → k < 12 → rangeWithin (around (magnitude (intervalOf a))) ≡ operatorRange k a b
-      kind-around s t = of-interval (around-interval (intervalOf a) (intervalOf b) k s t)
+      pub kind-around : k ≡ 10 → rangeWithin (around (magnitude (intervalOf a))) ≡ operatorRange k a b
+      kind-around e = of-interval (around-interval (intervalOf a) (intervalOf b) k e)
+
+      pub kind-remainder : k ≡ 11 → rangeWithin (remainderInterval (intervalOf a) (intervalOf b)) ≡ operatorRange k a b
+      kind-remainder e = of-interval (remainder-interval (intervalOf a) (intervalOf b) k e)
 
       pub kind-truth : 12 ≤ k → rangeWithin truthInterval ≡ operatorRange k a b
       kind-truth s = of-interval (truth-interval (intervalOf a) (intervalOf b) k s h)

@@ -11,7 +11,7 @@ ghost use mathlib.Core.Bool.{true};
 ghost use Prim.Native.Nat.{suc, _+_, _-_, _≤_, _<_};
 ghost use lib.IntN.{pos, natAbs};
 ghost use lib.ListN.{length};
-ghost use Rattle.meaning.specs.Arithmetic.{least, greatest, hull, overEnds, around, magnitude, apply};
+ghost use Rattle.meaning.specs.Arithmetic.{least, greatest, hull, overEnds, around, magnitude, remainderBound, remainderInterval, apply};
 ghost use Rattle.nodes.specs.Bounded.{inBound, operatorAt};
 ghost use Rattle.nodes.specs.Evaluate.{stored, HoldsParts};
 ghost use Rattle.nodes.specs.Bounds.{noRange, rangeWithin, intervalOf, usable, combined, truthRange, operatorRange, branchRange, streamRange, limited, noSummary, leafSummary, firstSummary, nextSummary, negationSummary, operatorSummary, conditionalSummary, fbySummary, summaryBefore, nodeSummary};
@@ -150,13 +150,44 @@ fn absolute(z: i64) -> i64
     z
 }
 
-// "for `/` and `%` from −M to M, M the larger magnitude of the dividend's ends"
+// "M the larger magnitude of the dividend's ends", and the same of the divisor's.
+fn magnitude(a: Range) -> i64
+    requires { ⌜ usable a ≡ true ⌝ }
+    ensures { λ r. ⌜ r ≡ pos (magnitude (intervalOf a)) ⌝ }
+{
+    greatest(absolute(a.low), absolute(a.high))
+}
+
+// "for `/` [..] from −M to M"
 fn around(a: Range) -> Range
     requires { ⌜ usable a ≡ true ⌝ }
     ensures { λ r. ⌜ r ≡ rangeWithin (around (magnitude (intervalOf a))) ⌝ }
 {
-    let most = greatest(absolute(a.low), absolute(a.high));
+    let most = magnitude(a);
     range_within(0 - most, most)
+}
+
+// "k the smaller of the dividend's M and the divisor's M less 1 (not below 0)"
+fn remainder_bound(a: Range, b: Range) -> i64
+    requires { ⌜ (usable a ≡ true) × (usable b ≡ true) ⌝ }
+    ensures { λ r. ⌜ r ≡ pos (remainderBound (intervalOf a) (intervalOf b)) ⌝ }
+{
+    let divisor = magnitude(b);
+    if divisor == 0 {
+        return 0;
+    }
+    least(magnitude(a), divisor - 1)
+}
+
+// "Its low end is 0 if the dividend's is at least 0; its high end is 0 if the dividend's is at most 0."
+fn remainder_range(a: Range, b: Range) -> Range
+    requires { ⌜ (usable a ≡ true) × (usable b ≡ true) ⌝ }
+    ensures { λ r. ⌜ r ≡ rangeWithin (remainderInterval (intervalOf a) (intervalOf b)) ⌝ }
+{
+    let bound = remainder_bound(a, b);
+    let low = if at_most(0, a.low) { 0 } else { 0 - bound };
+    let high = if at_most(a.high, 0) { 0 } else { bound };
+    range_within(low, high)
 }
 
 // "0 to 1 for truth values"
@@ -185,8 +216,11 @@ fn operator_range(kind: u8, a: Range, b: Range) -> Range
     if kind < nodes::DIVIDE_NODE {
         return over_ends(kind, a, b);
     }
-    if kind < nodes::LESS_NODE {
+    if kind == nodes::DIVIDE_NODE {
         return around(a);
+    }
+    if kind == nodes::REMAINDER_NODE {
+        return remainder_range(a, b);
     }
     range_within(0, 1)
 }

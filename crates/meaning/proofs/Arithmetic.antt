@@ -1,15 +1,15 @@
 -- What an operator gives lies in the operator's interval, and an operator's interval is not empty. From the order of the integers (Order).
-use Prim.Native.Nat.{ℕ, zero, suc, _/_, _%_, _≤_, max, zero-le}
+use Prim.Native.Nat.{ℕ, zero, suc, _/_, _%_, _≤_, _<_, max, zero-le}
 use native.Mathlib.Omega.{arith}
-use native.Mathlib.Nat.{le-trans, div-le-self, mod-le, le-of-suc-le-suc, not-suc-le-zero}
+use native.Mathlib.Nat.{le-trans, div-le-self, mod-le, mod-lt, le-of-suc-le-suc, not-suc-le-zero}
 use mathlib.Core.Path.{_≡_, refl, sym, _∙_, ap, subst, subst₂}
 use mathlib.Core.Bool.{Bool, true, false, not, cond, _&&_, _||_}
-use lib.Dec.{leb→le, le→leb}
+use lib.Dec.{T, leb→le, le→leb}
 use lib.IntN.{ℤ, pos, negsuc, negℤ, natAbs, sucℤ, predℤ, _+ℤ_, _-ℤ_, _*ℤ_, sucℤ-+ℤ, +ℤ-sucℤ, +ℤ-predℤ, +ℤ-idr, sucℤ-*ℤ, *ℤ-comm, negℤ-sucℤ}
-use lib.Signed.{quotZ, remZ, _≤ℤ_, ≤ℤ-refl, leZ-yes}
+use lib.Signed.{leZ, quotZ, remZ, _≤ℤ_, ≤ℤ-refl, leZ-yes}
 use Rattle.meaning.specs.Value.{Value, nonzero, truth, bit, compares}
 use Rattle.meaning.specs.Expression.{negated, chosen}
-use Rattle.meaning.specs.Arithmetic.{Operator, add, subtract, multiply, divide, remainder, compare, and, or, Interval, Within, least, greatest, hull, overEnds, magnitude, around, truthInterval, apply, operatorInterval}
+use Rattle.meaning.specs.Arithmetic.{Operator, add, subtract, multiply, divide, remainder, compare, and, or, Interval, Within, least, greatest, hull, overEnds, magnitude, around, remainderBound, remainderInterval, truthInterval, apply, operatorInterval}
 use Rattle.meaning.proofs.Order.{≤ℤ-trans, least-≤-left, least-≤-right, least-cases, greatest-≥-left, greatest-≥-right, greatest-cases, ≤-sucℤ, predℤ-≤, Rising, Falling, rising-≤, falling-≤, ≤-+ℤ-pos}
 
 -- ---- intervals
@@ -172,6 +172,50 @@ guarded-within : (I : Interval) (c : Bool) {a : ℤ} (z : ℤ) → Within I a �
 guarded-within I true {a} z h l = around-within (magnitude I) z (le-trans l (magnitude-bounds I a h))
 guarded-within I false z h l = around-within (magnitude I) (pos 0) zero-le
 
+-- ---- `%`: the dividend's sign, and a magnitude below the divisor's
+
+negℤ-below : (n : ℕ) → negℤ (pos n) ≤ℤ pos 0
+negℤ-below zero = leZ-yes tt
+negℤ-below (suc n) = leZ-yes tt
+
+pub remZ-above : (a b : ℤ) → pos 0 ≤ℤ a → pos 0 ≤ℤ remZ a b
+remZ-above (pos a) b h = leZ-yes (le→leb 0 (a % natAbs b) zero-le)
+remZ-above (negsuc a) b h = absurd (h .le)
+
+pub remZ-below : (a b : ℤ) → a ≤ℤ pos 0 → remZ a b ≤ℤ pos 0
+remZ-below (pos a) b h = leZ-yes (le→leb (a % natAbs b) 0 (le-trans (mod-le a (natAbs b)) (leb→le a 0 (h .le))))
+remZ-below (negsuc a) b h = negℤ-below (suc a % natAbs b)
+
+-- The part of −k to k that I's ends leave.
+abbrev sided : Interval → ℕ → Interval
+sided I k = record { low = cond (leZ (pos 0) (I .low)) (pos 0) (negℤ (pos k)); high = cond (leZ (I .high) (pos 0)) (pos 0) (pos k) }
+
+-- A number of magnitude at most k whose sign is that of a number in I lies in it.
+sided-within : (I : Interval) (k : ℕ) (a z : ℤ) → Within I a → natAbs z ≤ k → (pos 0 ≤ℤ a → pos 0 ≤ℤ z) → (a ≤ℤ pos 0 → z ≤ℤ pos 0) → Within (sided I k) z
+sided-within I k a z h l p q =
+    let r = around-within k z l in
+    record { above = low (leZ (pos 0) (I .low)) refl (r .above); below = high (leZ (I .high) (pos 0)) refl (r .below) }
+  where
+    low : (t : Bool) → leZ (pos 0) (I .low) ≡ t → negℤ (pos k) ≤ℤ z → cond t (pos 0) (negℤ (pos k)) ≤ℤ z
+    low true e r = p (≤ℤ-trans (leZ-yes (subst T (sym e) tt)) (h .above))
+    low false e r = r
+
+    high : (t : Bool) → leZ (I .high) (pos 0) ≡ t → z ≤ℤ pos k → z ≤ℤ cond t (pos 0) (pos k)
+    high true e r = q (≤ℤ-trans (h .below) (leZ-yes (subst T (sym e) tt)))
+    high false e r = r
+
+remainder-small : (a b : ℤ) → T (nonzero b) → natAbs (remZ a b) < natAbs b
+remainder-small a (pos zero) t = absurd t
+remainder-small a (pos (suc b)) t = rw natAbs-remZ (mod-lt (natAbs a) (omega arith))
+remainder-small a (negsuc b) t = rw natAbs-remZ (mod-lt (natAbs a) (omega arith))
+
+remainder-within : (I J : Interval) (a b : ℤ) → Within I a → Within J b → (t : Bool) → nonzero b ≡ t → Within (remainderInterval I J) (cond t (remZ a b) (pos 0))
+remainder-within I J a b h k true e =
+    let s = remainder-small a b (subst T (sym e) tt) in
+    let m : natAbs (remZ a b) ≤ natAbs a = rw natAbs-remZ (mod-le (natAbs a) (natAbs b)) in
+    sided-within I (remainderBound I J) a (remZ a b) h (omega (arith, magnitude-bounds I a h, magnitude-bounds J b k)) (remZ-above a b) (remZ-below a b)
+remainder-within I J a b h k false e = sided-within I (remainderBound I J) a (pos 0) h zero-le (λ p. ≤ℤ-refl (pos 0)) (λ q. ≤ℤ-refl (pos 0))
+
 -- ---- every operator
 
 pub operator-within : (o : Operator) (I J : Interval) {x y : ℤ}
@@ -180,7 +224,7 @@ operator-within add I J h k = overEnds-within _+ℤ_ (λ y. rising (+ℤ-rising-
 operator-within subtract I J h k = overEnds-within _-ℤ_ (λ y. rising (+ℤ-rising-left (negℤ y))) (λ x. falling (-ℤ-falling-right x)) I J h k
 operator-within multiply I J h k = overEnds-within _*ℤ_ *ℤ-monotone-left *ℤ-monotone-right I J h k
 operator-within divide I J {x} {y} h k = guarded-within I (nonzero y) (quotZ x y) h (rw natAbs-quotZ (div-le-self (natAbs x) (natAbs y)))
-operator-within remainder I J {x} {y} h k = guarded-within I (nonzero y) (remZ x y) h (rw natAbs-remZ (mod-le (natAbs x) (natAbs y)))
+operator-within remainder I J {x} {y} h k = remainder-within I J x y h k (nonzero y) refl
 operator-within (compare c) I J {x} {y} h k = bit-within (compares c x y)
 operator-within and I J {x} {y} h k = bit-within (truth x && truth y)
 operator-within or I J {x} {y} h k = bit-within (truth x || truth y)
@@ -190,6 +234,15 @@ operator-within or I J {x} {y} h k = bit-within (truth x || truth y)
 around-ordered : (m : ℕ) → around m .low ≤ℤ around m .high
 around-ordered zero = leZ-yes tt
 around-ordered (suc m) = leZ-yes tt
+
+remainder-ordered : (I J : Interval) → remainderInterval I J .low ≤ℤ remainderInterval I J .high
+remainder-ordered I J = by (leZ (pos 0) (I .low)) (leZ (I .high) (pos 0)) (remainderBound I J)
+  where
+    by : (s t : Bool) (k : ℕ) → cond s (pos 0) (negℤ (pos k)) ≤ℤ cond t (pos 0) (pos k)
+    by true true k = leZ-yes tt
+    by true false k = leZ-yes (le→leb 0 k zero-le)
+    by false true k = negℤ-below k
+    by false false k = around-ordered k
 
 overEnds-ordered : (f : ℤ → ℤ → ℤ) (I J : Interval) → overEnds f I J .low ≤ℤ overEnds f I J .high
 overEnds-ordered f I J =
@@ -201,7 +254,7 @@ operator-ordered add I J = overEnds-ordered _+ℤ_ I J
 operator-ordered subtract I J = overEnds-ordered _-ℤ_ I J
 operator-ordered multiply I J = overEnds-ordered _*ℤ_ I J
 operator-ordered divide I J = around-ordered (magnitude I)
-operator-ordered remainder I J = around-ordered (magnitude I)
+operator-ordered remainder I J = remainder-ordered I J
 operator-ordered (compare c) I J = leZ-yes tt
 operator-ordered and I J = leZ-yes tt
 operator-ordered or I J = leZ-yes tt

@@ -12,7 +12,7 @@ use Rattle.basics.proofs.Tests.{cond-true}
 use Rattle.meaning.specs.Value.{truth}
 use Rattle.meaning.specs.Arithmetic.{divide, remainder, apply}
 use Rattle.meaning.proofs.Value.{truth-not-zero}
-use Rattle.meaning.proofs.Arithmetic.{natAbs-remZ}
+use Rattle.meaning.proofs.Arithmetic.{natAbs-remZ, remZ-above, remZ-below}
 
 -- q and r are quotient, cut toward zero, and remainder of a by b.
 pub record Division (a b q r : ℤ) : Type 0 where
@@ -42,18 +42,6 @@ natAbs-positive : (b : ℤ) → b ≢ pos 0 → 0 < natAbs b
 natAbs-positive (pos zero) h = absurd (h refl)
 natAbs-positive (pos (suc b)) h = omega arith
 natAbs-positive (negsuc b) h = omega arith
-
-remZ-above : (a b : ℤ) → pos 0 ≤ℤ a → pos 0 ≤ℤ remZ a b
-remZ-above (pos a) b h = leZ-yes (le→leb 0 (a % natAbs b) zero-le)
-remZ-above (negsuc a) b h = absurd (h .le)
-
-negℤ-below : (n : ℕ) → negℤ (pos n) ≤ℤ pos 0
-negℤ-below zero = leZ-yes tt
-negℤ-below (suc n) = leZ-yes tt
-
-remZ-below : (a b : ℤ) → a ≤ℤ pos 0 → remZ a b ≤ℤ pos 0
-remZ-below (pos a) b h = leZ-yes (le→leb (a % natAbs b) 0 (le-trans (mod-le a (natAbs b)) (leb→le a 0 (h .le))))
-remZ-below (negsuc a) b h = negℤ-below (suc a % natAbs b)
 
 -- "A quotient is cut toward zero and the remainder has the dividend's sign".
 pub division : (a b : ℤ) → b ≢ pos 0 → Division a b (apply divide a b) (apply remainder a b)

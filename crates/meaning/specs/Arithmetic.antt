@@ -1,5 +1,5 @@
 -- The operators, what they give, and the intervals of what they give (document 01, "Meaning at time i", "Intervals and the normal form").
-use Prim.Native.Nat.{ℕ, max}
+use Prim.Native.Nat.{ℕ, _-_, min, max}
 use mathlib.Core.Bool.{cond, _&&_, _||_}
 use lib.IntN.{ℤ, pos, negℤ, natAbs, _+ℤ_, _-ℤ_, _*ℤ_}
 use lib.Signed.{leZ, quotZ, remZ, _≤ℤ_}
@@ -42,9 +42,21 @@ overEnds f I J =
 abbrev pub magnitude : Interval → ℕ
 magnitude I = max (natAbs (I .low)) (natAbs (I .high))
 
--- "for `/` and `%` from −M to M"
+-- "for `/` [..] from −M to M"
 abbrev pub around : ℕ → Interval
 around m = record { low = negℤ (pos m); high = pos m }
+
+-- "a remainder lies within ±k, k the smaller of the dividend's M and the divisor's M less 1 (not below 0)" (document 02, S-2)
+abbrev pub remainderBound : Interval → Interval → ℕ
+remainderBound I J = min (magnitude I) (magnitude J - 1)
+
+-- "Its low end is 0 if the dividend's is at least 0; its high end is 0 if the dividend's is at most 0." (document 02, S-2)
+abbrev pub remainderInterval : Interval → Interval → Interval
+remainderInterval I J =
+    record {
+      low = cond (leZ (pos 0) (I .low)) (pos 0) (negℤ (pos (remainderBound I J)));
+      high = cond (leZ (I .high) (pos 0)) (pos 0) (pos (remainderBound I J));
+    }
 
 -- "0 to 1 for truth values"
 abbrev pub truthInterval : Interval
@@ -68,7 +80,7 @@ operatorInterval add I J = overEnds _+ℤ_ I J
 operatorInterval subtract I J = overEnds _-ℤ_ I J
 operatorInterval multiply I J = overEnds _*ℤ_ I J
 operatorInterval divide I J = around (magnitude I)
-operatorInterval remainder I J = around (magnitude I)
+operatorInterval remainder I J = remainderInterval I J
 operatorInterval (compare c) I J = truthInterval
 operatorInterval and I J = truthInterval
 operatorInterval or I J = truthInterval

@@ -1,8 +1,9 @@
 -- `bounds::operator_range` meets its contract, by the kind.
 use mathlib.Core.Path.{sym, _∙_}
+use native.Mathlib.Omega.{arith}
 use borrow.Author.Needs.{needs}
 use borrow.Author.Tests.{not-true, not-false}
-use Rattle.bounds.proofs.Ranges.{kind-low, kind-high, kind-left, kind-right, kind-ends, kind-around, kind-truth}
+use Rattle.bounds.proofs.Ranges.{kind-low, kind-high, kind-left, kind-right, kind-ends, kind-around, kind-remainder, kind-truth}
 use Rattle.bounds.proofs.operator_range.Statement.{statement}
 use Rattle.bounds.proofs.operator_range.Tie as tie
 
@@ -46,20 +47,22 @@ returns-5 c =
     ∙ kind-ends (c .before .before .before .before .before .before .before .before .args .kind) (c .before .before .before .before .before .before .before .before .args .a) (c .before .before .before .before .before .before .before .before .args .b) (c .before .before .before .before .before .before .before .if1 .left) (c .before .before .before .before .before .before .if2 .left) (sym (c .before .before .before .before .before .usable .ensures) ∙ not-false _ (c .before .before .before .before .if3 .left)) (sym (c .before .before .before .usable2 .ensures) ∙ not-false _ (c .before .before .if4 .left)) (c .before .if5 .taken)
 
 around-requires : tie.Need-around-requires
-around-requires c κs = (sym (c .before .before .before .before .before .usable .ensures) ∙ not-false _ (c .before .before .before .before .if3 .left))
+around-requires c κs = sym (c .before .before .before .before .before .usable .ensures) ∙ not-false _ (c .before .before .before .before .if3 .left)
 
 returns-6 : tie.Need-returns-6
-returns-6 c =
-    c .around .ensures
-    ∙ kind-around (c .before .before .before .before .before .before .before .before .before .args .kind) (c .before .before .before .before .before .before .before .before .before .args .a) (c .before .before .before .before .before .before .before .before .before .args .b) (c .before .before .before .before .before .before .before .before .if1 .left) (c .before .before .before .before .before .before .before .if2 .left) (sym (c .before .before .before .before .before .before .usable .ensures) ∙ not-false _ (c .before .before .before .before .before .if3 .left)) (sym (c .before .before .before .before .usable2 .ensures) ∙ not-false _ (c .before .before .before .if4 .left)) (c .before .before .if5 .left) (c .before .if6 .taken)
+returns-6 c = c .around .ensures ∙ kind-around (c .before .before .before .before .before .before .before .before .before .args .kind) (c .before .before .before .before .before .before .before .before .before .args .a) (c .before .before .before .before .before .before .before .before .before .args .b) (c .before .before .before .before .before .before .before .before .if1 .left) (c .before .before .before .before .before .before .before .if2 .left) (sym (c .before .before .before .before .before .before .usable .ensures) ∙ not-false _ (c .before .before .before .before .before .if3 .left)) (sym (c .before .before .before .before .usable2 .ensures) ∙ not-false _ (c .before .before .before .if4 .left)) (c .before .if6 .taken)
+
+remainder-range-requires : tie.Need-remainder-range-requires
+remainder-range-requires c κs = (sym (c .before .before .before .before .before .before .usable .ensures) ∙ not-false _ (c .before .before .before .before .before .if3 .left), sym (c .before .before .before .before .usable2 .ensures) ∙ not-false _ (c .before .before .before .if4 .left))
+
+returns-7 : tie.Need-returns-7
+returns-7 c = c .remainder-range .ensures ∙ kind-remainder (c .before .before .before .before .before .before .before .before .before .before .args .kind) (c .before .before .before .before .before .before .before .before .before .before .args .a) (c .before .before .before .before .before .before .before .before .before .before .args .b) (c .before .before .before .before .before .before .before .before .before .if1 .left) (c .before .before .before .before .before .before .before .before .if2 .left) (sym (c .before .before .before .before .before .before .before .usable .ensures) ∙ not-false _ (c .before .before .before .before .before .before .if3 .left)) (sym (c .before .before .before .before .before .usable2 .ensures) ∙ not-false _ (c .before .before .before .before .if4 .left)) (c .before .if7 .taken)
 
 range-within-requires : tie.Need-range-within-requires
 range-within-requires c κs = search needs
 
-returns-7 : tie.Need-returns-7
-returns-7 c =
-    c .range-within .ensures
-    ∙ kind-truth (c .before .before .before .before .before .before .before .before .before .args .kind) (c .before .before .before .before .before .before .before .before .before .args .a) (c .before .before .before .before .before .before .before .before .before .args .b) (c .before .before .before .before .before .before .before .before .if1 .left) (c .before .before .before .before .before .before .before .if2 .left) (sym (c .before .before .before .before .before .before .usable .ensures) ∙ not-false _ (c .before .before .before .before .before .if3 .left)) (sym (c .before .before .before .before .usable2 .ensures) ∙ not-false _ (c .before .before .before .if4 .left)) (c .before .if6 .left)
+returns-8 : tie.Need-returns-8
+returns-8 c = c .range-within .ensures ∙ kind-truth (c .before .before .before .before .before .before .before .before .before .before .args .kind) (c .before .before .before .before .before .before .before .before .before .before .args .a) (c .before .before .before .before .before .before .before .before .before .before .args .b) (c .before .before .before .before .before .before .before .before .before .if1 .left) (c .before .before .before .before .before .before .before .before .if2 .left) (sym (c .before .before .before .before .before .before .before .usable .ensures) ∙ not-false _ (c .before .before .before .before .before .before .if3 .left)) (sym (c .before .before .before .before .before .usable2 .ensures) ∙ not-false _ (c .before .before .before .before .if4 .left)) (omega (arith, c .before .before .before .if5 .left, c .before .before .if6 .left, c .before .if7 .left))
 
 pub operator-range-spec : {M : Type 1} → statement M
 operator-range-spec =
@@ -79,5 +82,7 @@ operator-range-spec =
     returns-5
     around-requires
     returns-6
+    remainder-range-requires
+    returns-7
     range-within-requires
-    returns-7)
+    returns-8)

@@ -34,7 +34,7 @@ rows =
     ∷ (binary multiply x y, to (minus 14) (pos 6))
     ∷ (binary multiply x x, to (minus 21) (pos 49))
     ∷ (binary divide x y, to (minus 7) (pos 7))
-    ∷ (binary remainder y x, to (minus 2) (pos 2))
+    ∷ (binary remainder y x, to (pos 0) (pos 2))
     ∷ (binary (compare less) x y, to (pos 0) (pos 1))
     ∷ (binary and x y, to (pos 0) (pos 1))
     ∷ (negation x, to (pos 0) (pos 1))
