@@ -13,6 +13,7 @@ import random
 import sys
 from collections import Counter, deque, namedtuple
 
+from course_check import difference as course_difference
 from damage import damaged_sheets
 from examples import EXAMPLES, example_faults
 from generate import bound_sheets, random_sheets
@@ -24,6 +25,7 @@ from meaning import value
 from normal_form import entry_texts, normal_form_of
 from reading import ranges, read
 from replay_check import difference as replay_difference
+from shortest_check import difference as shortest_difference
 from situations import explore, is_lawful, judge_of, situation
 from spellings import spelling_sheets
 from step import step, table_bytes
@@ -35,6 +37,8 @@ SITUATION_BOUND = 400
 RECORD_BOUND = 3000
 LASSO_BOUND = 150
 REPLAYS = 2000
+COURSES = 1000
+SHEET_COURSES = 500
 PAIR_BOUND = 150
 PARTITION_BOUND = 30
 NORMAL_FORM_WORDS = 4
@@ -461,6 +465,20 @@ def check_replays(rng, counts):
         counts["records replayed by lines and by bytes"] += 1
 
 
+def check_courses(rng, counts):
+    """The shortest course, by rows and by all records."""
+    for _ in range(COURSES):
+        case = course_difference(rng)
+        if case:
+            raise Difference("course", *case)
+        counts["courses found by rows and by all records"] += 1
+    for _ in range(SHEET_COURSES):
+        case = shortest_difference(rng)
+        if case:
+            raise Difference("shortest", *case)
+        counts["courses of sheets found by rows and by lines of the table"] += 1
+
+
 def main(seed, count):
     counts = Counter()
     rng = random.Random(seed)
@@ -471,6 +489,7 @@ def main(seed, count):
         counts["examples of document 01"] += len(EXAMPLES)
         check_refusals(seed, counts)
         check_replays(rng, counts)
+        check_courses(rng, counts)
         sheets = [(wanted.name, wanted.sheet) for wanted in EXAMPLES
                   if "letters" not in wanted.name] + random_sheets(seed, count, 6)
         for number, (name, text) in enumerate(sheets):

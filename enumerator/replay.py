@@ -64,17 +64,24 @@ def played(sheet, entries, state, lines):
     return printed
 
 
-def replay_lines(sheet_text, record, start):
+def opened(sheet_text, start):
+    """The refusal of the sheet, in the rows that programs lend, or "11, a
+    start that is no state of the table"; or 0, the sheet, what its compile
+    gives and the state."""
     refusal, sheet = read(sheet_text)
     if refusal:
-        return [["refused", refusal]]
+        return refusal, None, None, None
     rows = lent_rows(letter_count(sheet))
     compiled = compile_analysed(analyse(sheet_text, rows), rows)
-    if compiled.refusal:
-        return [["refused", compiled.refusal]]
     state = start_state(start, compiled.states)
-    if state is None:
-        return [["refused", 11]]
+    refusal = compiled.refusal or (11 if state is None else 0)
+    return refusal, sheet, compiled, state
+
+
+def replay_lines(sheet_text, record, start):
+    refusal, sheet, compiled, state = opened(sheet_text, start)
+    if refusal:
+        return [["refused", refusal]]
     lines = split_lines(record)
     if (not lines or not is_plain(lines[0])
             or token_texts(lines[0]) != sheet.names):

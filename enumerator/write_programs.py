@@ -61,6 +61,22 @@ def step_program(vectors):
     return text, expected.encode()
 
 
+def course_case(vector):
+    """The bytes of one call for a course, and the line that it must print: the refusal, the letters, and the whole list."""
+    table = b"".join(entry.to_bytes(2, "little") for entry in vector["entries"]) + bytes(vector["finals"])
+    numbers = [len(table), len(vector["entries"]), vector["letters"], vector["state"], vector["list"]]
+    found = vector["course"]
+    rest = [0] * (vector["list"] - len(found))
+    line = "%d %d : " % (vector["refusal"], len(found)) + "".join("%d " % number for number in found + rest) + "\n"
+    return b"".join(word(number) for number in numbers) + table, line
+
+
+def course_program(vectors):
+    """Every course, in order."""
+    cases = [course_case(vector) for vector in vectors]
+    return b"".join(case[0] for case in cases), "".join(case[1] for case in cases).encode()
+
+
 def reader_case(vector):
     """The bytes of one sheet, and the line that is printed for it."""
     sheet = vector["sheet"].encode("latin-1")
@@ -174,6 +190,26 @@ def replay_program(vectors):
             "data/record": first["record"].encode("latin-1"), "stdout": first["printed"].encode()}
 
 
+def shortest_case(vector):
+    """The bytes of one case: the length of both texts, that of the sheet, whether a state is given, and the texts."""
+    sheet = vector["sheet"].encode("latin-1")
+    start = vector["start"]
+    texts = sheet + (start or "").encode("latin-1")
+    return b"".join(map(word, (len(texts), len(sheet), start is not None))) + texts
+
+
+def shortest_vectors_program(vectors):
+    """All cases, in order."""
+    return b"".join(map(shortest_case, vectors)), b"".join(vector["printed"].encode() for vector in vectors)
+
+
+def shortest_program(vectors):
+    """The first case that has a state, as a file and an argument, and what `shortest` prints for it."""
+    first = next(vector for vector in vectors if vector["start"])
+    return {"args": b"sheet\n" + first["start"].encode() + b"\n", "data/sheet": first["sheet"].encode("latin-1"),
+            "stdout": first["printed"].encode()}
+
+
 def write_files(folder, crate, files):
     for name, content in files.items():
         path = os.path.join(folder, crate, name)
@@ -190,6 +226,7 @@ def main(vectors, crates):
     sheets = load(vectors, "sheets.jsonl")
     examples = example_sheets(os.path.join(os.path.dirname(os.path.abspath(__file__)), "..", "examples"))
     write(crates, "step_vectors", step_program(load(vectors, "step.jsonl")))
+    write(crates, "course_vectors", course_program(load(vectors, "course.jsonl")))
     write(crates, "reader_vectors", reader_program(sheets))
     texts = {vector["name"]: vector["sheet"].encode("latin-1") for vector in sheets}
     write(crates, "normal_vectors", normal_program(load(vectors, "normal.jsonl"), texts))
@@ -199,6 +236,9 @@ def main(vectors, crates):
     replays = load(vectors, "replay.jsonl")
     write_files(crates, "replay", replay_program(replays))
     write(crates, "replay_vectors", replay_vectors_program(replays))
+    printed = load(vectors, "shortest.jsonl")
+    write_files(crates, "shortest", shortest_program(printed))
+    write(crates, "shortest_vectors", shortest_vectors_program(printed))
 
 
 if __name__ == "__main__":

@@ -11,6 +11,8 @@ from collections import Counter
 from pathlib import Path
 
 from compiler import analyse, compile_analysed
+from course import course
+from course_cases import course_cases
 from damage import damaged_sheets
 from examples import EXAMPLES
 from generate import (bound_sheets, counted_sheets, large_table_sheets,
@@ -22,6 +24,8 @@ from normal_form import entry_texts, normal_form, normal_form_of
 from reading import letter_count
 from replay import replay
 from replay_cases import replay_cases
+from shortest import shortest
+from shortest_cases import shortest_cases
 from sluice import sluice_output
 from spellings import spelling_sheets
 from step import move
@@ -36,6 +40,9 @@ DAMAGED_EACH = 16
 STEPS = 160
 DRAWN_REPLAYS = 40
 LAWFUL_REPLAYS = 30
+COURSES = 140
+# Of so many drawn sheets, the first so many whose course has letters.
+COURSE_SHEETS = (200, 24)
 # Drawn sheets with larger tables are left out, to keep the files short.
 RANDOM_ENTRIES = 600
 
@@ -142,6 +149,19 @@ def replay_vector(sheet, record, start):
             "printed": replay(sheet, record, start).decode()}
 
 
+def course_vector(case):
+    answer = course(*case)
+    return {"entries": case.entries, "finals": case.finals,
+            "letters": case.letters, "state": case.state, "list": case.room,
+            "refusal": answer.refusal, "course": answer.list[:answer.count]}
+
+
+def shortest_vector(sheet, start):
+    return {"sheet": sheet.decode("latin-1"),
+            "start": None if start is None else start.decode("latin-1"),
+            "printed": shortest(sheet, start).decode()}
+
+
 def write_lines(directory, name, vectors):
     lines = [json.dumps(vector, sort_keys=True) for vector in vectors]
     (directory / name).write_text("".join(line + "\n" for line in lines))
@@ -167,9 +187,13 @@ def main(directory):
     steps = [step_vector(case) for case in step_cases(SEED, STEPS)]
     replays = [replay_vector(*case) for case
                in replay_cases(SEED, DRAWN_REPLAYS, LAWFUL_REPLAYS)]
+    courses = [course_vector(case) for case in course_cases(SEED, COURSES)]
+    printed = [shortest_vector(*case)
+               for case in shortest_cases(SEED, *COURSE_SHEETS)]
     for name, vectors in (("sheets", sheets), ("compile", compiles),
                           ("normal", normals), ("step", steps),
-                          ("replay", replays)):
+                          ("replay", replays), ("course", courses),
+                          ("shortest", printed)):
         write_lines(directory, name + ".jsonl", vectors)
     print_counts("sheets", (vector["refusal"] for vector in sheets))
     print_counts("compiles", (vector["refusal"] for vector in compiles))
@@ -177,6 +201,8 @@ def main(directory):
     print_counts("steps", (max(0, vector["answer"] - STEP_REFUSED)
                            for vector in steps))
     print("replays: %d" % len(replays))
+    print_counts("courses", (vector["refusal"] for vector in courses))
+    print("shortest courses of sheets: %d" % len(printed))
 
 
 if __name__ == "__main__":

@@ -2,7 +2,7 @@
 
     python3 tests/launch/run.py
 
-Uses target/bin/sluice, which `rt check sluice` makes, and target/bin/replay where it is there. How a program is built, what is passed on and how
+Uses target/bin/sluice, which `rt check sluice` makes, and target/bin/replay and target/bin/shortest where they are there. How a program is built, what is passed on and how
 long it is kept is tested in a folder of its own, with stand-ins for `rt` and for the program.
 """
 
@@ -95,11 +95,17 @@ def plain_tools(folder):
     return str(tools)
 
 
+def is_there(name):
+    there = (ROOT / "target" / "bin" / name).exists()
+    if not there:
+        print(f"tests/launch/run.py: target/bin/{name} is not there; its cases are left out")
+    return there
+
+
 def replay_cases(folder):
     tool = ROOT / "tools" / "replay"
     help_and_usage("replay", 1, 4)
-    if not (ROOT / "target" / "bin" / "replay").exists():
-        print("tests/launch/run.py: target/bin/replay is not there; its cases are left out")
+    if not is_there("replay"):
         return
     sheet, record, missing = folder / "until.sheet", folder / "year", folder / "none"
     sheet.write_text(SHEET)
@@ -117,6 +123,23 @@ def replay_cases(folder):
     link = folder / "play"
     link.symlink_to(tool)
     expect("a link to replay", run([link, sheet, record]), "line state\n1 0\nrefused 12\n", 1, "")
+
+
+def shortest_cases(folder):
+    tool = ROOT / "tools" / "shortest"
+    help_and_usage("shortest", 0, 3)
+    if not is_there("shortest"):
+        return
+    sheet, missing = folder / "until.sheet", folder / "none"
+    sheet.write_text(SHEET)
+    expect("a course", run([tool, sheet]), "x y\n0 1\n", 0, "")
+    expect("a course from a final state", run([tool, sheet, "1"]), "x y\n", 0, "")
+    expect("a state that is none", run([tool, sheet, "2"]), "refused 11\n", 1, "")
+    expect("an empty state", run([tool, sheet, ""]), "refused 11\n", 1, "")
+    expect("no such sheet for a course", run([tool, missing]), "refused 3\n", 2, "cannot be read")
+    expect("a full device for a course", full_device([tool, sheet]), None, 2, "cannot be written")
+    sheet.write_text(NO_SOLUTION)
+    expect("a sheet without a course", run([tool, sheet]), "refused 9\n", 1, "")
 
 
 def stand_in(path, text):
@@ -179,14 +202,14 @@ def stand_in_cases(folder):
 
 def build():
     """A program that is older than a source is built by its first call, which says so on standard error."""
-    for name, arguments in [("sluice", []), ("replay", ["", ""])]:
+    for name, arguments in [("sluice", []), ("replay", ["", ""]), ("shortest", [""])]:
         if (ROOT / "target" / "bin" / name).exists():
             subprocess.run([str(ROOT / "tools" / name), *arguments], stdin=subprocess.DEVNULL, capture_output=True)
 
 
 def main():
     build()
-    for cases in [sluice_cases, replay_cases, stand_in_cases]:
+    for cases in [sluice_cases, replay_cases, shortest_cases, stand_in_cases]:
         with tempfile.TemporaryDirectory() as folder:
             cases(pathlib.Path(folder))
     print(f"{done} cases: help, usage, statuses, links, reads and writes that fail, the first call")

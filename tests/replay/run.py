@@ -12,47 +12,25 @@ import json
 import os
 import pathlib
 import random
-import subprocess
 import sys
 import tempfile
 import threading
 
 ROOT = pathlib.Path(__file__).resolve().parents[2]
-sys.path.insert(0, str(ROOT / "enumerator"))
+sys.path[:0] = [str(ROOT / "enumerator"), str(ROOT / "tests")]
+from programs import LONGEST_RUN, Runs, built  # noqa: E402
 from replay import replay  # noqa: E402
 
 UNTIL = b"x y\n0 0\n1 1\nx until y"
 # A gauge and a gate: the gate opens one hour after the gauge is at 2 or more, and moves at some time.
 WEIR = b"level gate\n-1 0\n3 1\n( level ge 2 ) -> next gate\n1 until gate"
 HOURS = 8760
-LONGEST_RUN = 60
 SHEET_UNREAD = b"replay: the sheet cannot be read\n"
 RECORD_UNREAD = b"replay: the record cannot be read\n"
 NOT_WRITTEN = b"replay: the states cannot be written\n"
 
 
-class Runs:
-    """The program on files of a folder of its own."""
-
-    def __init__(self, program, folder):
-        self.program, self.folder, self.count = program, folder, 0
-
-    def file(self, name, content):
-        path = self.folder / name
-        path.write_bytes(content)
-        return str(path)
-
-    def run(self, arguments, stdout=subprocess.PIPE, shim=None):
-        extra = {"LD_PRELOAD": shim} if shim else {}
-        done = subprocess.run([self.program, *arguments], stdin=subprocess.DEVNULL, stdout=stdout,
-                              stderr=subprocess.PIPE, timeout=LONGEST_RUN, check=True, env={**os.environ, **extra})
-        return done.stdout, done.stderr
-
-    def expect(self, name, got, wanted):
-        if got != wanted:
-            sys.exit("tests/replay/run.py: %s: expected %r, got %r" % (name, wanted, got))
-        self.count += 1
-
+class ReplayRuns(Runs):
     def compare(self, name, sheet, record, start=None):
         """The program on files against the enumerator on bytes."""
         arguments = [self.file("sheet", sheet), self.file("record", record)]
@@ -115,28 +93,8 @@ def unreadable(runs):
         runs.expect(name, runs.run(arguments), wanted)
 
 
-SHIM = """
-#define _GNU_SOURCE
-#include <dlfcn.h>
-#include <errno.h>
-#include <string.h>
-#include <unistd.h>
-// The read after one that gave bytes of a record fails.
-ssize_t read(int file, void *bytes, size_t count) {
-    static int failing;
-    ssize_t (*next)(int, void *, size_t) = (ssize_t (*)(int, void *, size_t))dlsym(RTLD_NEXT, "read");
-    if (failing) { errno = EIO; return -1; }
-    ssize_t got = next(file, bytes, count);
-    failing = got > 3 && count == 65536 && !memcmp(bytes, "x y", 3);
-    return got;
-}
-"""
-
-
 def later_read_fails(runs):
-    source, shim = runs.file("shim.c", SHIM.encode()), str(runs.folder / "shim.so")
-    subprocess.run([os.environ.get("CC", "cc"), "-shared", "-fPIC", source, "-o", shim, "-ldl"], check=True)
-    sheet = runs.file("sheet", UNTIL)
+    shim, sheet = runs.failing_read("x y", 65536), runs.file("sheet", UNTIL)
     for name, record, printed, told in (
             ("behind a whole line", b"x y\n1 0\n", b"line state\n1 0\nrefused 13\n", RECORD_UNREAD),
             ("within a line", b"x y\n1 0\n0 1", b"line state\n1 0\nrefused 13\n", RECORD_UNREAD),
@@ -176,11 +134,9 @@ def stops_at_a_refusal(runs):
 
 
 def main():
-    program = pathlib.Path(sys.argv[1] if len(sys.argv) > 1 else ROOT / "target" / "bin" / "replay").resolve()
-    if not program.exists():
-        sys.exit("%s is missing: run `rt check replay` first" % program)
+    program = str(pathlib.Path(sys.argv[1]).resolve()) if len(sys.argv) > 1 else built("replay")
     with tempfile.TemporaryDirectory() as folder:
-        runs = Runs(str(program), pathlib.Path(folder))
+        runs = ReplayRuns("tests/replay/run.py", program, folder)
         for part in (stored_cases, year, unreadable, later_read_fails, full_device, stops_at_a_refusal):
             part(runs)
         print("%d comparisons of `replay`, with no difference" % runs.count)

@@ -20,6 +20,14 @@ pub mod Pairs
 pub mod Passes
 pub mod Construction
 pub mod Listed
+pub mod WellFormed
+pub mod CourseOrder
+pub mod CourseSearch
+pub mod Course
+pub mod CourseOutcome
+pub mod Layers
+pub mod Costs
+pub mod CourseCases
 pub mod Worked
 pub mod Reachable
 pub mod ReachedRows

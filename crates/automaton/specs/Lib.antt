@@ -10,5 +10,8 @@ pub mod Situations
 pub mod Closure
 pub mod Construction
 pub mod Listed
+pub mod WellFormed
+pub mod Course
+pub mod Layers
 pub mod Reachable
 pub mod ReachedRows

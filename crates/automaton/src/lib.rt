@@ -1,11 +1,8 @@
-// This crate holds definitions (specs/) and laws (proofs/) of endless words, tables and finite graphs.
-// Its one function ties the number that stands for no state in stored entries to its definition.
-ghost use mathlib.Core.Path.{_≡_};
-ghost use Rattle.automaton.specs.Table.{noState};
+// This crate holds definitions (specs/) and laws (proofs/) of endless words, tables and finite graphs, and the numbers by which code tests
+// stored tables.
 
 // The entry for none.
-pub fn no_state() -> u16
-    ensures { λ r. ⌜ r ≡ noState ⌝ }
-{
-    65535
-}
+pub const NO_STATE: u16 = 65535;
+
+// The most rows that a table may have.
+pub const MOST_ROWS: usize = 4096;

@@ -3,11 +3,13 @@ use Prim.Native.Nat.{ℕ, zero, suc, _+_, _-_, _<_, _*_, _≤_}
 use native.Mathlib.Omega.{arith}
 use native.Mathlib.Decide.{decLt, ℕ-discrete}
 use native.Mathlib.Nat.{le-of-suc-le-suc, not-suc-le-zero, mul-le-mul-right, suc-mul}
+use native.Mathlib.Numerals.{add-one}
 use mathlib.Core.Path.{_≡_, refl, sym, _∙_, ap, subst}
 use mathlib.Core.Logic.{_↔_, inl, inr, _≢_}
 use mathlib.Core.List.{List, [], _∷_, _++_, map, List·Memᴰ, List·Memᴰ·head, List·Memᴰ·tail}
-use lib.ListN.{length, getD, set}
+use lib.ListN.{length, getD, set, drop, replicate}
 use lib.Seq.{sets, getD-set-same, getD-set-other}
+use borrow.Author.Count.{below-more}
 use Rattle.basics.specs.Lists.{All, Some}
 
 -- ---- a property of every member
@@ -68,6 +70,16 @@ Some-mapped Q f g (x ∷ xs) (inr h) = inr (Some-mapped Q f g xs h)
 
 -- ---- reading a list at a place
 
+-- Whether a property holds of every number below n is decided where it is decided of each.
+pub below-decided : {P : ℕ → Type 0} → ((i : ℕ) → Dec (P i)) → (n : ℕ) → Dec ((i : ℕ) → i < n → P i)
+below-decided d zero = yes (λ i h. absurd (omega arith))
+below-decided {P} d (suc n) = by (below-decided d n) (d n)
+  where
+    by : Dec ((i : ℕ) → i < n → P i) → Dec (P n) → Dec ((i : ℕ) → i < suc n → P i)
+    by (yes f) (yes x) = yes (λ i h. below-more P n f x i (subst (i <_) (sym (add-one n)) h))
+    by (yes f) (no x) = no (λ g. x (g n (omega arith)))
+    by (no f) x = no (λ g. f (λ i h. g i (omega arith)))
+
 -- What holds of every number below m and of every m + j with j below n holds below m + n.
 pub below-sum : (P : ℕ → Type 0) (m n : ℕ) → ((k : ℕ) → k < m → P k) → ((j : ℕ) → j < n → P (m + j)) → (k : ℕ) → k < m + n → P k
 below-sum P m n f g k h = decide (decLt k m)
@@ -80,6 +92,12 @@ pub getD-map : {X Y : Type 0} (f : X → Y) (xs : List X) (j : ℕ) (d : X) (e :
 getD-map f [] j d e l = absurd (not-suc-le-zero l)
 getD-map f (x ∷ xs) zero d e l = refl
 getD-map f (x ∷ xs) (suc j) d e l = getD-map f xs j d e (le-of-suc-le-suc l)
+
+-- What is left of a list of one member behind a place.
+pub drop-replicate : {X : Type 0} (x : X) (k n : ℕ) → drop k (replicate n x) ≡ replicate (n - k) x
+drop-replicate x zero n = ap (λ m. replicate m x) (let e : n ≡ n - 0 = omega arith in e)
+drop-replicate x (suc k) zero = ap (λ m. replicate m x) (let e : 0 ≡ 0 - suc k = omega arith in e)
+drop-replicate x (suc k) (suc n) = drop-replicate x k n ∙ ap (λ m. replicate m x) (let e : n - k ≡ suc n - suc k = omega arith in e)
 
 -- What is written in two pieces, one behind the other, is written in one.
 pub sets-append : {X : Type 0} (l : List X) (n : ℕ) (xs ys : List X) → sets (sets l n xs) (n + length xs) ys ≡ sets l n (xs ++ ys)

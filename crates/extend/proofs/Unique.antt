@@ -1,31 +1,20 @@
 -- The contracts of `extend` and `prepare` leave nothing open: two outcomes for the same arguments are equal. From the definitions, whose conditions can be
 -- decided.
-use Prim.Native.Nat.{ℕ, zero, suc, _+_, _-_, _*_, _<_, min}
-use native.Mathlib.Omega.{arith}
-use native.Mathlib.Numerals.{add-one}
+use Prim.Native.Nat.{ℕ, suc, _+_, _-_, _*_, min}
 use native.Mathlib.Decide.{ℕ-discrete, decLe, map-dec}
-use mathlib.Core.Path.{_≡_, refl, sym, _∙_, ap, subst}
+use mathlib.Core.Path.{_≡_, refl, sym, _∙_, ap}
 use mathlib.Core.Bool.{Bool, true, false}
 use mathlib.Core.Logic.{Dec·and}
 use mathlib.Core.List.{List}
 use lib.IntN.{ℤ}
 use lib.ListN.{length, getD}
-use borrow.Author.Count.{below-more}
+use Rattle.basics.proofs.Lists.{below-decided}
 use Rattle.sheet.specs.Refusal.{streamBound, firstBound, windowBound}
 use Rattle.sizes.specs.Room.{keySize, preparedSize}
 use Rattle.extend.specs.Key.{sizeIn, firstsIn, marksIn}
 use Rattle.extend.specs.Step.{Store, lettersAfter, viewIn, judgedIn, keyFrom, PreparableSizes, IsPreparable, Prepares, SizesFit, Continues, Extends}
 
 -- ---- the conditions can be decided
-
-all-below : {P : ℕ → Type 0} → ((p : ℕ) → Dec (P p)) → (n : ℕ) → Dec ((p : ℕ) → p < n → P p)
-all-below d zero = yes (λ p h. absurd (omega arith))
-all-below {P} d (suc n) = by (all-below d n) (d n)
-  where
-    by : Dec ((p : ℕ) → p < n → P p) → Dec (P n) → Dec ((p : ℕ) → p < suc n → P p)
-    by (yes f) (yes x) = yes (λ p h. below-more P n f x p (subst (p <_) (sym (add-one n)) h))
-    by (yes f) (no x) = no (λ g. x (g n (omega arith)))
-    by (no f) x = no (λ g. f (λ p h. g p (omega arith)))
 
 fit-dec : (key prepared fresh : ℕ) → Dec (SizesFit key prepared fresh)
 fit-dec key prepared fresh =
@@ -39,7 +28,7 @@ sizes-dec streams width count key room =
 preparable-dec : (values streams width count : ℕ) (key : List ℕ) (room : ℕ) → Dec (IsPreparable values streams width count key room)
 preparable-dec values streams width count key room =
     map-dec (λ p. record { sizes = p .0; letters = p .1 }) (λ p. (p .sizes, p .letters))
-    (Dec·and (sizes-dec streams width count (length key) room) (all-below (λ p. decLe (getD key (suc p) 0 * streams + streamBound) values) (min (sizeIn key) width)))
+    (Dec·and (sizes-dec streams width count (length key) room) (below-decided (λ p. decLe (getD key (suc p) 0 * streams + streamBound) values) (min (sizeIn key) width)))
 
 -- ---- two outcomes
 

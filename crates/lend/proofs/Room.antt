@@ -77,12 +77,12 @@ call-sizes {room = room} (read r (noSolution x f)) = (length-replicate (room .en
 call-sizes (read r (compiled x h)) = (h .entriesSize, h .finalsSize)
 
 -- "After a refused compile every lent table is zero".
-refused-entries : {text : List ℕ} {room : Room} {a : CompileAnswer} {t : Tables} → CompileCall text room a t → 0 < a .refusal → t .entries ≡ zeros (room .entries)
-refused-entries (unread r) h = refl
-refused-entries (read r (tooManySituations k x)) h = refl
-refused-entries (read r (tooFewRows k x)) h = refl
-refused-entries (read r (noSolution x f)) h = refl
-refused-entries (read r (compiled x k)) h = absurd (omega arith)
+refused-tables : {text : List ℕ} {room : Room} {a : CompileAnswer} {t : Tables} → CompileCall text room a t → 0 < a .refusal → (t .entries ≡ zeros (room .entries)) × (t .finals ≡ zeros (room .finals))
+refused-tables (unread r) h = (refl, refl)
+refused-tables (read r (tooManySituations k x)) h = (refl, refl)
+refused-tables (read r (tooFewRows k x)) h = (refl, refl)
+refused-tables (read r (noSolution x f)) h = (refl, refl)
+refused-tables (read r (compiled x k)) h = absurd (omega arith)
 
 whole-size : (part size : ℕ) (list : List ℕ) → part ≤ size → length (take part list) ≡ part → drop part list ≡ zeros (size - part) → length list ≡ size
 whole-size part size list fits first rest =
@@ -93,7 +93,7 @@ lent-sizes {letters = letters} {entries = entries} {finals} c =
     let sizes = call-sizes (c .call) in
     (whole-size (rowsLent letters * letters) 32768 entries (lent-entries letters) (sizes .0) (c .entriesBehind), whole-size (rowsLent letters) 256 finals (lent-rows letters) (sizes .1) (c .finalsBehind))
 
--- ---- what the array of entries holds
+-- ---- what the arrays hold
 
 module _ {text : List ℕ} {letters : ℕ} {a : CompileAnswer} {entries finals : List ℕ} (c : LentCall text letters a entries finals) where
   abbrev part : ℕ
@@ -103,9 +103,21 @@ module _ {text : List ℕ} {letters : ℕ} {a : CompileAnswer} {entries finals :
   pub lent-then-zeros : entries ≡ take part entries ++ zeros (32768 - length (take part entries))
   lent-then-zeros = sym (take-append-drop part entries) ∙ ap (take part entries ++_) (c .entriesBehind ∙ ap (λ n. zeros (32768 - n)) (sym (call-sizes (c .call) .0)))
 
-  -- After a refusal every entry is zero.
+  -- The final bytes lent, and zeros.
+  pub finals-then-zeros : finals ≡ take (rowsLent letters) finals ++ zeros (256 - length (take (rowsLent letters) finals))
+  finals-then-zeros =
+      sym (take-append-drop (rowsLent letters) finals) ∙ ap (take (rowsLent letters) finals ++_) (c .finalsBehind ∙ ap (λ n. zeros (256 - n)) (sym (call-sizes (c .call) .1)))
+
+  -- After a refusal every entry and every final byte is zero.
   pub refused-zero : 0 < a .refusal → entries ≡ zeros 32768
   refused-zero h =
       let fits = lent-entries letters in
       let whole : part + (32768 - part) ≡ 32768 = omega arith in
-      sym (take-append-drop part entries) ∙ ap₂ _++_ (refused-entries (c .call) h) (c .entriesBehind) ∙ replicate-append-replicate part (32768 - part) 0 ∙ ap zeros whole
+      sym (take-append-drop part entries) ∙ ap₂ _++_ (refused-tables (c .call) h .0) (c .entriesBehind) ∙ replicate-append-replicate part (32768 - part) 0 ∙ ap zeros whole
+
+  pub refused-finals-zero : 0 < a .refusal → finals ≡ zeros 256
+  refused-finals-zero h =
+      let rows = rowsLent letters in
+      let fits = lent-rows letters in
+      let whole : rows + (256 - rows) ≡ 256 = omega arith in
+      sym (take-append-drop rows finals) ∙ ap₂ _++_ (refused-tables (c .call) h .1) (c .finalsBehind) ∙ replicate-append-replicate rows (256 - rows) 0 ∙ ap zeros whole

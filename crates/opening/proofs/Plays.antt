@@ -23,19 +23,22 @@ use Rattle.records.specs.Line.{ValueLine, malformed, outside, letter, valueLine
 use Rattle.replaying.specs.Replay.{startState, replayHeading, lineThen, outcomeFrom, entered, replayed, replayedLines}
 use Rattle.opening.specs.declared.Opened.{Opened}
 use Rattle.opening.specs.Plays.{Plays, refusedSheet, noStart, played}
-use Rattle.opening.specs.Opens.{openedAs, Opens, refusedSheet as givesRefusal, noStart as givesNoStart, opened}
+use Rattle.opening.specs.declared.OpenedTable.{OpenedTable}
+use Rattle.opening.specs.Opens.{openedAs, tableOpenedAs, Opens, OpensTable}
+use Rattle.opening.specs.Opens.Opens.{refusedSheet as givesRefusal, noStart as givesNoStart, opened}
+use Rattle.opening.specs.Opens.OpensTable.{refusedSheet as givesNoTable, noStart as givesNoState, opened as table}
 
 -- ---- one outcome
 
-none≢some : {o : Option ℕ} {state : ℕ} → o ≡ none → o ≡ some state → ⊥
+pub none≢some : {o : Option ℕ} {state : ℕ} → o ≡ none → o ≡ some state → ⊥
 none≢some p q = let z : _≡_ {A = ℕ} 0 1 = cc in omega arith
 
 module _ {text : List ℕ} (start : Option Token) where
   -- A start that is judged for two compiles of the text is judged the same.
-  same-start : {s q : Sheet} {a b : CompileAnswer} {t u : Tables} {o p : Option ℕ} → CompiledLent text s a t → CompiledLent text q b u → startState (a .states) start ≡ o → startState (b .states) start ≡ p → o ≡ p
+  pub same-start : {s q : Sheet} {a b : CompileAnswer} {t u : Tables} {o p : Option ℕ} → CompiledLent text s a t → CompiledLent text q b u → startState (a .states) start ≡ o → startState (b .states) start ≡ p → o ≡ p
   same-start c d e f = sym e ∙ ap (λ x. startState (x .states) start) (compiled-unique c d .1 .0) ∙ f
 
-  same-state : {s q : Sheet} {a b : CompileAnswer} {t u : Tables} {i j : ℕ} → CompiledLent text s a t → CompiledLent text q b u → startState (a .states) start ≡ some i → startState (b .states) start ≡ some j → i ≡ j
+  pub same-state : {s q : Sheet} {a b : CompileAnswer} {t u : Tables} {i j : ℕ} → CompiledLent text s a t → CompiledLent text q b u → startState (a .states) start ≡ some i → startState (b .states) start ≡ some j → i ≡ j
   same-state {i = i} {j} c d e f = inside (same-start c d e f)
     where
       inside : some i ≡ some j → i ≡ j
@@ -68,6 +71,24 @@ module _ {text : List ℕ} (start : Option Token) where
   opens-unique (opened c y e) (givesNoStart d z f) = absurd (none≢some f (sym (same-start c d e refl)))
   opens-unique (opened c y e) (opened d z f) =
       (ap (λ i. openedAs 0 i text) (same-state c d e f), ap (λ t. t .entries ++ zeros (32768 - length (t .entries))) (compiled-unique c d .1 .1))
+
+  -- So is what `open_table` gives back and leaves in entries and final bytes.
+  pub opens-table-unique : {r q : OpenedTable} {entries others finals others′ : List ℕ} → OpensTable text start r entries finals → OpensTable text start q others others′ → (r ≡ q) × (entries ≡ others) × (finals ≡ others′)
+  opens-table-unique (givesNoTable r) (givesNoTable q) = (ap (λ n. tableOpenedAs 0 n 0 text) (refused-unique r q), refl, refl)
+  opens-table-unique (givesNoTable r) (givesNoState d z f) = absurd (refused-not-compiled r d z)
+  opens-table-unique (givesNoTable r) (table d z f) = absurd (refused-not-compiled r d z)
+  opens-table-unique (givesNoState c y e) (givesNoTable q) = absurd (refused-not-compiled q c y)
+  opens-table-unique (givesNoState c y e) (givesNoState d z f) = (refl, refl, refl)
+  opens-table-unique (givesNoState c y e) (table d z f) = absurd (none≢some (sym (same-start c d e refl)) f)
+  opens-table-unique (table c y e) (givesNoTable q) = absurd (refused-not-compiled q c y)
+  opens-table-unique (table c y e) (givesNoState d z f) = absurd (none≢some f (sym (same-start c d e refl)))
+  opens-table-unique (table c y e) (table d z f) =
+      let same = compiled-unique c d in
+      let state = same-state c d e f in (
+        λ i. tableOpenedAs (same .1 .0 i .states) 0 (state i) text,
+        ap (λ t. t .entries ++ zeros (32768 - length (t .entries))) (same .1 .1),
+        ap (λ t. t .finals ++ zeros (256 - length (t .finals))) (same .1 .1),
+      )
 
 -- ---- and always one
 

@@ -1,16 +1,22 @@
-// What comes before a record is played: the sheet is read and compiled, and the start is judged.
+// What comes before a record is played or a course is found: the sheet is read and compiled, and the start is judged.
 ghost use mathlib.Core.Path.{_≡_};
 ghost use mathlib.Core.Option.{none};
 ghost use Prim.Native.Nat.{_≤_};
 ghost use Rattle.sheet.specs.Refusal.{magnitudeBound};
 ghost use Rattle.replaying.specs.Replay.{startState};
-ghost use Rattle.opening.specs.Opens.{startText, Opens, stateOf, judged};
+ghost use Rattle.opening.specs.Opens.{startText, Opens, OpensTable, stateOf, judged};
 
 // The refusal's number, or 0 with the state to start from; and the sheet as it is read.
 pub struct Opened {
     pub refusal: u32,
     pub state: u32,
     pub sheet: reader::Sheet,
+}
+
+// The same with the number of states, which is 0 after a refusal.
+pub struct OpenedTable {
+    pub states: u32,
+    pub opened: Opened,
 }
 
 // Whether a start is a state of the table, and the state, or 0.
@@ -63,36 +69,60 @@ fn judge_start(states: u32, given: bool, start: &[u8]) -> Start
     state_of(read.value, states)
 }
 
-// Reads and compiles the sheet, in the rows that programs lend, and judges the start. The entries are those of the table, with zeros behind them; after
-// a refusal they are zero.
-pub fn open(text: &[u8], given: bool, start: &[u8], entries: &mut [u16; 32768]) -> Opened
-    ensures { λ r. ⌜ Opens (now (text .entry)) (startText given (now (start .entry))) r (now (entries .exit)) ⌝ }
+// Reads and compiles the sheet, in the rows that programs lend, and judges the start. Entries and final bytes are those of the table, with zeros behind
+// them; after a refusal they are zero.
+pub fn open_table(
+    text: &[u8],
+    given: bool,
+    start: &[u8],
+    entries: &mut [u16; 32768],
+    finals: &mut [u8; 256],
+) -> OpenedTable
+    ensures { λ r. ⌜ OpensTable (now (text .entry)) (startText given (now (start .entry))) r (now (entries .exit)) (now (finals .exit)) ⌝ }
 {
     let reading = reader::read(text);
     let sheet = reading.sheet;
     let letters = sheet.letters as usize;
-    let mut finals = [0u8; 256];
-    let compiled = lend::compile_lent(text, letters, entries, &mut finals);
+    let compiled = lend::compile_lent(text, letters, entries, finals);
     let refusal = compiled.refusal;
     if refusal != 0 {
-        return Opened {
-            refusal: refusal,
-            state: 0,
-            sheet: sheet,
+        return OpenedTable {
+            states: 0,
+            opened: Opened {
+                refusal: refusal,
+                state: 0,
+                sheet: sheet,
+            },
         };
     }
     let judged = judge_start(compiled.states, given, start);
     if !judged.ok {
         basics::clear_entries(entries, 0);
-        return Opened {
-            refusal: 11,
-            state: 0,
-            sheet: sheet,
+        basics::clear_bytes(finals, 0);
+        return OpenedTable {
+            states: 0,
+            opened: Opened {
+                refusal: 11,
+                state: 0,
+                sheet: sheet,
+            },
         };
     }
-    Opened {
-        refusal: 0,
-        state: judged.state,
-        sheet: sheet,
+    OpenedTable {
+        states: compiled.states,
+        opened: Opened {
+            refusal: 0,
+            state: judged.state,
+            sheet: sheet,
+        },
     }
+}
+
+// The same without the final bytes, which a record does not need.
+pub fn open(text: &[u8], given: bool, start: &[u8], entries: &mut [u16; 32768]) -> Opened
+    ensures { λ r. ⌜ Opens (now (text .entry)) (startText given (now (start .entry))) r (now (entries .exit)) ⌝ }
+{
+    let mut finals = [0u8; 256];
+    let table = open_table(text, given, start, entries, &mut finals);
+    table.opened
 }

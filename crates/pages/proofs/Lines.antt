@@ -49,6 +49,20 @@ module _ {text out : List ℕ} {size : ℕ} (h : HoldsLine text out size) where
       by true e = omega (arith, h .held (leb-true (length text) lineRoom e) .0)
       by false e = omega (arith, leb-false (length text) lineRoom e)
 
+-- The first line, and the others.
+pub first-line : (f : ℕ → List ℕ) (n : ℕ) → linesFrom f 0 (suc n) ≡ f 0 ++ linesFrom (λ k. f (suc k)) 0 n
+unfolding linesFrom
+first-line f zero = sym (append-nil (f 0))
+first-line f (suc n) =
+    let e : 0 + suc n ≡ suc (0 + n) = omega arith in
+    ap₂ (λ l k. l ++ f k) (first-line f n) e ∙ append-assoc (f 0) (linesFrom (λ k. f (suc k)) 0 n) (f (suc (0 + n)))
+
+-- Lines that are the same one by one have the same text.
+pub same-lines : (f g : ℕ → List ℕ) → ((k : ℕ) → f k ≡ g k) → (from n : ℕ) → linesFrom f from n ≡ linesFrom g from n
+unfolding linesFrom
+same-lines f g e from zero = refl
+same-lines f g e from (suc n) = ap₂ _++_ (same-lines f g e from n) (e (from + n))
+
 module _ (line : ℕ → List ℕ) where
   -- The lines from a number on are the first of them and the others.
   pub lines-append : (from m n : ℕ) → linesFrom line from m ++ linesFrom line (from + m) n ≡ linesFrom line from (m + n)

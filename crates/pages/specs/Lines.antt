@@ -1,12 +1,32 @@
 -- Texts by their places, each a line or nothing, and a page of them: lent bytes that hold whole lines from a place on.
-use Prim.Native.Nat.{ℕ, _-_, _≤_, _<_, min}
+use Prim.Native.Nat.{ℕ, zero, suc, _-_, _≤_, _<_, min}
 use mathlib.Core.Path.{_≡_}
 use mathlib.Core.Logic.{_⊎_}
-use mathlib.Core.List.{List}
+use mathlib.Core.Bool.{cond}
+use mathlib.Core.List.{List, []}
+use lib.Dec.{eqb}
 use lib.ListN.{length, take}
 use lib.Seq.{sets}
+use Rattle.print.specs.Text.{refusalLine}
 use Rattle.print.specs.Table.{linesFrom}
 use Rattle.pages.specs.declared.Page.{Page}
+
+-- ---- a text, or a refusal
+
+-- "printed as the one line `refused 9`"
+abbrev pub refusedLine : ℕ → ℕ → List ℕ
+refusedLine number zero = refusalLine number
+refusedLine number (suc k) = []
+
+-- The lines of a text; with a refusal's number, which is not 0, the line of the refusal alone.
+unfoldable pub orRefused : (refusal : ℕ) (line : ℕ → List ℕ) → ℕ → List ℕ
+orRefused refusal line k = cond (eqb refusal 0) (line k) (refusedLine refusal k)
+
+-- How many places there are: those of the text, or one for a refusal.
+unfoldable pub placesOr : (refusal count : ℕ) → ℕ
+placesOr refusal count = cond (eqb refusal 0) count 1
+
+-- ---- pages
 
 -- Room for one line; no line of a sheet's table is longer.
 abbrev pub lineRoom : ℕ

@@ -1,15 +1,14 @@
 -- What `sluice` prints, place by place (document 01, "Sheets with their answers", P1 and P2). A place has a line, or no text: the heading or the line of
 -- a refusal stands at place 0, and the entries, by state and letter, at those after it.
 use Prim.Native.Nat.{ℕ, zero, suc, _*_, min}
-use mathlib.Core.Bool.{cond}
-use mathlib.Core.List.{List, []}
-use lib.Dec.{eqb}
+use mathlib.Core.List.{List}
 use lib.IntN.{ℤ}
 use lib.ListN.{length}
 use Rattle.meaning.specs.Letter.{letterCount}
 use Rattle.letters.specs.Described.{described, cutCount}
-use Rattle.print.specs.Text.{headingLine, refusalLine}
+use Rattle.print.specs.Text.{headingLine}
 use Rattle.print.specs.Table.{placeText, linesFrom, storedNames}
+use Rattle.pages.specs.Lines.{orRefused, placesOr}
 
 -- What is printed: a refusal's number, or 0 and the table of so many states. A name is stored as eight bytes and a length.
 pub record Printout : Type 0 where
@@ -27,18 +26,13 @@ abbrev pub tableLine : Printout → ℕ → List ℕ
 tableLine p zero = headingLine (storedNames (p .names) (p .lengths) (min (length (p .lows)) 8))
 tableLine p (suc place) = placeText (p .lows) (p .highs) (p .entries) (p .finals) place
 
--- "printed as the one line `refused 9`"
-abbrev pub refusedLine : ℕ → ℕ → List ℕ
-refusedLine number zero = refusalLine number
-refusedLine number (suc k) = []
-
 -- The text at a place.
-unfoldable pub outputAt : Printout → ℕ → List ℕ
-outputAt p k = cond (eqb (p .refusal) 0) (tableLine p k) (refusedLine (p .refusal) k)
+abbrev pub outputAt : Printout → ℕ → List ℕ
+outputAt p = orRefused (p .refusal) (tableLine p)
 
 -- How many places there are: one for a refusal; else that of the heading, and one for each entry of the states.
-unfoldable pub placeCount : (refusal states : ℕ) (lows highs : List ℤ) (entries : List ℕ) → ℕ
-placeCount refusal states lows highs entries = cond (eqb refusal 0) (suc (min (states * cutCount (letterCount (described lows highs))) (length entries))) 1
+abbrev pub placeCount : (refusal states : ℕ) (lows highs : List ℤ) (entries : List ℕ) → ℕ
+placeCount refusal states lows highs entries = placesOr refusal (suc (min (states * cutCount (letterCount (described lows highs))) (length entries)))
 
 abbrev pub placesOf : Printout → ℕ
 placesOf p = placeCount (p .refusal) (p .states) (p .lows) (p .highs) (p .entries)

@@ -1,4 +1,5 @@
--- How long the lines can be: at most 32 bytes for a refusal and for two numbers, 128 for a heading and 256 for an entry.
+-- How long the lines can be: at most 32 bytes for a refusal and for two numbers, 128 for a heading, 256 for an entry, and for the names and the values
+-- of eight streams 73 and 169.
 use Prim.Native.Nat.{ℕ, zero, suc, _+_, _*_, _/_, _%_, _≤_, _<_, min}
 use native.Mathlib.Omega.{arith}
 use native.Mathlib.Nat.{div-lt-iff-lt-mul, div-le-self}
@@ -11,13 +12,14 @@ use lib.ListN.{length, getD, drop, length-append, length-take}
 use borrow.Author.Tests.{ltb-true, ltb-false}
 use mir.Syntax.{w64}
 use mir.Val.{SFits}
+use Rattle.text.specs.Bytes.{Token}
 use Rattle.meaning.specs.Letter.{Letter, IsLetter, none, more, letterCount, letterOf}
 use Rattle.meaning.proofs.Letter.{letterOf-letter}
 use Rattle.nodes.proofs.Record.{letter-length}
 use Rattle.automaton.specs.Table.{noState}
 use Rattle.letters.specs.Described.{described}
 use Rattle.letters.proofs.Above.{between-fits}
-use Rattle.print.specs.Text.{digits, decimal, spaced, line, headingLine, entryLine, refusalLine}
+use Rattle.print.specs.Text.{digits, decimal, spaced, line, tokensLine, headingLine, entryLine, refusalLine}
 use Rattle.print.specs.Table.{placeText, storedName, storedNames, AllFit}
 use Rattle.print.proofs.Decimal.{digits-one, digits-more}
 use Rattle.print.proofs.Lines.{spaced-more}
@@ -104,6 +106,20 @@ values-length (v ∷ vs) f =
     let h = values-length vs (f .1) in
     omega arith
 
+-- A line of tokens has at most one byte more than the tokens with a space after each.
+tokens-length : (ts : List Token) → length (tokensLine ts) ≤ suc (length (spaced ts))
+tokens-length [] = omega arith
+tokens-length (t ∷ []) = omega (arith, length-append t (10 ∷ []), length-append t (32 ∷ []))
+tokens-length (t ∷ (u ∷ ts)) =
+    omega (arith, length-append t (32 ∷ tokensLine (u ∷ ts)), length-append t (32 ∷ spaced (u ∷ ts)), tokens-length (u ∷ ts))
+
+pub names-line-length : (names lengths : List ℕ) (streams : ℕ) → length (tokensLine (storedNames names lengths (min streams 8))) ≤ 73
+names-line-length names lengths streams =
+    let names′ = storedNames names lengths (min streams 8) in omega (arith, tokens-length names′, names-length names lengths (min streams 8))
+
+pub numbers-line-length : (vs : List ℤ) → AllFit vs → length vs ≤ 8 → length (tokensLine (map decimal vs)) ≤ 169
+numbers-line-length vs f n = omega (arith, tokens-length (map decimal vs), values-length vs f)
+
 pub entry-length : (state final : ℕ) (values : List ℤ) (next : ℕ) → state < 18446744073709551616 → final < 256 → AllFit values → length values ≤ 8 → next < 65536
     → length (entryLine state final values next) ≤ 256
 entry-length state final values next s f v n x =
@@ -121,7 +137,7 @@ entry-length state final values next s f v n x =
 
 -- ---- the text of a place
 
-letter-fits : (lows highs : List ℤ) (l : Letter) → AllFit lows → AllFit highs → IsLetter (described lows highs) l → AllFit l
+pub letter-fits : (lows highs : List ℤ) (l : Letter) → AllFit lows → AllFit highs → IsLetter (described lows highs) l → AllFit l
 letter-fits [] highs [] f g none = tt
 letter-fits (a ∷ lows) [] [] f g none = tt
 letter-fits (a ∷ lows) (b ∷ highs) (v ∷ l) f g (more w m) = (between-fits a v b (f .0) (g .0) (w .above) (w .below), letter-fits lows highs l (f .1) (g .1) m)

@@ -15,7 +15,8 @@ use mir.Val.{SFits}
 use mir.ValLaws.{toZ-ofZ}
 use Rattle.text.specs.Bytes.{Token, bytesOf}
 use Rattle.arithmetic.proofs.Machine.{held, number-negative, number-natural}
-use Rattle.print.specs.Text.{digits, decimal, spaced, line, headingLine, entryLine, refusalLine}
+use Rattle.print.specs.Text.{digits, decimal, spaced, line, tokensLine, headingLine, entryLine, refusalLine}
+use Rattle.print.specs.Table.{storedName, storedNames}
 
 -- ---- one integer
 
@@ -31,6 +32,13 @@ module _ (z : ℤ) (f : SFits w64 z) {size : ℕ} (s : size ≡ natAbs (held z))
 pub spaced-more : (ts : List Token) (t : Token) → spaced (ts ++ (t ∷ [])) ≡ spaced ts ++ (t ++ (32 ∷ []))
 spaced-more [] t = refl
 spaced-more (u ∷ ts) t = ap (λ l. u ++ (32 ∷ l)) (spaced-more ts t) ∙ sym (append-assoc u (32 ∷ spaced ts) (t ++ (32 ∷ [])))
+
+-- A line of tokens is one of all but the last, and the last.
+pub tokens-last : (ts : List Token) (t : Token) → tokensLine (ts ++ (t ∷ [])) ≡ line ts t
+tokens-last [] t = refl
+tokens-last (u ∷ []) t = sym (append-assoc u (32 ∷ []) (t ++ (10 ∷ [])))
+tokens-last (u ∷ (v ∷ ts)) t =
+    ap (λ l. u ++ (32 ∷ l)) (tokens-last (v ∷ ts) t) ∙ sym (append-assoc u (32 ∷ spaced (v ∷ ts)) (t ++ (10 ∷ [])))
 
 -- One value more of a list.
 pub values-more : (vs : List ℤ) (i : ℕ) → i < length vs
@@ -64,6 +72,26 @@ clipped l s k {a} {e} p q = by (leb s (length l)) refl
         ap (take (e - a)) (drop-of-length-le l {i = a} (omega arith)) ∙ take-nil (e - a) ∙ sym (ap (take k) (drop-of-length-le l {i = s} (omega arith)) ∙ take-nil k)
 
 -- ---- the lines
+
+-- The names but the last, each with a space, the last one and byte 10.
+pub names-parts : (names lengths : List ℕ) (i : ℕ)
+    → (spaced (storedNames names lengths i) ++ storedName names lengths i) ++ (10 ∷ []) ≡ tokensLine (storedNames names lengths (suc i))
+unfolding storedNames
+names-parts names lengths i =
+    append-assoc (spaced (storedNames names lengths i)) (storedName names lengths i) (10 ∷ []) ∙ sym (tokens-last (storedNames names lengths i) (storedName names lengths i))
+
+pub no-numbers : (vs : List ℤ) → length vs ≡ 0 → tokensLine (map decimal vs) ≡ 10 ∷ []
+no-numbers [] h = refl
+no-numbers (v ∷ vs) h = absurd (omega arith)
+
+-- The numbers but the last, each with a space, the last one and byte 10.
+pub numbers-parts : (vs : List ℤ) (i : ℕ) → length vs ≡ suc i
+    → (spaced (map decimal (take i vs)) ++ decimal (getD vs i (pos 0))) ++ (10 ∷ []) ≡ tokensLine (map decimal vs)
+numbers-parts vs i h =
+    let last = getD vs i (pos 0) in
+    append-assoc (spaced (map decimal (take i vs))) (decimal last) (10 ∷ []) ∙ sym (tokens-last (map decimal (take i vs)) (decimal last))
+    ∙ ap tokensLine (sym (map-append decimal (take i vs) (last ∷ [])))
+    ∙ ap (λ l. tokensLine (map decimal l)) (sym (take-suc vs i (pos 0) (omega arith)) ∙ take-all (suc i) vs (omega arith))
 
 pub heading-parts : (names : List Token) → (bytesOf "state final " ++ spaced names) ++ bytesOf "next\n" ≡ headingLine names
 heading-parts names = refl

@@ -2,12 +2,16 @@
 use Prim.Native.Nat.{ℕ, zero, suc, _+_, _-_, _*_, _≤_, _<_, min}
 use native.Mathlib.Omega.{arith}
 use mathlib.Core.Path.{_≡_, refl, sym, _∙_, ap, ap₂}
-use mathlib.Core.List.{List, [], _∷_, _++_, map, append-assoc, List·Memᴰ, List·Memᴰ·head, List·Memᴰ·tail}
+use mathlib.Core.List.{List, [], _∷_, _++_, map, append-assoc, List·Memᴰ, List·Memᴰ·head, List·Memᴰ·tail, Memᴰ·map}
+use lib.Dec.{leb→le}
 use lib.ListN.{length, getD, take, drop, replicate, length-append, length-map, length-replicate}
 use lib.Seq.{take-suc, take-all, take-at, drop-append-add}
+use Rattle.basics.proofs.Tests.{and-left, and-right}
 use Rattle.text.specs.Bytes.{Token}
-use Rattle.meaning.specs.Expression.{Stream}
+use Rattle.text.specs.Token.{isName}
+use Rattle.meaning.specs.Expression.{Stream, Sheet}
 use Rattle.meaning.specs.Window.{joinOver}
+use Rattle.sheet.specs.Accepted.{Accepted}
 use Rattle.print.specs.Table.{storedName, storedNames}
 
 -- Eight bytes for a name.
@@ -19,6 +23,11 @@ namesOf ss = map (λ x. x .name) ss
 
 abbrev pub Short : List Stream → Type 0
 Short ss = (x : Stream) → List·Memᴰ x ss → length (x .name) ≤ 8
+
+-- The names of an accepted sheet are.
+pub short-names : {s : Sheet} → Accepted s → Short (s .streams)
+unfolding isName
+short-names a x m = let t = a .areNames (x .name) (Memᴰ·map (λ y. y .name) m) in leb→le (length (x .name)) 8 (search (and-left, and-right))
 
 module _ (moreNames moreLengths : List ℕ) where
   abbrev names : List Stream → List ℕ

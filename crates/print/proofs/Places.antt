@@ -43,6 +43,14 @@ found ss n h =
     let q = and-true (ltb n (letterCount ss)) (leb (length ss) 8) (p .1) in
     (leb-true (letterCount ss) letterBound (p .0), (ltb-true n (letterCount ss) (q .0), leb-true (length ss) 8 (q .1)))
 
+-- Its values stand at the front of the list that they are written to.
+pub letter-front : (ss : List Stream) (n : ℕ) → hasLetter ss n 8 ≡ true → (out : List ℤ) → length out ≡ 8 → {values : List ℤ} → values ≡ withLetter ss n out → {k : ℕ} → k ≡ length ss
+    → take k values ≡ letterOf ss n
+unfolding withLetter
+letter-front ss n h out l {values} w {k} d =
+    ap (take k) (w ∙ ap (λ t. cond t (letterOf ss n ++ drop (length ss) out) out) (ap (hasLetter ss n) l ∙ h))
+    ∙ take-at (letterOf ss n) (drop (length ss) out) k (letter-length (letterOf-letter ss n (found ss n h .1 .0)) ∙ sym d)
+
 module _ (lows highs : List ℤ) (entries finals : List ℕ) (place : ℕ) where
   abbrev streams : List Stream
   streams = described lows highs
@@ -100,24 +108,18 @@ module _ (lows highs : List ℤ) (entries finals : List ℕ) (place : ℕ) where
       exact : n ≡ count
       exact = let b = found streams (place % n) h .0 in omega arith
 
-      letter-values : length (letterOf streams (place % n)) ≡ length streams
-      letter-values = letter-length (letterOf-letter streams (place % n) (found streams (place % n) h .1 .0))
-
       pub few-streams : length streams ≤ 8
       few-streams = found streams (place % n) h .1 .1
 
       pub line-there : place < length entries → (getD entries place 0 ≡ 65535 → ⊥) → {k : ℕ} → k ≡ min (length lows) (length highs)
           → (out : List ℤ) → length out ≡ 8 → {values : List ℤ} → values ≡ withLetter streams (place % n) out → {byte : ℕ} → byte ≡ getD finals (place / n) 0
           → entryLine (place / n) byte (take k values) (getD entries place 0) ≡ placeText lows highs entries finals place
-      unfolding placeText withLetter
+      unfolding placeText
       line-there a b {k} s out l {values} w {byte} f =
           let x = exact in
           let next = getD entries place 0 in
           let d : k ≡ length streams = s ∙ sym (length-described lows highs) in
-          let letter = letterOf streams (place % n) in
-          let v : take k values ≡ letter =
-          ap (take k) (w ∙ ap (λ t. cond t (letter ++ drop (length streams) out) out) (ap (hasLetter streams (place % n)) l ∙ h))
-          ∙ take-at letter (drop (length streams) out) k (letter-values ∙ sym d) in
+          let v = letter-front streams (place % n) h out l w d in
           let t : hasLetter streams (place % count) 8 ≡ true = ap (λ c. hasLetter streams (place % c) 8) (sym x) ∙ h in
           ap₂ (λ y z. entryLine (place / n) y z next) f v
           ∙ ap (λ c. entryLine (place / c) (getD finals (place / c) 0) (letterOf streams (place % c)) next) x

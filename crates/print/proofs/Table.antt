@@ -8,7 +8,7 @@ use mathlib.Core.Bool.{true, cond, _&&_}
 use mathlib.Core.List.{List, [], _++_, map, append-assoc, append-nil}
 use lib.Arith.{digits-lt, digits-div, digits-mod}
 use lib.Dec.{eqb}
-use lib.ListN.{length, getD, take, length-map}
+use lib.ListN.{length, getD, take}
 use lib.Seq.{getD-take}
 use borrow.Author.Tests.{le-leb, lt-ltb}
 use Rattle.meaning.specs.Expression.{Stream}
@@ -18,11 +18,18 @@ use Rattle.sheet.specs.Refusal.{letterBound}
 use Rattle.nodes.specs.Bounds.{lowsOf, highsOf}
 use Rattle.automaton.specs.Table.{noState}
 use Rattle.letters.specs.Described.{hasLetter}
-use Rattle.letters.proofs.Counts.{length-described}
-use Rattle.letters.proofs.Streams.{unnamed, letterCount-unnamed, letterOf-unnamed}
+use Rattle.letters.proofs.Streams.{unnamed, length-unnamed, letterCount-unnamed, letterOf-unnamed}
 use Rattle.print.specs.Text.{headingLine, entryLine}
 use Rattle.print.specs.Table.{entryText, rowText, tableText, printed, placeText, linesFrom, storedNames}
 use Rattle.print.proofs.Names.{eightBytes, Short, stored-names}
+
+-- A number below the count of a sheet's letters is that of a letter.
+pub has-letter : (ss : List Stream) → length ss ≤ 8 → letterCount ss ≤ letterBound → (letter : ℕ) → letter < letterCount ss → hasLetter (unnamed ss) letter 8 ≡ true
+unfolding hasLetter
+has-letter ss few bounded letter h =
+    let c = letterCount-unnamed ss in
+    let n = length-unnamed ss in
+    ap₂ _&&_ (le-leb (letterCount (unnamed ss)) letterBound (omega arith)) (ap₂ _&&_ (lt-ltb letter (letterCount (unnamed ss)) (omega arith)) (le-leb (length (unnamed ss)) 8 (omega arith)))
 
 module _ (ss : List Stream) (entries finals : List ℕ) (few : length ss ≤ 8) (bounded : letterCount ss ≤ letterBound) where
   -- The streams' names have no part in an entry's text.
@@ -31,15 +38,6 @@ module _ (ss : List Stream) (entries finals : List ℕ) (few : length ss ≤ 8) 
       ap₂ (λ n l. cond (eqb (getD entries (state * n + letter) noState) noState) [] (entryLine state (getD finals state 0) l (getD entries (state * n + letter) noState))) (letterCount-unnamed ss)
       (letterOf-unnamed ss letter)
 
-  has-letter : (letter : ℕ) → letter < letterCount ss → hasLetter (unnamed ss) letter 8 ≡ true
-  unfolding hasLetter
-  has-letter letter h =
-      let c = letterCount-unnamed ss in
-      let d = length-described (lowsOf ss) (highsOf ss) in
-      let m = length-map ss (λ s. s .range .low) in
-      let n = length-map ss (λ s. s .range .high) in
-      ap₂ _&&_ (le-leb (letterCount (unnamed ss)) letterBound (omega arith)) (ap₂ _&&_ (lt-ltb letter (letterCount (unnamed ss)) (omega arith)) (le-leb (length (unnamed ss)) 8 (omega arith)))
-
   place-text : (state letter : ℕ) → letter < letterCount ss
       → placeText (lowsOf ss) (highsOf ss) entries finals (state * letterCount ss + letter) ≡ entryText ss entries finals state letter
   unfolding placeText
@@ -47,7 +45,7 @@ module _ (ss : List Stream) (entries finals : List ℕ) (few : length ss ≤ 8) 
       let c = letterCount-unnamed ss in
       ap (λ n. cond (hasLetter (unnamed ss) ((state * letterCount ss + letter) % n) 8) (entryText (unnamed ss) entries finals ((state * letterCount ss + letter) / n) ((state * letterCount ss + letter) % n)) []) c
       ∙ ap₂ (λ q r. cond (hasLetter (unnamed ss) r 8) (entryText (unnamed ss) entries finals q r) []) (digits-div state h) (digits-mod state h)
-      ∙ ap (λ t. cond t (entryText (unnamed ss) entries finals state letter) []) (has-letter letter h)
+      ∙ ap (λ t. cond t (entryText (unnamed ss) entries finals state letter) []) (has-letter ss few bounded letter h)
       ∙ entry-unnamed state letter
 
   abbrev upTo : ℕ → List ℕ

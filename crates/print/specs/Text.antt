@@ -29,6 +29,12 @@ spaced (t ∷ ts) = t ++ (32 ∷ spaced ts)
 abbrev pub line : List Token → Token → List ℕ
 line ts last = spaced ts ++ (last ++ (10 ∷ []))
 
+-- A line of any tokens, parted by single spaces, and byte 10.
+abbrev pub tokensLine : List Token → List ℕ
+tokensLine [] = 10 ∷ []
+tokensLine (t ∷ []) = t ++ (10 ∷ [])
+tokensLine (t ∷ (u ∷ ts)) = t ++ (32 ∷ tokensLine (u ∷ ts))
+
 -- "a heading with the names"
 abbrev pub headingLine : List Token → List ℕ
 headingLine names = line (bytesOf "state" ∷ bytesOf "final" ∷ names) (bytesOf "next")

@@ -8,7 +8,7 @@ ghost use lib.IntN.{pos, natAbs};
 ghost use lib.ListN.{length, getD};
 ghost use lib.Seq.{sets};
 ghost use Rattle.print.specs.Append.{Appends};
-ghost use Rattle.print.specs.Text.{digits, decimal, spaced, line, headingLine, entryLine, refusalLine};
+ghost use Rattle.print.specs.Text.{digits, decimal, spaced, line, tokensLine, headingLine, entryLine, refusalLine};
 ghost use Rattle.print.specs.Table.{placeText, storedName, storedNames};
 
 // ---- pieces of a line, each from the place where the last one ended
@@ -142,15 +142,23 @@ fn byte_at(list: &[u8], i: usize) -> u8
     0
 }
 
+// A stored name.
+fn append_stored(out: &mut [u8], at: usize, names: &[u8], lengths: &[u8], i: usize) -> usize
+    requires { ⌜ (at ≤ suc (length (now out))) × (i < 8) ⌝ }
+    ensures { λ r. ⌜ Appends at (storedName (now (names .entry)) (now (lengths .entry)) i) (now (out .entry)) (now (out .exit)) r ⌝ }
+{
+    let length = fewer(byte_at(lengths, i) as usize, 8);
+    let start = fewer(i * 8, names.len());
+    let end = fewer(i * 8 + length, names.len());
+    append_bytes(out, at, &names[start..end])
+}
+
 // A stored name and a space.
 fn append_name(out: &mut [u8], at: usize, names: &[u8], lengths: &[u8], i: usize) -> usize
     requires { ⌜ (at ≤ suc (length (now out))) × (i < 8) ⌝ }
     ensures { λ r. ⌜ Appends at (storedName (now (names .entry)) (now (lengths .entry)) i ++ (32 ∷ [])) (now (out .entry)) (now (out .exit)) r ⌝ }
 {
-    let length = fewer(byte_at(lengths, i) as usize, 8);
-    let start = fewer(i * 8, names.len());
-    let end = fewer(i * 8 + length, names.len());
-    let to = append_bytes(out, at, &names[start..end]);
+    let to = append_stored(out, at, names, lengths, i);
     append_byte(out, to, 32)
 }
 
@@ -205,6 +213,34 @@ pub fn pair_line(first: u64, second: u64, out: &mut [u8]) -> usize
 {
     let to = append_count(out, 0, first);
     let end = append_natural(out, to, second);
+    append_byte(out, end, 10)
+}
+
+// A line of the names of the first eight streams.
+pub fn names_line(names: &[u8], lengths: &[u8], streams: usize, out: &mut [u8]) -> usize
+    ensures { λ r. ⌜ Appends 0 (tokensLine (storedNames (now (names .entry)) (now (lengths .entry)) (min streams 8))) (now (out .entry)) (now (out .exit)) r ⌝ }
+{
+    let count = fewer(streams, 8);
+    if count == 0 {
+        return append_byte(out, 0, 10);
+    }
+    let last = count - 1;
+    let to = append_names(out, 0, names, lengths, last);
+    let end = append_stored(out, to, names, lengths, last);
+    append_byte(out, end, 10)
+}
+
+// A line of numbers.
+pub fn numbers_line(values: &[i64], out: &mut [u8]) -> usize
+    ensures { λ r. ⌜ Appends 0 (tokensLine (map decimal (now (values .entry)))) (now (out .entry)) (now (out .exit)) r ⌝ }
+{
+    let count = values.len();
+    if count == 0 {
+        return append_byte(out, 0, 10);
+    }
+    let last = count - 1;
+    let to = append_values(out, 0, &values[..last]);
+    let end = append_number(out, to, values[last]);
     append_byte(out, end, 10)
 }
 

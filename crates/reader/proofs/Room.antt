@@ -1,24 +1,20 @@
 -- Laws of lists in room for more elements: how they come to be stored, and what is taken of them.
-use Prim.Native.Nat.{ℕ, zero, suc, _+_, _-_, _≤_}
+use Prim.Native.Nat.{ℕ, _+_, _-_, _≤_}
 use mathlib.Core.Path.{_≡_, sym, ap, _∙_}
 use mathlib.Core.List.{List, _++_}
 use native.Mathlib.Omega.{arith}
 use lib.ListN.{length, take, drop, replicate, length-append, length-replicate}
 use lib.Seq.{sets, sets-eq, take-at}
+use Rattle.basics.proofs.Lists.{drop-replicate}
 use Rattle.reader.specs.Stored.{padded}
 
 module _ {A : Type 0} (z : A) where
-  drop-replicate : (k n : ℕ) → drop k (replicate n z) ≡ replicate (n - k) z
-  drop-replicate zero n = ap (λ k. replicate k z) (let e : n ≡ n - 0 = omega arith in e)
-  drop-replicate (suc k) zero = ap (λ m. replicate m z) (let e : 0 ≡ 0 - suc k = omega arith in e)
-  drop-replicate (suc k) (suc n) = drop-replicate k n ∙ ap (λ m. replicate m z) (let e : n - k ≡ suc n - suc k = omega arith in e)
-
   -- A list that is stored from the start of empty room.
   pub sets-padded : (n : ℕ) (l : List A) → length l ≤ n → sets (replicate n z) 0 l ≡ padded n z l
   sets-padded n l h =
       let fits : 0 + length l ≤ length (replicate n z) = omega (arith, length-replicate n z) in
       let from : 0 + length l ≡ length l = omega arith in
-      sets-eq l (replicate n z) 0 fits ∙ ap (λ k. l ++ drop k (replicate n z)) from ∙ ap (λ r. l ++ r) (drop-replicate (length l) n)
+      sets-eq l (replicate n z) 0 fits ∙ ap (λ k. l ++ drop k (replicate n z)) from ∙ ap (λ r. l ++ r) (drop-replicate z (length l) n)
 
   pub length-padded : (n : ℕ) (l : List A) → length l ≤ n → length (padded n z l) ≡ n
   length-padded n l h = omega (arith, length-append l (replicate (n - length l) z), length-replicate (n - length l) z)

@@ -4,17 +4,15 @@ use Prim.Native.Nat.{ℕ, zero, suc, _-_, _*_, _≤_, min}
 use native.Mathlib.Omega.{arith}
 use native.Mathlib.Nat.{le-trans}
 use mathlib.Core.Path.{_≡_, refl, sym, _∙_, ap, subst}
-use mathlib.Core.List.{List, [], _∷_, _++_, map, List·Memᴰ, List·Memᴰ·head, List·Memᴰ·tail, Memᴰ·map}
+use mathlib.Core.List.{List, [], _∷_, _++_, map, List·Memᴰ, List·Memᴰ·head, List·Memᴰ·tail}
 use mathlib.Core.Bool.{Bool, true, false}
 use lib.Dec.{ltb}
 use lib.IntN.{ℤ, pos, negℤ}
 use lib.ListN.{length, take, replicate, length-append, length-map, length-replicate, length-take}
-use Rattle.basics.proofs.Reflects.{to-true, T-reflects}
 use Rattle.meaning.specs.Expression.{Stream, Sheet}
 use Rattle.meaning.proofs.Order.{≤ℤ-trans}
 use Rattle.meaning.specs.Letter.{letterCount}
 use Rattle.sheet.specs.Refusal.{Answer, refused as isRefusedWith, sheet, AnswerTo, magnitudeBound}
-use Rattle.text.specs.Token.{isName}
 use Rattle.nodes.specs.Bounds.{lowsOf, highsOf}
 use Rattle.letters.proofs.Above.{between-fits}
 use borrow.Author.Tests.{ltb-true, ltb-false}
@@ -26,16 +24,16 @@ use Rattle.sheet.proofs.Reading.{answer-correct}
 use Rattle.sheet.proofs.Accepted.{accepted-facts}
 use Rattle.reader.specs.declared.Reading.{Reading}
 use Rattle.reader.specs.Stored.{storedSheet, readingOf, nameBytes, nameLengths}
-use Rattle.reader.proofs.Streams.{name-fits}
 use Rattle.outcome.specs.Compile.{CompileAnswer}
 use Rattle.situations.proofs.Stored.{part-held, lows-part, highs-part}
 use Rattle.lend.specs.Lend.{rowsLent, LentCall}
 use Rattle.lend.proofs.Outcome.{compiled-unique, compiled-held, refused-unique, refused-not-compiled, HasOutcome, isRefused, isCompiled, lent-total, stored-is, call-refused, call-compiled}
-use Rattle.pages.specs.Output.{Printout, outputText}
-use Rattle.pages.proofs.Output.{refused-text, table-text}
+use Rattle.pages.specs.Output.{Printout, tableLine, outputText}
+use Rattle.pages.proofs.Refused.{refused-text}
+use Rattle.pages.proofs.Output.{table-text}
 use Rattle.print.specs.Text.{refusalLine}
 use Rattle.print.specs.Table.{printed, AllFit}
-use Rattle.print.proofs.Names.{Short}
+use Rattle.print.proofs.Names.{short-names}
 use Rattle.print.proofs.Table.{printed-part}
 use Rattle.show.specs.declared.Printed.{Printed}
 use Rattle.show.specs.Answer.{Prints, refused, compiled, Shown, printoutOf, HasRanges, CompiledWith}
@@ -106,10 +104,6 @@ module _ {s : Sheet} (accepted : Accepted s) where
         highs = fit-append (highsOf (s .streams)) (replicate (8 - length (highsOf (s .streams))) (pos 0)) (fit-map (λ x. x .range .high) (s .streams) high-fits) (fit-zeros (8 - length (highsOf (s .streams))));
       }
 
-  -- Each name has at most eight bytes.
-  short-names : Short (s .streams)
-  short-names x m = name-fits (x .name) (to-true (T-reflects (isName (x .name))) (accepted .areNames (x .name) (Memᴰ·map (λ y. y .name) m)))
-
 -- ---- what `show` gives back
 
 module _ (text : List ℕ) {reading : Reading} (read-as : reading ≡ readingOf (answerTo text)) where
@@ -142,7 +136,7 @@ module _ (text : List ℕ) {reading : Reading} (read-as : reading ≡ readingOf 
       go : (b : Bool) → ltb 0 (a .refusal) ≡ b → Prints text (a .refusal) (outputText (shownAs a entries finals))
       go true e =
           let h = ltb-true 0 (a .refusal) e in
-          subst (Prints text (a .refusal)) (sym (refused-text (shownAs a entries finals) (λ z. omega arith))) (refused (call-refused text read-as (o .call) h))
+          subst (Prints text (a .refusal)) (sym (refused-text (a .refusal) (tableLine (shownAs a entries finals)) (λ z. omega arith) _)) (refused (call-refused text read-as (o .call) h))
       go false e =
           let z : a .refusal ≡ 0 = omega (arith, ltb-false 0 (a .refusal) e) in
           let c = call-compiled text read-as (o .call) z in

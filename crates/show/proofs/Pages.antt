@@ -1,22 +1,19 @@
 -- No line that `show` writes is longer than there is room for, and there are so few lines that the bytes handed over are counted exactly.
-use Prim.Native.Nat.{ℕ, zero, suc, _*_, _≤_, _<_, min}
+use Prim.Native.Nat.{ℕ, zero, suc, _≤_, _<_, min}
 use native.Mathlib.Omega.{arith}
 use mathlib.Core.List.{List, [], _∷_}
-use lib.Dec.{eqb}
 use lib.IntN.{ℤ}
 use lib.ListN.{length, getD, take}
-use Rattle.basics.proofs.Tests.{cond-cases}
 use Rattle.reader.specs.declared.Sheet.{Sheet as StoredSheet}
-use Rattle.meaning.specs.Letter.{letterCount}
-use Rattle.letters.specs.Described.{described, cutCount}
 use Rattle.print.specs.Table.{AllFit}
 use Rattle.pages.specs.Lines.{lineRoom}
-use Rattle.pages.specs.Output.{Printout, outputAt, placeCount, placesOf}
+use Rattle.pages.specs.Output.{Printout, outputAt, placesOf}
 use Rattle.pages.proofs.Output.{line-short}
+use Rattle.pages.proofs.Refused.{few-places}
 use Rattle.show.specs.Answer.{printoutOf, HasRanges}
 
 -- The first of some numbers of the machine are such numbers.
-fit-take : (n : ℕ) (l : List ℤ) → AllFit l → AllFit (take n l)
+pub fit-take : (n : ℕ) (l : List ℤ) → AllFit l → AllFit (take n l)
 fit-take zero l h = tt
 fit-take (suc n) [] h = tt
 fit-take (suc n) (v ∷ l) h = (h .0, fit-take n l (h .1))
@@ -27,5 +24,4 @@ lines-short {stored} {refusal} states entries finals h r e f n =
     line-short (printoutOf stored refusal states entries finals) r (fit-take (min (stored .streams) 8) (stored .lows) (h .lows)) (fit-take (min (stored .streams) 8) (stored .highs) (h .highs)) e f (omega arith)
 
 pub few-lines : (p : Printout) → length (p .entries) ≤ 32768 → placesOf p ≤ 32769
-unfolding placeCount
-few-lines p h = cond-cases (λ n. n ≤ 32769) (eqb (p .refusal) 0) {x = suc (min (p .states * cutCount (letterCount (described (p .lows) (p .highs)))) (length (p .entries)))} {y = 1} (λ t. omega arith) (λ t. omega arith)
+few-lines p h = few-places (p .refusal) (omega arith) (omega arith)

@@ -11,7 +11,8 @@ use lib.Dec.{eqb}
 use lib.ListN.{length}
 use Rattle.basics.proofs.Reflects.{Reflects, holds, fails, reflects-iff, or-reflects, and-reflects, not-reflects, eqb-reflects, ltb-reflects, leb-reflects}
 use Rattle.automaton.specs.Table.{noState}
-use Rattle.step.specs.Step.{rowBytes, rowCount, mostRows, entryFollowed, refusedStep, Refusal11, Refusal12, StepAnswer}
+use Rattle.automaton.specs.WellFormed.{mostRows}
+use Rattle.step.specs.Step.{rowBytes, rowCount, entryFollowed, refusedStep, Refusal11, Refusal12, StepAnswer}
 use Rattle.step.specs.Step.Refusal11.{noLetters, notWholeRows, tooManyRows, stateOutside, letterOutside, noRow}
 use Rattle.step.specs.Step.Refusal12.{missing}
 use Rattle.step.specs.Step.StepAnswer.{refused11, refused12, moves}

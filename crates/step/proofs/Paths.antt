@@ -1,10 +1,10 @@
 -- A record is followed by steps exactly if it is a path of the table whose entries the bytes hold, and the steps lead to the
 -- state to which the path leads. From the laws of stored numbers, at the width of an entry, and the definition of a step.
-use Prim.Native.Nat.{ℕ, suc, _+_, _*_, _/_, _%_, _≤_, _<_}
+use Prim.Native.Nat.{ℕ, _+_, _*_, _/_, _%_, _≤_, _<_}
 use mathlib.Core.Path.{_≡_, refl, sym, ap, subst, _∙_}
 use mathlib.Core.Logic.{_↔_, _≢_, inl, inr, ⊎-elim}
 use mathlib.Core.List.{List, [], _∷_}
-use native.Mathlib.Nat.{mul-assoc, mul-div-cancel, mul-mod-left, mul-le-mul-right, suc-mul}
+use native.Mathlib.Nat.{mul-assoc, mul-div-cancel, mul-mod-left}
 use native.Mathlib.Omega.{arith}
 use lib.ListN.{length, getD}
 use Rattle.stored.specs.Number.{tableBytes}
@@ -12,11 +12,13 @@ use Rattle.stored.proofs.Table.{length-tableBytes, numberAt-tableBytes}
 use Rattle.automaton.specs.Words.{AllBelow}
 use Rattle.automaton.specs.Table.{noState, walk, PathFrom, IsPath}
 use Rattle.automaton.specs.Stored.{entryAt}
-use Rattle.step.specs.Step.{entryWidth, rowBytes, rowCount, entryFollowed, mostRows, refusedStep, StepAnswer}
+use Rattle.automaton.specs.WellFormed.{mostRows, WholeTable}
+use Rattle.automaton.proofs.WellFormed.{place-inside, whole-entries, some-row-entry}
+use Rattle.step.specs.Step.{entryWidth, rowBytes, rowCount, entryFollowed, refusedStep, StepAnswer}
 use Rattle.step.specs.Step.Refusal12.{missing}
 use Rattle.step.specs.Step.StepAnswer.{refused11}
 use Rattle.step.specs.RunningPlace.{StepRefused}
-use Rattle.step.specs.Followed.{Followed, WholeTable}
+use Rattle.step.specs.Followed.{Followed}
 use Rattle.step.specs.Followed.Followed.{stays, steps}
 use Rattle.step.proofs.Refusals.{Sound, not-refusal11, answers-12, answers-state}
 use Rattle.step.proofs.Answers.{answer-unique, answer-refused}
@@ -39,14 +41,6 @@ module _ {k n : ℕ} {entries : List ℕ} (whole : WholeTable k n entries) where
   no-rest : length (entryBytes entries) % rowBytes k ≡ 0
   no-rest = ap (λ (len : ℕ). len % rowBytes k) bytes-length ∙ mul-mod-left n (rowBytes k)
 
-  -- the place of an entry in the list
-  place-inside : (i a : ℕ) → i < n → a < k → i * k + a < length entries
-  place-inside i a inside is-letter =
-      let rows-fit : suc i * k ≤ n * k = mul-le-mul-right k inside in
-      let next : suc i * k ≡ i * k + k = suc-mul i k in
-      let all : length entries ≡ n * k = whole .whole-rows in
-      omega arith
-
   entry-fits : (i : ℕ) → i < length entries → getD entries i 0 < 65536
   entry-fits i inside =
       let few : n ≤ mostRows = whole .few-rows in
@@ -55,12 +49,11 @@ module _ {k n : ℕ} {entries : List ℕ} (whole : WholeTable k n entries) where
   -- the entry that a step reads is the entry that was stored
   entry-read : (i a : ℕ) → i < n → a < k → entryFollowed (entryBytes entries) k i a ≡ entryAt k entries i a
   entry-read i a inside is-letter =
-      let place : i * k + a < length entries = place-inside i a inside is-letter in
+      let place : i * k + a < length entries = place-inside whole i a inside is-letter in
       numberAt-tableBytes entryWidth entries (i * k + a) place (entry-fits (i * k + a) place)
 
   entry-below : (i a : ℕ) → i < n → a < k → entryAt k entries i a ≢ noState → entryAt k entries i a < n
-  entry-below i a inside is-letter some =
-      ⊎-elim (λ below. below) (λ none. absurd (some none)) (whole .state-or-none (i * k + a) (place-inside i a inside is-letter))
+  entry-below = some-row-entry (whole-entries whole)
 
   sound : (i a : ℕ) → i < n → a < k → Sound (entryBytes entries) k i a
   sound i a inside is-letter =

@@ -7,7 +7,8 @@ use native.Mathlib.Nat.{div-add-mod', div-mul-le-self, mul-mod-left, mul-le-mul-
 use native.Mathlib.Omega.{arith}
 use lib.ListN.{length}
 use Rattle.automaton.specs.Table.{noState}
-use Rattle.step.specs.Step.{rowBytes, rowCount, mostRows, entryFollowed, refusedStep, Refusal11, StepAnswer}
+use Rattle.automaton.specs.WellFormed.{mostRows}
+use Rattle.step.specs.Step.{rowBytes, rowCount, entryFollowed, refusedStep, Refusal11, StepAnswer}
 use Rattle.step.specs.Step.Refusal11.{noLetters, notWholeRows, tooManyRows, stateOutside, letterOutside, noRow}
 use Rattle.step.specs.Step.Refusal12.{missing}
 use Rattle.step.specs.Step.StepAnswer.{refused11, refused12, moves}

@@ -5,7 +5,8 @@ use mathlib.Core.List.{List}
 use lib.Dec.{eqb, ltb, leb}
 use lib.ListN.{length}
 use Rattle.automaton.specs.Table.{noState}
-use Rattle.step.specs.Step.{rowBytes, rowCount, mostRows, entryFollowed, refusedStep}
+use Rattle.automaton.specs.WellFormed.{mostRows}
+use Rattle.step.specs.Step.{rowBytes, rowCount, entryFollowed, refusedStep}
 use Rattle.step.specs.RunningPlace.{stepsAfter}
 use Rattle.step.specs.declared.Place.{Place}
 

@@ -7,6 +7,7 @@ use mathlib.Core.List.{List}
 use lib.ListN.{length}
 use Rattle.stored.specs.Number.{numberAt}
 use Rattle.automaton.specs.Table.{noState}
+use Rattle.automaton.specs.WellFormed.{mostRows}
 
 -- "two bytes an entry, low first"
 abbrev pub entryWidth : ℕ
@@ -23,10 +24,6 @@ wholeRows numbersPerRow len = len / numbersPerRow
 -- the rows that a table of bytes holds for so many letters
 abbrev pub rowCount : List ℕ → ℕ → ℕ
 rowCount table letters = wholeRows (rowBytes letters) (length table)
-
--- "over 4,096 rows"
-abbrev pub mostRows : ℕ
-mostRows = 4096
 
 -- "the entry to be followed": the letter's entry in the state's row
 abbrev pub entryFollowed : List ℕ → ℕ → ℕ → ℕ → ℕ

@@ -5,6 +5,7 @@ ghost use lib.ListN.{length};
 ghost use Rattle.stored.specs.Number.{numberAt};
 ghost use Rattle.step.specs.Step.{entryWidth, StepAnswer};
 ghost use Rattle.step.specs.RunningPlace.{stepsAfter, PlaceStep};
+use automaton::MOST_ROWS;
 
 // "65,536 plus the refusal": an answer from this number on is a refusal.
 const REFUSED: u32 = 65536;
@@ -13,9 +14,7 @@ const REFUSED_11: u32 = REFUSED + 11;
 // The river's: the letter leads nowhere.
 const REFUSED_12: u32 = REFUSED + 12;
 // The entry for none.
-const NO_STATE: u32 = 65535;
-
-const MOST_ROWS: usize = 4096;
+const NO_STATE: u32 = automaton::NO_STATE as u32;
 
 const MOST_STEPS: u32 = 4294967295;
 

@@ -5,14 +5,14 @@
 -- in one way only. Demand 3: each refusal is given exactly if its condition holds and that of none before it; where none of 1 to 8 and 10 applies,
 -- 9 exactly if there is no solution, else the table, which is settled; paths are the records that begin a solution, and so are the records that
 -- can be followed by steps; equal used rows are equal solutions, whatever room was lent. From the laws of the layers below.
-use Prim.Native.Nat.{ℕ, _*_, _≤_, _<_}
+use Prim.Native.Nat.{ℕ, _≤_, _<_}
 use native.Mathlib.Omega.{arith}
 use mathlib.Core.Path.{_≡_, refl, sym, subst}
 use mathlib.Core.Logic.{_↔_, _⊎_, inl, inr}
 use mathlib.Core.Bool.{Bool, true, false, cond}
 use mathlib.Core.List.{List, [], _∷_, map}
 use lib.Dec.{T, eqb, eqb→eq}
-use lib.ListN.{length, take, replicate}
+use lib.ListN.{length, replicate}
 use Rattle.automaton.specs.Table.{IsPath}
 use Rattle.automaton.specs.Stored.{StoredTable, SameUsedRows, entryAt}
 use Rattle.automaton.proofs.Paths.{has-solution}
@@ -34,13 +34,13 @@ use Rattle.outcome.proofs.Answers.{one-sheet}
 use Rattle.outcome.proofs.AcceptedCompile.{accepted-compile, refusal-in-range}
 use Rattle.outcome.proofs.CompileUnique.{compile-unique}
 use Rattle.outcome.proofs.StateCount.{states-at-most-situations}
-use Rattle.stored.specs.Number.{tableBytes}
 use Rattle.step.specs.declared.Place.{Place}
-use Rattle.step.specs.Step.{StepAnswer, refused11, refused12, moves, refusedStep, entryWidth}
+use Rattle.step.specs.Step.{StepAnswer, refused11, refused12, moves, refusedStep}
 use Rattle.step.specs.RunningPlace.{PlaceAfter, unchanged, changed, PlaceStep}
 use Rattle.step.specs.Followed.{Followed}
 use Rattle.step.proofs.Answers.{answer-refused}
 use Rattle.theorems.specs.Following.{FollowedAlong, BeginsSolution, HaveSameSolutions}
+use Rattle.theorems.specs.UsedRows.{usedBytes}
 use Rattle.theorems.specs.Refusals.{Refusal9, othersThanNine, nine, inOrder, IsGiven, NoneApplies}
 use Rattle.theorems.proofs.Following.{all-below, solution↔followed, path↔begins-solution, used-rows↔same-solutions}
 use Rattle.theorems.proofs.Steps.{path↔steps}
@@ -108,7 +108,8 @@ module _ {text : List ℕ} {room : Room} {a : CompileAnswer} {t : Tables} (call 
     abbrev k : ℕ
     k = letterCount (s .streams)
 
-    held : HoldsSheetTable s room (a .states) t
+    -- The used rows hold the sheet's table, and what is beyond them is zero.
+    pub held : HoldsSheetTable s room (a .states) t
     held =
         let c = accepted-compile call accepted in
         subst (λ q. HoldsSheetTable q room (a .states) t) (one-sheet (c .read) read) (c .held)
@@ -125,6 +126,7 @@ module _ {text : List ℕ} {room : Room} {a : CompileAnswer} {t : Tables} (call 
         → IsPath (entryAt k (t .entries)) (map (letterNumber (s .streams)) r) ↔ BeginsSolution s r
     path↔solution r h = path↔begins-solution s (read-known read) (held .table) r h
 
+    -- No sheet has more states than 4,096.
     pub few-states : a .states ≤ situationBound
     few-states =
         let c = accepted-compile call accepted in
@@ -132,7 +134,7 @@ module _ {text : List ℕ} {room : Room} {a : CompileAnswer} {t : Tables} (call 
 
     -- The same for steps along the bytes of the used rows, from state 0: no step is refused exactly if the record begins a solution.
     pub steps↔solution : (r : Record) → OfLetters (s .streams) r
-        → ((last : ℕ) × Followed (tableBytes entryWidth (take (a .states * k) (t .entries))) k 0 (map (letterNumber (s .streams)) r) last) ↔ BeginsSolution s r
+        → ((last : ℕ) × Followed (usedBytes s a t) k 0 (map (letterNumber (s .streams)) r) last) ↔ BeginsSolution s r
     steps↔solution r h =
         let steps = path↔steps (held .table) few-states (map (letterNumber (s .streams)) r) (all-below r h) in
         (λ f. path↔solution r h .0 (steps .1 f), λ b. steps .0 (path↔solution r h .1 b))

@@ -6,3 +6,4 @@ pub mod Plays
 pub mod RecordTexts
 pub mod Replaying
 pub mod WorkedRecords
+pub mod Courses

@@ -3,7 +3,7 @@
 -- an accepted sheet, as a call of the compile leaves it (`CompileCall`): the states printed are those that the proved step gives along the used
 -- rows, 12 is printed exactly where the step gives it, and lines that are letters play through exactly if they begin a solution. From the laws of
 -- lines that are played (`Plays`), of a record's text (`RecordTexts`), of steps (`Steps`) and of calls (`Demands`).
-use Prim.Native.Nat.{ℕ, _+_, _*_, _≤_, _<_}
+use Prim.Native.Nat.{ℕ, _+_, _≤_, _<_}
 use native.Mathlib.Omega.{arith}
 use mathlib.Core.Path.{_≡_, refl, sym, _∙_, ap, ap₂, subst}
 use mathlib.Core.Logic.{_↔_, _⊎_, inl, inr}
@@ -17,22 +17,24 @@ use Rattle.automaton.specs.Words.{AllBelow}
 use Rattle.automaton.specs.Table.{noState, walk}
 use Rattle.automaton.specs.Stored.{entryAt}
 use Rattle.automaton.proofs.Paths.{entry-state}
+use Rattle.automaton.proofs.WellFormed.{table-entries}
+use Rattle.automaton.proofs.Course.{path-rows}
 use Rattle.text.specs.Bytes.{Token, lines}
 use Rattle.meaning.specs.Expression.{Stream, Sheet}
 use Rattle.meaning.specs.Letter.{IsLetter, OfLetters, letterCount, letterNumber}
 use Rattle.meaning.proofs.Letter.{letterNumber-bound}
 use Rattle.sheet.specs.Form.{namesOf}
 use Rattle.outcome.specs.Compile.{CompileAnswer, Room, Tables, CompileCall}
-use Rattle.stored.specs.Number.{tableBytes}
-use Rattle.step.specs.Step.{entryWidth, refusedStep, StepAnswer}
+use Rattle.step.specs.Step.{refusedStep, StepAnswer}
 use Rattle.step.specs.Followed.{Followed}
 use Rattle.print.specs.Text.{decimal, refusalLine}
 use Rattle.records.specs.Line.{isNamesLine}
 use Rattle.replaying.specs.Replay.{replayHeading, startState, replayed, replayedLines}
 use Rattle.theorems.specs.Following.{BeginsSolution, HaveSameSolutions}
+use Rattle.theorems.specs.UsedRows.{usedBytes}
 use Rattle.theorems.specs.Replaying.{stateLines, refusalText, recordText, underNames, EndsWithLine, SameStatesPrinted, valuesOf, recordOfLines, IsLetterLine, AreLetters, lettersOf, statesReached, refusalMet, PlaysThrough, Fault, FirstFault}
 use Rattle.theorems.proofs.Following.{all-below}
-use Rattle.theorems.proofs.Steps.{path-state, path-from↔steps, missing↔refused-12}
+use Rattle.theorems.proofs.Steps.{path-from↔steps, missing↔refused-12}
 use Rattle.theorems.proofs.Demands.{ReadAs, path↔solution, few-states, table-stored, equal-rows↔same-solutions}
 use Rattle.theorems.proofs.Plays.{letter-line, stateLines-append, start-below, start-written, lines-printed, states-cut, refusal-cut, through-states, through-unrefused, fault-states, fault-refusal, plays-or-fault, unrefused↔through, refusal↔fault, letters-fault, through↔path, prefix↔states, refused-12↔letter, rows-printed}
 use Rattle.theorems.proofs.RecordTexts.{named-lines, cut-lines}
@@ -155,17 +157,13 @@ module _ {text : List ℕ} {room : Room} {a : CompileAnswer} {t : Tables} (call 
   abbrev k : ℕ
   k = letterCount (s .streams)
 
-  -- The bytes of the used rows, which a step reads.
-  abbrev usedRows : List ℕ
-  usedRows = tableBytes entryWidth (take (a .states * k) (t .entries))
-
   below : (ls : List (List ℕ)) → AreLetters (s .streams) ls → AllBelow k (lettersOf (s .streams) ls)
   below ls h = all-below (recordOfLines ls) (letters-record (s .streams) ls h)
 
   -- "with the state reached": lines play through to a state exactly if they are letters, and steps for these letters lead there from where they
   -- began, none of them refused.
   pub replay-steps : (ls : List (List ℕ)) (state last : ℕ) → state < a .states
-      → PlaysThrough (s .streams) (t .entries) state ls last ↔ (AreLetters (s .streams) ls × Followed usedRows k state (lettersOf (s .streams) ls) last)
+      → PlaysThrough (s .streams) (t .entries) state ls last ↔ (AreLetters (s .streams) ls × Followed (usedBytes s a t) k state (lettersOf (s .streams) ls) last)
   replay-steps ls state last inside =
       let path = through↔path (s .streams) (t .entries) ls state last in
       let steps : (h : AreLetters (s .streams) ls) → _ = λ h. path-from↔steps (table-stored call read accepted) (few-states call read accepted) state inside (lettersOf (s .streams) ls) last (below ls h) in
@@ -175,7 +173,7 @@ module _ {text : List ℕ} {room : Room} {a : CompileAnswer} {t : Tables} (call 
   -- with the last of them is the state after as many steps.
   pub replay-states : (ls : List (List ℕ)) (state last j : ℕ) → state < a .states → j ≤ length ls
       → ((j ≤ length (statesReached (s .streams) (t .entries) state ls)) × (last ≡ getD (state ∷ statesReached (s .streams) (t .entries) state ls) j 0))
-      ↔ (AreLetters (s .streams) (take j ls) × Followed usedRows k state (lettersOf (s .streams) (take j ls)) last)
+      ↔ (AreLetters (s .streams) (take j ls) × Followed (usedBytes s a t) k state (lettersOf (s .streams) (take j ls)) last)
   replay-states ls state last j inside few =
       let states = prefix↔states (s .streams) (t .entries) j ls state last few in
       let steps = replay-steps (take j ls) state last inside in
@@ -183,7 +181,7 @@ module _ {text : List ℕ} {room : Room} {a : CompileAnswer} {t : Tables} (call 
 
   -- "the first line that has no way on, and prints `refused 12`": a line is refused with 12 exactly if it is a letter whose step is refused with 12.
   pub refused-12↔step : (l : List ℕ) (state : ℕ) → state < a .states
-      → Fault (s .streams) (t .entries) state l 12 ↔ (IsLetterLine (s .streams) l × StepAnswer usedRows k state (letterNumber (s .streams) (valuesOf l)) (refusedStep 12))
+      → Fault (s .streams) (t .entries) state l 12 ↔ (IsLetterLine (s .streams) l × StepAnswer (usedBytes s a t) k state (letterNumber (s .streams) (valuesOf l)) (refusedStep 12))
   refused-12↔step l state inside =
       let missing = refused-12↔letter (s .streams) (t .entries) state l in (
         (λ f. let x = missing .0 f in (x .0, step (x .0) .0 (x .1))),
@@ -191,7 +189,7 @@ module _ {text : List ℕ} {room : Room} {a : CompileAnswer} {t : Tables} (call 
       )
     where
       step : IsLetterLine (s .streams) l
-          → (entryAt k (t .entries) state (letterNumber (s .streams) (valuesOf l)) ≡ noState) ↔ StepAnswer usedRows k state (letterNumber (s .streams) (valuesOf l)) (refusedStep 12)
+          → (entryAt k (t .entries) state (letterNumber (s .streams) (valuesOf l)) ≡ noState) ↔ StepAnswer (usedBytes s a t) k state (letterNumber (s .streams) (valuesOf l)) (refusedStep 12)
       step h =
           missing↔refused-12 (table-stored call read accepted) (few-states call read accepted) state (letterNumber (s .streams) (valuesOf l)) inside
           (letterNumber-bound (letter-line (s .streams) l h .0))
@@ -231,7 +229,7 @@ module _ {text : List ℕ} {room : Room} {a : CompileAnswer} {t : Tables} (call 
   pub ends-in-state : (ls : List (List ℕ)) (state last : ℕ) → state < a .states → PlaysThrough (s .streams) (t .entries) state ls last → last < a .states
   ends-in-state ls state last inside p =
       let x = through↔path (s .streams) (t .entries) ls state last .0 p in
-      rw (x .1 .1) (path-state (table-stored call read accepted) (few-states call read accepted) (lettersOf (s .streams) ls) state inside (below ls (x .0)) (x .1 .0))
+      rw (x .1 .1) (path-rows (entryAt k (t .entries)) k (a .states) state (lettersOf (s .streams) ls) (table-entries (table-stored call read accepted .table)) inside (below ls (x .0)) (x .1 .0))
 
   -- so that "the state where the first ended", as it is printed, is a start that is taken.
   pub start-where-ended : (ls : List (List ℕ)) (state last : ℕ) → state < a .states → PlaysThrough (s .streams) (t .entries) state ls last

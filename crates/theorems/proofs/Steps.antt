@@ -9,15 +9,14 @@ use mathlib.Core.List.{List, [], _∷_}
 use lib.ListN.{take}
 use lib.Seq.{length-take-le, getD-take}
 use Rattle.automaton.specs.Words.{Word, AllBelow}
-use Rattle.automaton.specs.Table.{noState, walk, PathFrom, IsPath, IsTable, SameRows}
-use Rattle.automaton.specs.Stored.{StoredTable, entryAt, finalAt}
+use Rattle.automaton.specs.Table.{noState, walk, PathFrom, IsPath}
+use Rattle.automaton.specs.Stored.{StoredTable, entryAt}
+use Rattle.automaton.specs.WellFormed.{mostRows, WholeTable}
+use Rattle.automaton.proofs.WellFormed.{some-row-entry, table-entries, table-whole, used-table}
 use Rattle.automaton.proofs.Places.{place-before}
-use Rattle.automaton.proofs.Transfer.{rows-table}
-use Rattle.automaton.proofs.Paths.{entry-state}
 use Rattle.stored.specs.Number.{tableBytes}
-use Rattle.step.specs.Step.{entryWidth, mostRows, refusedStep, StepAnswer}
-use Rattle.step.specs.Followed.{Followed, WholeTable}
-use Rattle.step.proofs.Compiled.{compiled-whole}
+use Rattle.step.specs.Step.{entryWidth, refusedStep, StepAnswer}
+use Rattle.step.specs.Followed.{Followed}
 use Rattle.step.proofs.Paths.{followed↔path-from, refused-12↔missing}
 
 -- A path of one table is a path of another that has the same entries in the rows of its states.
@@ -31,37 +30,22 @@ path-agrees {entry = entry} {entry′ = entry′} same closed (a ∷ r) i inside
     ((λ none. path .0 (e ∙ none), subst (λ m. PathFrom entry′ m r) e (rest .0)), rest .1 ∙ ap (λ m. walk entry′ m r) e)
 
 module _ {Sol : Word → Type 0} {k n : ℕ} {entries finals : List ℕ} (stored : StoredTable Sol k n entries finals) (few : n ≤ mostRows) where
-  abbrev used : List ℕ
-  used = take (n * k) entries
-
-  same-entry : (i a : ℕ) → i < n → a < k → entryAt k entries i a ≡ entryAt k used i a
+  same-entry : (i a : ℕ) → i < n → a < k → entryAt k entries i a ≡ entryAt k (take (n * k) entries) i a
   same-entry i a hi ha = sym (getD-take (n * k) entries (i * k + a) 0 (omega (arith, place-before k i a n 0 ha (inl hi))))
 
-  used-table : IsTable Sol k n (entryAt k used) (finalAt finals)
-  used-table =
-      let same : SameRows k n (entryAt k entries) (finalAt finals) n (entryAt k used) (finalAt finals) =
-      record { states = refl; entries = same-entry; finals = λ i hi. refl } in
-      rows-table same (stored .table)
-
-  whole : WholeTable k n used
-  whole = compiled-whole used used-table few (length-take-le (n * k) entries (stored .entries-fit))
-
-  -- A path from a state of the table leads to a state of it.
-  pub path-state : (r : List ℕ) (i : ℕ) → i < n → AllBelow k r → PathFrom (entryAt k entries) i r → walk (entryAt k entries) i r < n
-  path-state [] i inside letters path = inside
-  path-state (a ∷ r) i inside letters path =
-      path-state r (entryAt k entries i a) (entry-state (stored .table) i a inside (letters .0) (path .0) .0) (letters .1) (path .1)
+  whole : WholeTable k n (take (n * k) entries)
+  whole = table-whole (take (n * k) entries) (used-table stored) few (length-take-le (n * k) entries (stored .entries-fit))
 
   pub path-from↔steps : (i : ℕ) → i < n → (r : List ℕ) (last : ℕ) → AllBelow k r
       → (PathFrom (entryAt k entries) i r × (last ≡ walk (entryAt k entries) i r)) ↔ Followed (tableBytes entryWidth (take (n * k) entries)) k i r last
   path-from↔steps i inside r last letters =
       let steps = followed↔path-from whole i inside r last letters in (
         (λ path.
-            let p = path-agrees same-entry (λ j a hj ha s. entry-state (stored .table) j a hj ha s .0) r i inside letters (path .0) in
+            let p = path-agrees same-entry (some-row-entry (table-entries (stored .table))) r i inside letters (path .0) in
             steps .1 (p .0, path .1 ∙ p .1)),
         λ followed.
             let path = steps .0 followed in
-            let p = path-agrees (λ j a hj ha. sym (same-entry j a hj ha)) (λ j a hj ha s. entry-state used-table j a hj ha s .0) r i inside letters (path .0) in
+            let p = path-agrees (λ j a hj ha. sym (same-entry j a hj ha)) (some-row-entry (table-entries (used-table stored))) r i inside letters (path .0) in
             (p .0, path .1 ∙ p .1),
       )
 

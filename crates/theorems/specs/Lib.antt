@@ -1,4 +1,6 @@
 pub mod Following
+pub mod UsedRows
 pub mod Refusals
 pub mod Replaying
 pub mod WorkedRecords
+pub mod Courses

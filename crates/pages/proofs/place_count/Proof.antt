@@ -3,22 +3,15 @@ use Prim.Native.Nat.{suc, _*_, _≤_, min}
 use native.Mathlib.Numerals.{add-one}
 use native.Mathlib.Nat.{lt-of-le-of-lt, mul-le-mul-left}
 use native.Mathlib.Omega.{arith}
-use mathlib.Core.Path.{sym, _∙_, ap}
-use mathlib.Core.Bool.{cond}
+use mathlib.Core.Path.{_∙_, ap}
 use lib.ListN.{length}
 use borrow.Author.Needs.{needs}
-use borrow.Author.Tests.{eq-eqb, ne-eqb}
-use Rattle.meaning.specs.Letter.{letterCount}
-use Rattle.letters.specs.Described.{described, cutCount}
-use Rattle.pages.specs.Output.{placeCount}
+use Rattle.pages.proofs.Refused.{refused-places, given-places}
 use Rattle.pages.proofs.place_count.Statement.{statement}
 use Rattle.pages.proofs.place_count.Tie as tie
 
 returns : tie.Need-returns
-unfolding placeCount
-returns c =
-    let a = c .before .before .args in
-    sym (ap (λ t. cond t (suc (min (a .states * cutCount (letterCount (described (a .lows .now) (a .highs .now)))) (length (a .entries .now)))) 1) (ne-eqb (a .refusal) 0 (c .if1 .taken)))
+returns c = let a = c .before .before .args in refused-places (a .refusal) (c .if1 .taken) _
 
 letter-count-requires : tie.Need-letter-count-requires
 letter-count-requires c κs = search needs
@@ -41,12 +34,11 @@ add-result : tie.Need-add-result
 add-result c = search needs
 
 returns-2 : tie.Need-returns-2
-unfolding placeCount
 returns-2 c =
     let a = c .before .before .before .before .args in
     add-one (c .fewer .result)
     ∙ ap suc (c .fewer .ensures ∙ ap (λ n. min (a .states * n) (length (a .entries .now))) (c .before .letter-count .ensures))
-    ∙ sym (ap (λ t. cond t (suc (min (a .states * cutCount (letterCount (described (a .lows .now) (a .highs .now)))) (length (a .entries .now)))) 1) (eq-eqb (a .refusal) 0 (c .before .before .if1 .left)))
+    ∙ given-places (a .refusal) (c .before .before .if1 .left) _
 
 pub place-count-spec : {M : Type 1} → statement M
 place-count-spec =

@@ -1,81 +1,21 @@
--- `print::append_name` meets its contract: the bytes of the name that there are, and then the space.
-use Prim.Native.Nat.{_*_, min}
-use mathlib.Core.Path.{_∙_, ap}
-use mathlib.Core.List.{[], _∷_, _++_}
-use lib.ListN.{take, drop}
+-- `print::append_name` meets its contract: the name, and then the space.
+use Rattle.print.proofs.Append.{appends-then, reached}
 use borrow.Author.Needs.{needs}
-use Rattle.print.proofs.Append.{appends-then, appends-same, reached}
-use Rattle.print.proofs.Lines.{clipped}
 use Rattle.print.proofs.append_name.Statement.{statement}
 use Rattle.print.proofs.append_name.Tie as tie
 
-byte-at-requires : tie.Need-byte-at-requires
-byte-at-requires c κs = search needs
-
-cast-fewer : tie.Need-cast-fewer
-cast-fewer c = search needs
-
-fewer-requires : tie.Need-fewer-requires
-fewer-requires c κs = search needs
-
-mul-fewer : tie.Need-mul-fewer
-mul-fewer c = search needs
-
-fewer-requires-2 : tie.Need-fewer-requires-2
-fewer-requires-2 c κs = search needs
-
-mul-fewer-2 : tie.Need-mul-fewer-2
-mul-fewer-2 c = search needs
-
-add-fewer : tie.Need-add-fewer
-add-fewer c = search needs
-
-fewer-requires-3 : tie.Need-fewer-requires-3
-fewer-requires-3 c κs = search needs
-
-sub-append-bytes : tie.Need-sub-append-bytes
-sub-append-bytes c = search needs
-
-part-append-bytes-start : tie.Need-part-append-bytes-start
-part-append-bytes-start c = search needs
-
-part-append-bytes-end : tie.Need-part-append-bytes-end
-part-append-bytes-end c = search needs
-
-append-bytes-requires : tie.Need-append-bytes-requires
-append-bytes-requires c κs = search needs
+append-stored-requires : tie.Need-append-stored-requires
+append-stored-requires c κs = search needs
 
 append-byte-requires : tie.Need-append-byte-requires
-append-byte-requires c κs = reached (c .before .before .before .append-bytes .ensures)
+append-byte-requires c κs = reached (c .before .before .before .append-stored .ensures)
 
 same-length : tie.Need-same-length
 same-length c = search needs
 
 returns : tie.Need-returns
-returns c =
-    let s = c .before .before .before .before .before .before .before .before .before .before .before .before .before .before .before .before in
-    let n = c .before .before .before .before .before .before .before .before .before .before .before .fewer .ensures ∙ ap (λ k. min k 8) (c .before .before .before .before .before .before .before .before .before .before .before .before .byte-at .ensures) in
-    let e =
-    ap (λ l. l ++ (32 ∷ []))
-    (clipped (s .args .names .now) (s .args .i * 8) (c .before .before .before .before .before .before .before .before .before .before .before .fewer .result) (c .before .before .before .before .before .before .before .before .before .before .fewer2 .ensures) (c .before .before .before .before .before .before .before .before .before .fewer3 .ensures) ∙ ap (λ k. take k (drop (s .args .i * 8) (s .args .names .now))) n) in
-    appends-same (appends-then (c .before .before .before .before .before .before .append-bytes .ensures) (c .before .before .append-byte .ensures)) e
+returns c = appends-then (c .before .before .before .before .before .before .append-stored .ensures) (c .before .before .append-byte .ensures)
 
 pub append-name-spec : {M : Type 1} → statement M
 append-name-spec =
-    tie.close
-    (tie.spec
-    byte-at-requires
-    cast-fewer
-    fewer-requires
-    mul-fewer
-    fewer-requires-2
-    mul-fewer-2
-    add-fewer
-    fewer-requires-3
-    sub-append-bytes
-    part-append-bytes-start
-    part-append-bytes-end
-    append-bytes-requires
-    append-byte-requires
-    same-length
-    returns)
+    tie.close (tie.spec append-stored-requires append-byte-requires same-length returns)

@@ -1,0 +1,148 @@
+-- The outcome of a call for the best course is one, and there always is one; and from every state of the table of a set that
+-- settles there is a course of fewer letters than there are states.
+use mathlib.Core.Path.{_≡_, refl, sym, ap, _∙_}
+use mathlib.Core.List.{List, [], _∷_, _++_}
+use Prim.Native.Nat.{ℕ, _+_, _-_, _<_}
+use native.Mathlib.Nat.{zero-add, suc-add}
+use native.Mathlib.Omega.{arith}
+use native.Mathlib.Decide.{decLt}
+use lib.ListN.{length, replicate}
+use Rattle.automaton.specs.Words.{Word, append, prefix, InRange}
+use Rattle.automaton.specs.Solutions.{Settles}
+use Rattle.automaton.specs.Table.{walk, run, Follows, IsTable}
+use Rattle.automaton.specs.Stored.{entryAt, finalAt}
+use Rattle.automaton.specs.WellFormed.{RowEntries, WellFormedState}
+use Rattle.automaton.specs.Course.{IsCourse, IsBest, CourseOutcome, unfit, endless, short, found, ShortestCourse}
+use Rattle.automaton.proofs.Words.{in-range-append, all-below-prefix}
+use Rattle.automaton.proofs.Solutions.{prefix-begins}
+use Rattle.automaton.proofs.Paths.{run-walk, begins-state, follows↔begins, follows↔paths}
+use Rattle.automaton.proofs.Acceptance.{solution-final}
+use Rattle.automaton.proofs.WellFormed.{well-formed-entries, well-formed-state-decided, table-entries}
+use Rattle.automaton.proofs.Course.{best-unique, best-exists, best-short, Decided, has-best, has-none, course-decided}
+
+module _ (changes : ℕ → ℕ → ℕ) (k : ℕ) (entry : ℕ → ℕ → ℕ) (final : ℕ → ℕ) (s : ℕ) (Fit : Type 0) (Short : ℕ → Type 0) (room : ℕ) where
+  abbrev Outcome : ℕ → ℕ → List ℕ → Type 0
+  Outcome = CourseOutcome changes k entry final s Fit Short room
+
+  -- two outcomes of one call are equal
+  pub course-functional : {a c : ℕ} {l : List ℕ} {a′ c′ : ℕ} {l′ : List ℕ} → Outcome a c l → Outcome a′ c′ l′
+      → (a ≡ a′) × (c ≡ c′) × (l ≡ l′)
+  course-functional (unfit x) (unfit y) = (refl, refl, refl)
+  course-functional (unfit x) (endless f e) = absurd (x f)
+  course-functional (unfit x) (short f b h) = absurd (x f)
+  course-functional (unfit x) (found f b h) = absurd (x f)
+  course-functional (endless f e) (unfit y) = absurd (y f)
+  course-functional (endless f e) (endless g d) = (refl, refl, refl)
+  course-functional (endless f e) (short {r} g b h) = absurd (e r (b .course))
+  course-functional (endless f e) (found {r} g b h) = absurd (e r (b .course))
+  course-functional (short f b h) (unfit y) = absurd (y f)
+  course-functional (short {r} f b h) (endless g d) = absurd (d r (b .course))
+  course-functional (short f b h) (short g c i) = (refl, refl, refl)
+  course-functional (short {r} f b h) (found {r = q} g c i) = absurd (i (rw (best-unique changes k entry final s r q b c) at h))
+  course-functional (found f b h) (unfit y) = absurd (y f)
+  course-functional (found {r} f b h) (endless g d) = absurd (d r (b .course))
+  course-functional (found {r} f b h) (short {r = q} g c i) = absurd (h (rw (best-unique changes k entry final s q r c b) at i))
+  course-functional (found {r} f b h) (found {r = q} g c i) =
+      let e = best-unique changes k entry final s r q b c in (refl, ap length e, ap (λ p. p ++ replicate (room - length p) 0) e)
+
+  -- every call has an outcome, and it is computed
+  pub course-total : Dec Fit → ((m : ℕ) → Dec (Short m)) → (Fit → (n : ℕ) × RowEntries k n entry × (s < n))
+      → (refusal : ℕ) × (count : ℕ) × (list : List ℕ) × Outcome refusal count list
+  course-total d e rows = fits d
+    where
+      fill : Fit → (r : List ℕ) → IsBest changes k entry final s r → Dec (Short (length r))
+          → (refusal : ℕ) × (count : ℕ) × (list : List ℕ) × Outcome refusal count list
+      fill f r b (yes h) = (10, 0, replicate room 0, short f b h)
+      fill f r b (no h) = (0, length r, r ++ replicate (room - length r) 0, found f b h)
+
+      decided : Fit → Decided changes k entry final s → (refusal : ℕ) × (count : ℕ) × (list : List ℕ) × Outcome refusal count list
+      decided f (has-best r b) = fill f r b (e (length r))
+      decided f (has-none g) = (15, 0, replicate room 0, endless f g)
+
+      fits : Dec Fit → (refusal : ℕ) × (count : ℕ) × (list : List ℕ) × Outcome refusal count list
+      fits (yes f) = decided f (course-decided changes k entry final (rows f .0) s (rows f .1) (rows f .2))
+      fits (no f) = (11, 0, replicate room 0, unfit f)
+
+-- tables as they are lent
+
+module _ (k : ℕ) (entries finals : List ℕ) where
+  -- every call for the shortest course has an outcome
+  pub shortest-total : (s room : ℕ) → (refusal : ℕ) × (count : ℕ) × (list : List ℕ) × ShortestCourse k entries finals s room refusal count list
+  shortest-total s room = course-total (λ a b. 0) k (entryAt k entries) (finalAt finals) s (WellFormedState k entries finals s) (λ m. room < m) room
+      (well-formed-state-decided k entries finals s) (λ m. decLt room m) λ g. (length finals, well-formed-entries (g .well-formed), g .is-row)
+
+  -- and no two
+  pub shortest-functional : {s room a c a′ c′ : ℕ} {l l′ : List ℕ} → ShortestCourse k entries finals s room a c l → ShortestCourse k entries finals s room a′ c′ l′
+      → (a ≡ a′) × (c ≡ c′) × (l ≡ l′)
+  shortest-functional {s} {room} =
+      course-functional (λ a b. 0) k (entryAt k entries) (finalAt finals) s (WellFormedState k entries finals s) (λ m. room < m) room
+
+-- compiled tables
+
+run-over-append : (entry : ℕ → ℕ → ℕ) (r : List ℕ) (i : ℕ) (w : Word) (t : ℕ)
+    → run entry i (append r w) (length r + t) ≡ run entry (walk entry i r) w t
+run-over-append entry [] i w t = ap (run entry i w) (zero-add t)
+run-over-append entry (a ∷ r) i w t =
+    ap (run entry i (append (a ∷ r) w)) (suc-add (length r) t) ∙ run-over-append entry r (entry i a) w t
+
+module _ {Sol : Word → Type 0} {k n : ℕ} {entry : ℕ → ℕ → ℕ} {final : ℕ → ℕ} (A : IsTable Sol k n entry final) where
+  -- the representative of a state leads to it
+  pub representative-leads : (i : ℕ) → i < n → walk entry 0 (A .representative i) ≡ i
+  representative-leads i hi =
+      let x = begins-state A (A .representative i) (A .letters i hi) (A .not-empty i hi) in
+      sym (A .distinct i (walk entry 0 (A .representative i)) hi (x .0) (x .1))
+
+  module _ (S : Settles Sol k) where
+    -- from every state some record leads to a final one
+    pub state-course : (i : ℕ) → i < n → (r : List ℕ) × IsCourse k entry final i r
+    state-course i hi = (prefix w u, record { letters = all-below-prefix u w b; path = follows↔paths A i w hi b .0 follows u; ends = ends })
+      where
+        p : List ℕ
+        p = A .representative i
+
+        w : Word
+        w = A .not-empty i hi .word
+
+        b : InRange k w
+        b = A .not-empty i hi .in-range
+
+        z : Word
+        z = append p w
+
+        bz : InRange k z
+        bz = in-range-append p (A .letters i hi) b
+
+        x : Sol z
+        x = A .not-empty i hi .continues .solves
+
+        u : ℕ
+        u = S .time z bz x
+
+        f : Follows n entry 0 z
+        f = follows↔begins A z bz .1 λ t. prefix-begins t z bz x
+
+        at : (t : ℕ) → run entry 0 z (length p + t) ≡ run entry i w t
+        at t = run-over-append entry p 0 w t ∙ ap (λ j. run entry j w t) (representative-leads i hi)
+
+        follows : Follows n entry i w
+        follows t = rw (at t) at (f (length p + t))
+
+        ends : final (walk entry i (prefix w u)) ≡ 1
+        ends = ap final (sym (at u ∙ run-walk entry u i w)) ∙ solution-final A S z bz x (length p + u) (omega arith)
+
+    -- the best course from a state of a compiled table has fewer letters than there are states
+    pub compiled-course : (changes : ℕ → ℕ → ℕ) (i : ℕ) → i < n → (r : List ℕ) × IsBest changes k entry final i r × (length r < n)
+    compiled-course changes i hi =
+        let c = state-course i hi in
+        let x = best-exists changes k entry final i (c .0) (c .1) in
+        (x .0, x .1, best-short changes k entry final n i (table-entries A) hi (x .0) (x .1))
+
+    -- with room enough for fewer letters than there are states, the call gives a course, of fewer letters than that
+    pub compiled-outcome : (changes : ℕ → ℕ → ℕ) (i : ℕ) → i < n → (Fit : Type 0) (Short : ℕ → Type 0) (room : ℕ) → Fit
+        → ((m : ℕ) → m < n → ¬ Short m) → {refusal count : ℕ} {list : List ℕ}
+        → CourseOutcome changes k entry final i Fit Short room refusal count list → (refusal ≡ 0) × (count < n)
+    compiled-outcome changes i hi Fit Short room f enough (unfit x) = absurd (x f)
+    compiled-outcome changes i hi Fit Short room f enough (endless g x) = absurd (x (state-course i hi .0) (state-course i hi .1))
+    compiled-outcome changes i hi Fit Short room f enough (short {r} g b h) =
+        absurd (enough (length r) (best-short changes k entry final n i (table-entries A) hi r b) h)
+    compiled-outcome changes i hi Fit Short room f enough (found {r} g b h) = (refl, best-short changes k entry final n i (table-entries A) hi r b)

@@ -1,0 +1,5 @@
+pub mod Queue
+pub mod Meeting
+pub mod NextLetters
+pub mod Following
+pub mod Outcome

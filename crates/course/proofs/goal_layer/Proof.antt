@@ -1,0 +1,75 @@
+-- `course::goal_layer` meets its contract: `goal` is the least layer of a final row before `row`, or NOT_MET.
+use mathlib.Core.Path.{_≡_, refl, subst}
+use mathlib.Core.Logic.{inl, ⊎-elim}
+use Prim.Native.Nat.{ℕ, _≤_, _-_}
+use native.Mathlib.Omega.{arith}
+use lib.ListN.{length}
+use borrow.Author.Needs.{needs}
+use Rattle.automaton.specs.Stored.{finalAt}
+use Rattle.course.specs.Queue.{at}
+use Rattle.course.specs.NextLetters.{IsGoalBelow}
+use Rattle.course.proofs.NextLetters.{goal-kept, goal-lower}
+use Rattle.course.proofs.goal_layer.Statement.{statement}
+use Rattle.course.proofs.goal_layer.Tie as tie
+
+abbrev Inv-loop : tie.InvT-loop
+Inv-loop finals layers goal₀ row₀ goal row = (row ≤ length layers) × IsGoalBelow (finalAt finals) (at layers) row goal
+
+abbrev μ-loop : tie.MeasureT-loop
+μ-loop finals layers goal₀ row₀ goal row = length layers - row
+
+loop-holds : tie.Need-loop-holds Inv-loop μ-loop
+loop-holds c = (omega arith, record { least = λ i h. absurd (omega arith); attained = inl refl })
+
+shared-slice-read-if1 : tie.Need-shared-slice-read-if1 Inv-loop μ-loop
+shared-slice-read-if1 c = search needs
+
+mul-if2 : tie.Need-mul-if2 Inv-loop μ-loop
+mul-if2 c = search needs
+
+shared-slice-read-if2 : tie.Need-shared-slice-read-if2 Inv-loop μ-loop
+shared-slice-read-if2 c = search needs
+
+mul-goal : tie.Need-mul-goal Inv-loop μ-loop
+mul-goal c = search needs
+
+shared-slice-read-goal : tie.Need-shared-slice-read-goal Inv-loop μ-loop
+shared-slice-read-goal c = search needs
+
+add-row : tie.Need-add-row Inv-loop μ-loop
+add-row c = search needs
+
+loop-less : tie.Need-loop-less Inv-loop μ-loop
+loop-less c = search needs
+
+loop-again : tie.Need-loop-again Inv-loop μ-loop
+loop-again c =
+    let known = c .before .before .before .loop .inv .1 in (
+      omega arith,
+      ⊎-elim (λ w. rw (w .4) (goal-lower known (w .0 .taken) (w .2 .taken)))
+          (⊎-elim (λ w. rw (w .3) (goal-kept known λ f. omega (arith, w .2 .left))) (λ w. rw (w .1) (goal-kept known λ f. absurd (w .0 .left f))))
+          (c .if1 .came),
+    )
+
+returns : tie.Need-returns Inv-loop μ-loop
+returns c =
+    let a = c .before .before .args in
+    let end : c .before .loop .row ≡ length (a .layers .now) = omega arith in
+    subst (λ (m : ℕ). IsGoalBelow (finalAt (a .finals .now)) (at (a .layers .now)) m (c .before .loop .goal)) end (c .before .loop .inv .1)
+
+pub goal-layer-spec : {M : Type 1} → statement M
+goal-layer-spec =
+    tie.close
+    (tie.spec
+    Inv-loop
+    μ-loop
+    loop-holds
+    shared-slice-read-if1
+    mul-if2
+    shared-slice-read-if2
+    mul-goal
+    shared-slice-read-goal
+    add-row
+    loop-less
+    loop-again
+    returns)

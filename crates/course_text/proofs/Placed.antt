@@ -1,0 +1,20 @@
+-- A text that is written to the front of the part of a list from a place on stands at that place of the list. From the laws of lists.
+use Prim.Native.Nat.{ℕ, _+_, _-_, _≤_}
+use native.Mathlib.Omega.{arith}
+use mathlib.Core.Path.{_≡_, sym, _∙_, ap, ap₂}
+use mathlib.Core.List.{List, _++_, append-assoc, append-nil}
+use lib.ListN.{length, take, drop, length-drop, drop-of-length-le}
+use lib.Seq.{sets, sets-eq, take-all, drop-drop}
+use borrow.Rule.Slice.PartMut.{midOf, putMid}
+use Rattle.print.specs.Append.{Appends}
+
+pub placed-text : (out : List ℕ) (at : ℕ) {text part : List ℕ} {r : ℕ} → Appends 0 text (midOf at (length out - at) out) part r → at + length text ≤ length out → putMid at (length out - at) out part ≡ sets out at text
+placed-text out at {text} {part} p fits =
+    let behind = drop at out in
+    let d = length-drop at out in
+    let whole = take-all (length out - at) behind (omega arith) in
+    let rest : at + (0 + length text) ≡ at + length text = omega arith in
+    let written = p .written (omega (arith, ap length whole)) .0 ∙ ap (λ l. sets l 0 text) whole ∙ sets-eq text behind 0 (omega arith) in
+    ap₂ (λ l m. take at out ++ (l ++ m)) written (drop-of-length-le behind {i = length out - at} (omega arith))
+    ∙ ap (take at out ++_) (append-nil (text ++ drop (0 + length text) behind) ∙ ap (text ++_) (drop-drop (0 + length text) at out ∙ ap (λ n. drop n out) rest))
+    ∙ sym (append-assoc (take at out) text (drop (at + length text) out)) ∙ sym (sets-eq text out at fits)

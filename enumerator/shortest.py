@@ -1,0 +1,37 @@
+"""The program `shortest`: the shortest course from a state of a sheet's table
+to a final state (document 02, S-3).
+
+    python3 enumerator/shortest.py SHEET [STATE]
+"""
+
+import sys
+
+from course import best_course
+from reading import letter_count
+from replay import file_bytes, opened
+from situations import letters
+
+
+def shortest_lines(sheet_text, start):
+    """The names, then the values of each letter of the course; there always is
+    one, since the table is a compile's."""
+    refusal, sheet, compiled, state = opened(sheet_text, start)
+    if refusal:
+        return [["refused", refusal]]
+    entries = [entry for row in compiled.entries for entry in row]
+    course = best_course(entries, compiled.finals, letter_count(sheet), state)
+    values = letters(sheet)
+    return [sheet.names] + [values[letter] for letter in course]
+
+
+def shortest(sheet_text, start=None):
+    """The bytes that `shortest` prints for the bytes of a sheet and the text
+    of a state, or no state."""
+    return "".join(" ".join(map(str, line)) + "\n" for line
+                   in shortest_lines(sheet_text, start)).encode()
+
+
+if __name__ == "__main__":
+    arguments = sys.argv[1:] + [""]
+    given = sys.argv[2].encode("latin-1", "replace") if len(sys.argv) > 2 else None
+    sys.stdout.buffer.write(shortest(file_bytes(arguments[0]), given))
