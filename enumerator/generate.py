@@ -325,7 +325,8 @@ def magnitude_bound_sheets():
 
 
 def alphabet_bound_sheets():
-    """1,024 and 1,025 letters, and products beyond a machine word."""
+    """1,024 and 1,025 letters, products beyond a machine word, and empty
+    ranges beside the widest."""
     top = str(10 ** 9)
     return [
         ("letters-1024", 0, one_stream(high=1023)),
@@ -338,6 +339,13 @@ def alphabet_bound_sheets():
         ("letters-two-to-the-64", 7, ["a b c d", chain("1", 3, "1"),
                                    chain("65536", 3, "65536")]),
         ("letters-two-to-the-32", 7, ["a b", "1 1", "65536 65536"]),
+        ("letters-1024-free", 0, ["a b", "0 0", "31 31"]),
+        ("letters-1024-beside-ones", 0, ["a b c", "5 -1024 7", "5 -1 7"]),
+        ("letters-1025-beside-ones", 7, ["a b c", "5 -1024 7", "5 0 7"]),
+        ("letters-1056", 7, ["a b", "0 0", "31 32"]),
+        ("letters-widest-range", 7, ["a b", "0 -" + top, "0 " + top]),
+        ("letters-none-last", 5, ["a b c", "0 0 5", top + " " + top + " 4"]),
+        ("letters-none-first", 5, ["a b c", "5 0 0", "4 " + top + " " + top]),
     ]
 
 

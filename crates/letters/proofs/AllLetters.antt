@@ -124,6 +124,15 @@ module _ (lows highs out : List ℤ) where
             let m = mul-le-mul-right (length streams) (let c : suc a ≤ count = omega arith in c) in
             subst (λ x. a * x + x ≤ length out) (sym width) (omega (arith, m, suc-mul a (length streams), fits))
 
+        -- So it can be written there.
+        pub letter-there : (a : ℕ) → a < r → (now : List ℤ) {at m : ℕ} → at ≡ a * n → m ≡ n → length now ≡ length out
+            → hasLetter streams a (length (take m (drop at now))) ≡ true
+        unfolding hasLetter
+        letter-there a b now {at} {m} p w long =
+            let room : m ≤ length (drop at now) = omega (arith, length-drop at now, letter-fits a b) in
+            let size = length-take-le m (drop at now) room in
+            simp (le-leb count letterBound (omega arith), lt-ltb a count (omega arith), le-leb (length streams) (length (take m (drop at now))) (omega (arith, width)))
+
         one-letter : (a : ℕ) → a < r → (rest : List ℤ) → length streams ≤ length rest → withLetter streams a (take (length streams) rest) ≡ letterOf streams a
         unfolding withLetter hasLetter
         one-letter a b rest k =

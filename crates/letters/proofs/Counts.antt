@@ -2,7 +2,7 @@
 use Prim.Native.Nat.{ℕ, zero, suc, _+_, _-_, _*_, _≤_, _<_, min}
 use native.Mathlib.Omega.{arith}
 use native.Mathlib.Decide.{decLe}
-use native.Mathlib.Nat.{mul-le-mul, mul-le-mul-left, mul-comm, mul-one, mul-zero, min-eq-left, min-eq-right}
+use native.Mathlib.Nat.{mul-le-mul-left, mul-comm, mul-one, mul-zero, min-eq-left, min-eq-right}
 use mathlib.Core.Path.{_≡_, refl, sym, _∙_, ap, ap₂, subst}
 use mathlib.Core.Bool.{Bool, true, false}
 use mathlib.Core.List.{List, [], _∷_}
@@ -71,9 +71,6 @@ cut-product a b = by (decLe a 1025) (decLe b 1025)
     by (no p) q = ap (λ x. cutCount (x * cutCount b)) (min-eq-right (omega arith)) ∙ cut-high a b (omega arith)
     by (yes p) (no q) =
         ap (λ x. cutCount (cutCount a * x)) (min-eq-right (omega arith)) ∙ ap cutCount (mul-comm (cutCount a) 1025) ∙ cut-high b a (omega arith) ∙ ap cutCount (mul-comm b a)
-
-pub product-fits : (a b : ℕ) → a ≤ 1025 → b ≤ 1025 → a * b ≤ 1025 * 1025
-product-fits a b p q = mul-le-mul p q
 
 -- ---- the streams that two lists describe
 

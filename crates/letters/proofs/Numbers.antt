@@ -6,17 +6,18 @@ use mathlib.Core.Path.{_≡_, refl, sym, _∙_, ap, ap₂, subst}
 use mathlib.Core.Bool.{Bool, true, false, cond, _&&_}
 use mathlib.Core.List.{List, [], _∷_, _++_, append-assoc}
 use lib.Arith.{digits-lt, digits-div, digits-mod}
-use lib.Dec.{leb}
+use lib.Dec.{leb, ltb}
 use lib.IntN.{ℤ, pos, natAbs, _+ℤ_, _-ℤ_}
 use lib.ListN.{length, getD, drop, take, set, take-append-drop}
 use lib.Seq.{drop-cons, drop-length, take-suc, set-at, length-take-le}
 use lib.Signed.{leZ}
-use borrow.Author.Tests.{le-leb, lt-leb, lt-ltb, le-ltb}
+use borrow.Author.Tests.{leb-true, ltb-true, le-leb, lt-leb, lt-ltb, le-ltb}
 use mir.Syntax.{w64}
 use mir.Val.{SFits}
 use Rattle.meaning.specs.Expression.{Stream}
 use Rattle.meaning.specs.Letter.{size, letterCount, letterNumber, letterOf}
 use Rattle.meaning.proofs.Letter.{size-within, within-size, letterNumber-bound}
+use Rattle.nodes.proofs.Parts.{and-true-left, and-true-right}
 use Rattle.nodes.proofs.Record.{letter-length}
 use Rattle.sheet.specs.Refusal.{letterBound}
 use Rattle.arithmetic.proofs.Machine.{held, held-both}
@@ -147,13 +148,33 @@ module _ (lows highs : List ℤ) where
       let w = size-within (ranged (getD lows i (pos 0)) (getD highs i (pos 0)) .range) (rest % v) d in
       between-fits (getD lows i (pos 0)) (getD lows i (pos 0) +ℤ pos (rest % v)) (getD highs i (pos 0)) fl fh (w .above) (w .below)
 
-  -- ---- what `letter_values` answers
+  -- ---- what `write_letter` and `letter_values` answer
 
   module _ (number : ℕ) (out : List ℤ) where
     abbrev streams : List Stream
     streams = described lows highs
 
-    -- The two parts of the answer: whether the letter is there, and the list.
+    -- What there is where a letter can be written.
+    pub letter-there : hasLetter streams number (length out) ≡ true → (number < count 0) × (count 0 ≤ 1024) × (width ≤ length out)
+    unfolding hasLetter
+    letter-there t =
+        let few = leb (letterCount streams) letterBound in
+        let known = ltb number (letterCount streams) in
+        let room = leb (length streams) (length out) in
+        let l = and-true-right few (known && room) t in (
+          ltb-true number (letterCount streams) (and-true-left known room l),
+          leb-true (letterCount streams) letterBound (and-true-left few (known && room) t),
+          let r = leb-true (length streams) (length out) (and-true-right known room l) in omega (arith, length-described lows highs),
+        )
+
+    -- The list with all streams written holds the letter.
+    pub all-written : hasLetter streams number (length out) ≡ true → {l : List ℤ} {i : ℕ} → i ≡ 0 → l ≡ written number out i → l ≡ withLetter streams number out
+    unfolding withLetter
+    all-written t z w =
+        let h = letter-there t in
+        w ∙ ap (written number out) z ∙ ap₂ (λ x y. letterOf streams x ++ drop y out) (mod-eq-of-lt (h .0)) (sym (length-described lows highs)) ∙ sym (simp t)
+
+    -- The two parts of the answer of `letter_values`: whether the letter is there, and the list.
     abbrev ValuesAnswer : Bool → List ℤ → Type 0
     ValuesAnswer r l = (r ≡ hasLetter streams number (length out)) × (l ≡ withLetter streams number out)
 
@@ -170,23 +191,18 @@ module _ (lows highs : List ℤ) where
       unfolding hasLetter
       not-number k = none-of (simp (le-leb (letterCount streams) letterBound (omega arith), le-ltb number (letterCount streams) (omega arith)))
 
-      module _ (k : number < r) where
-        pub no-room : {n : ℕ} → n ≡ width → length out < n → ValuesAnswer false out
+      module _ (k : number < r) {n : ℕ} (q : n ≡ width) where
+        pub no-room : length out < n → ValuesAnswer false out
         unfolding hasLetter
-        no-room q l =
+        no-room l =
             let d = length-described lows highs in
             none-of (simp (le-leb (letterCount streams) letterBound (omega arith), lt-ltb number (letterCount streams) (omega arith), lt-leb (length streams) (length out) (omega arith)))
 
-        pub some-letter : (0 < count 0) × (count 0 ≤ 1024)
-        some-letter = (omega arith, omega arith)
-
-        pub all-written : {n : ℕ} → n ≡ width → n ≤ length out → {l : List ℤ} {i : ℕ} → i ≡ 0 → l ≡ written number out i → ValuesAnswer true l
-        unfolding hasLetter withLetter
-        all-written q b {l} {i} z w =
+        pub can-write : n ≤ length out → hasLetter streams number (length out) ≡ true
+        unfolding hasLetter
+        can-write b =
             let d = length-described lows highs in
-            let t : hasLetter streams number (length out) ≡ true =
-            simp (le-leb (letterCount streams) letterBound (omega arith), lt-ltb number (letterCount streams) (omega arith), le-leb (length streams) (length out) (omega arith)) in
-            (sym t, w ∙ ap (written number out) z ∙ ap₂ (λ x y. letterOf streams x ++ drop y out) (mod-eq-of-lt (omega arith)) (sym d) ∙ sym (simp t))
+            simp (le-leb (letterCount streams) letterBound (omega arith), lt-ltb number (letterCount streams) (omega arith), le-leb (length streams) (length out) (omega arith))
 
 -- ---- from a letter to its number
 

@@ -1,13 +1,14 @@
 use basics::fewer;
 ghost use mathlib.Core.Path.{_≡_};
+ghost use mathlib.Core.Bool.{true};
 ghost use Prim.Native.Nat.{_+_, _*_, _≤_, min};
 ghost use lib.IntN.{pos, natAbs, _+ℤ_, _-ℤ_};
 ghost use lib.ListN.{length};
 ghost use lib.Signed.{_≤ℤ_};
 ghost use mir.Syntax.{w64};
 ghost use mir.Val.{SFits};
-ghost use Rattle.meaning.specs.Letter.{size, letterCount};
-ghost use Rattle.letters.specs.Described.{ranged, described, cutCount, numberOf, hasLetter, withLetter, hasRoom, withLetters};
+ghost use Rattle.meaning.specs.Letter.{size};
+ghost use Rattle.letters.specs.Described.{ranged, described, cutCount, LetterCountCall, LetterNumberCall, hasLetter, withLetter, hasRoom, withLetters};
 
 // How far a value lies above a lower one; 1,024 where it is more. The sum and the difference are taken only where they do not wrap.
 fn distance(low: i64, high: i64) -> u32
@@ -46,7 +47,7 @@ fn product(a: u32, b: u32) -> u32
 
 // How many letters there are: exact up to 1,024, and 1,025 where they are more.
 pub fn letter_count(lows: &[i64], highs: &[i64]) -> u32
-    ensures { λ r. ⌜ r ≡ cutCount (letterCount (described (now (lows .entry)) (now (highs .entry)))) ⌝ }
+    ensures { λ r. ⌜ LetterCountCall (now (lows .entry)) (now (highs .entry)) r ⌝ }
 {
     let mut i = fewer(lows.len(), highs.len());
     let mut count: u32 = 1;
@@ -65,6 +66,21 @@ fn raised(low: i64, digit: u32) -> i64
     low + digit as i64
 }
 
+// Writes the values of a letter that is there. Its caller has counted the letters, so that they are not counted again for each letter.
+fn write_letter(lows: &[i64], highs: &[i64], number: u32, out: &mut [i64])
+    requires { ⌜ hasLetter (described (now lows) (now highs)) number (length (now out)) ≡ true ⌝ }
+    ensures { λ r. ⌜ now (out .exit) ≡ withLetter (described (now (lows .entry)) (now (highs .entry))) number (now (out .entry)) ⌝ }
+{
+    let mut i = fewer(lows.len(), highs.len());
+    let mut rest = number;
+    while 0 < i {
+        i -= 1;
+        let size = values(lows[i], highs[i]);
+        out[i] = raised(lows[i], rest % size);
+        rest /= size;
+    }
+}
+
 // The values of the letter with a number, written to the front of `out`: "the last stream fastest, values rising from the lowest".
 pub fn letter_values(lows: &[i64], highs: &[i64], number: u32, out: &mut [i64]) -> bool
     ensures { λ r. ⌜ (r ≡ hasLetter (described (now (lows .entry)) (now (highs .entry))) number (length (now (out .entry)))) × (now (out .exit) ≡ withLetter (described (now (lows .entry)) (now (highs .entry))) number (now (out .entry))) ⌝ }
@@ -76,23 +92,16 @@ pub fn letter_values(lows: &[i64], highs: &[i64], number: u32, out: &mut [i64]) 
     if count <= number {
         return false;
     }
-    let mut i = fewer(lows.len(), highs.len());
-    if out.len() < i {
+    if out.len() < fewer(lows.len(), highs.len()) {
         return false;
     }
-    let mut rest = number;
-    while 0 < i {
-        i -= 1;
-        let size = values(lows[i], highs[i]);
-        out[i] = raised(lows[i], rest % size);
-        rest /= size;
-    }
+    write_letter(lows, highs, number, out);
     true
 }
 
 // The number of the letter with these values; 1,024, which no letter has, where they are no letter or the letters are more than 1,024.
 pub fn letter_number(lows: &[i64], highs: &[i64], letter: &[i64]) -> u32
-    ensures { λ r. ⌜ r ≡ numberOf (described (now (lows .entry)) (now (highs .entry))) (now (letter .entry)) ⌝ }
+    ensures { λ r. ⌜ LetterNumberCall (now (lows .entry)) (now (highs .entry)) (now (letter .entry)) r ⌝ }
 {
     let count = letter_count(lows, highs);
     if count == 0 {
@@ -144,7 +153,7 @@ pub fn fill_letters(lows: &[i64], highs: &[i64], out: &mut [i64]) -> bool
     let mut at = 0;
     while number < count {
         let end = at + n;
-        letter_values(lows, highs, number, &mut out[at..end]);
+        write_letter(lows, highs, number, &mut out[at..end]);
         at = end;
         number += 1;
     }

@@ -1,5 +1,5 @@
 -- The step of any machine at a byte, by the tests that tell the byte's class; and the number of a letter with one value more. From the definitions.
-use Prim.Native.Nat.{ℕ, zero, suc, _+_, _*_, _≤_, _<_}
+use Prim.Native.Nat.{ℕ, zero, suc, _+_, _*_, _^_, _≤_, _<_}
 use native.Mathlib.Omega.{arith}
 use mathlib.Core.Path.{_≡_, refl, sym, _∙_, ap, ap₂}
 use mathlib.Core.Bool.{Bool, true, false, _&&_}
@@ -17,7 +17,7 @@ use Rattle.meaning.specs.Expression.{Stream}
 use Rattle.meaning.specs.Letter.{letterCount}
 use Rattle.sheet.specs.Refusal.{letterBound}
 use Rattle.letters.specs.Described.{described, cutCount, numberOf}
-use Rattle.letters.proofs.Counts.{product-fits}
+use Rattle.letters.proofs.Widths.{next-number-fits}
 use Rattle.records.specs.Line.{isPlain}
 use Rattle.records.specs.Machine.{streamAt, nextNumber}
 
@@ -95,8 +95,8 @@ module _ (s : List Stream) (v : ℤ) {n d : ℕ} {w : ℤ} (h : n < 1024) (p : w
   number-outside k = sym (simp (lt-ltb n letterBound h, le-ltb (numberOf s (v ∷ [])) letterBound (omega (arith, digit))))
 
   module _ {c : ℕ} (f : c ≡ cutCount (letterCount s)) where
-    pub number-fits : n * c ≤ 1025 * 1025
-    number-fits = product-fits n c (omega arith) (omega arith)
+    pub number-fits : (width : ℕ) → 1025 * 1025 < 2 ^ width → d < 1024 → n * c + d < 2 ^ width
+    number-fits width wide k = next-number-fits width wide h (omega arith) (omega arith)
 
     pub number-more : d < 1024 → n * c + d ≡ nextNumber s n v
     number-more k = ap₂ (λ x y. n * x + y) f digit ∙ sym (simp (lt-ltb n letterBound h, lt-ltb (numberOf s (v ∷ [])) letterBound (omega (arith, digit))))

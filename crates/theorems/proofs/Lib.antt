@@ -7,3 +7,4 @@ pub mod RecordTexts
 pub mod Replaying
 pub mod WorkedRecords
 pub mod Courses
+pub mod LetterNumbers

@@ -4,3 +4,4 @@ pub mod Refusals
 pub mod Replaying
 pub mod WorkedRecords
 pub mod Courses
+pub mod LetterNumbers

@@ -6,7 +6,8 @@ use native.Mathlib.Nat.{zero-mul, suc-mul}
 use native.Mathlib.Omega.{arith}
 use lib.ListN.{length}
 use borrow.Author.Needs.{needs}
-use Rattle.letters.proofs.AllLetters.{filled, too-many, no-letter, no-room, filled-start, filled-again, letter-fits, all-filled}
+use Rattle.letters.proofs.AllLetters.{filled, too-many, no-letter, no-room, filled-start, filled-again, letter-fits, letter-there, all-filled}
+use Rattle.letters.proofs.Widths.{count-fits}
 use Rattle.letters.proofs.fill_letters.Statement.{statement}
 use Rattle.letters.proofs.fill_letters.Tie as tie
 
@@ -50,23 +51,29 @@ loop-holds c = let s = c .before .before .before .before .before in (refl, omega
 add-end : tie.Need-add-end Inv-loop μ-loop
 add-end c = omega (arith, fits-in c)
 
-mul-letter-values : tie.Need-mul-letter-values Inv-loop μ-loop
-mul-letter-values c = omega (arith, fits-in c)
+mul-write-letter : tie.Need-mul-write-letter Inv-loop μ-loop
+mul-write-letter c = omega (arith, fits-in c)
 
-sub-letter-values : tie.Need-sub-letter-values Inv-loop μ-loop
-sub-letter-values c = omega arith
+sub-write-letter : tie.Need-sub-write-letter Inv-loop μ-loop
+sub-write-letter c = omega arith
 
-part-letter-values-start : tie.Need-part-letter-values-start Inv-loop μ-loop
-part-letter-values-start c = omega arith
+part-write-letter-start : tie.Need-part-write-letter-start Inv-loop μ-loop
+part-write-letter-start c = omega arith
 
-part-letter-values-end : tie.Need-part-letter-values-end Inv-loop μ-loop
-part-letter-values-end c = omega (arith, fits-in c)
+part-write-letter-end : tie.Need-part-write-letter-end Inv-loop μ-loop
+part-write-letter-end c = omega (arith, fits-in c)
 
-letter-values-requires : tie.Need-letter-values-requires Inv-loop μ-loop
-letter-values-requires c κs = search needs
+write-letter-requires : tie.Need-write-letter-requires Inv-loop μ-loop
+write-letter-requires c κs =
+    let s = c .before .before .before .before .before .before .before .before in
+    let loop = c .before .before .loop in
+    let n = c .before .before .before .before .fewer .result in
+    let wide : loop .at + n - loop .at ≡ n = omega arith in
+    letter-there (s .args .lows .now) (s .args .highs .now) (s .args .out .now) (c .before .before .before .before .before .before .before .letter-count .ensures) (c .before .before .before .before .before .before .if1 .left) (c .before .before .before .before .fewer .ensures) (c .before .before .before .before .before .if2 .left) (c .before .before .before .if3 .left) (loop .number) (c .before .loop-test .taken)
+    (loop .out) (loop .inv .2) wide (loop .inv .0)
 
 add-number : tie.Need-add-number Inv-loop μ-loop
-add-number c = omega arith
+add-number c = record { fits = count-fits 32 (omega arith) (omega arith) }
 
 loop-less : tie.Need-loop-less Inv-loop μ-loop
 loop-less c = omega arith
@@ -82,7 +89,7 @@ loop-again c =
       omega arith,
       ap (λ x. x + n) (loop .inv .2) ∙ sym (suc-mul (loop .number) n) ∙ ap (λ x. x * n) more,
       filled-again (s .args .lows .now) (s .args .highs .now) (s .args .out .now) (c .before .before .before .before .before .before .before .before .before .letter-count .ensures) (c .before .before .before .before .before .before .before .before .if1 .left) (c .before .before .before .before .before .before .fewer .ensures) (c .before .before .before .before .before .before .before .if2 .left) (c .before .before .before .before .before .if3 .left) (loop .number) (c .before .before .before .loop-test .taken)
-          (loop .inv .2) wide (loop .inv .3) (c .before .letter-values .ensures .1)
+          (loop .inv .2) wide (loop .inv .3) (c .before .write-letter .ensures)
           ∙ ap (filled (s .args .lows .now) (s .args .highs .now) (s .args .out .now)) more,
     )
 
@@ -107,11 +114,11 @@ fill-letters-spec =
     returns-3
     loop-holds
     add-end
-    mul-letter-values
-    sub-letter-values
-    part-letter-values-start
-    part-letter-values-end
-    letter-values-requires
+    mul-write-letter
+    sub-write-letter
+    part-write-letter-start
+    part-write-letter-end
+    write-letter-requires
     add-number
     loop-less
     loop-again

@@ -1,5 +1,5 @@
 -- `letters::letter_number` meets its contract, from the first stream to the last. The loop's invariant is `Counted`: the values before i are in
--- their ranges, and the number so far counts the letters of the streams before i.
+-- their ranges, and the number so far counts the letters of the streams before i. Its products and sums fit 32 bits by the law for any width (Widths).
 use Prim.Native.Nat.{_+_, _-_, _*_, _≤_, _<_, min}
 use native.Mathlib.Omega.{arith}
 use native.Mathlib.Numerals.{add-one}
@@ -15,6 +15,7 @@ use Rattle.letters.specs.Described.{ranged}
 use Rattle.letters.proofs.Above.{ltZ-false}
 use Rattle.letters.proofs.Counts.{below-no, below-yes, countFrom}
 use Rattle.letters.proofs.Numbers.{size-exact, Counted, counted-start, counted-again, next-small, value-low, value-high, digit-exact, no-letters, letters-above, other-length, no-value, some-letters, all-counted}
+use Rattle.letters.proofs.Widths.{count-fits}
 use Rattle.letters.proofs.letter_number.Statement.{statement}
 use Rattle.letters.proofs.letter_number.Tie as tie
 
@@ -109,14 +110,23 @@ values-requires c κs = search needs
 distance-requires : tie.Need-distance-requires Inv-loop μ-loop
 distance-requires c κs = ltZ-false _ _ (c .before .before .if4 .left)
 
-mul-number : tie.Need-mul-number Inv-loop μ-loop
-mul-number c = let s = c .before .before .before .before .before .before .before .before .before .before .before .before .before .before in let t = turn (c .before) in omega (arith, next-small (s .args .lows .now) (s .args .highs .now) (s .args .letter .now) (c .before .before .before .before .before .before .before .before .loop .i) (t .below) (t .long) (c .before .before .before .before .before .before .before .before .loop .inv) (t .positive) (t .few) (t .above-low) (t .below-high), ap (λ x. c .before .before .before .before .before .before .before .before .loop .number * x) (t .size-is))
-
-add-number : tie.Need-add-number Inv-loop μ-loop
-add-number c =
+-- The number with one digit more is below 1,024.
+next-below : (c : tie.After-distance Inv-loop μ-loop)
+    → c .before .before .before .before .before .before .before .before .loop .number * c .before .values .result + c .distance .result < 1024
+next-below c =
     let s = c .before .before .before .before .before .before .before .before .before .before .before .before .before .before in
     let t = turn (c .before) in
-    omega (arith, next-small (s .args .lows .now) (s .args .highs .now) (s .args .letter .now) (c .before .before .before .before .before .before .before .before .loop .i) (t .below) (t .long) (c .before .before .before .before .before .before .before .before .loop .inv) (t .positive) (t .few) (t .above-low) (t .below-high), ap (λ x. c .before .before .before .before .before .before .before .before .loop .number * x) (t .size-is), digit-exact (s .args .lows .now) (s .args .highs .now) (s .args .letter .now) (c .before .before .before .before .before .before .before .before .loop .i) (t .below) (t .long) (c .before .before .before .before .before .before .before .before .loop .inv) (t .positive) (t .few) (t .above-low) (t .below-high) (c .distance .ensures ∙ held-both (λ a b. min (natAbs (b -ℤ a)) 1024) (getD (s .args .lows .now) (c .before .before .before .before .before .before .before .before .loop .i) (pos 0)) (getD (s .args .letter .now) (c .before .before .before .before .before .before .before .before .loop .i) (pos 0)) (record { sfits = c .before .before .before .before .before .before .low .given }) (record { sfits = c .before .before .before .before .value .given })))
+    let loop = c .before .before .before .before .before .before .before .before .loop in
+    let low = getD (s .args .lows .now) (loop .i) (pos 0) in
+    let value = getD (s .args .letter .now) (loop .i) (pos 0) in
+    let digit = c .distance .ensures ∙ held-both (λ a b. min (natAbs (b -ℤ a)) 1024) low value (record { sfits = c .before .before .before .before .before .before .low .given }) (record { sfits = c .before .before .before .before .value .given }) in
+    omega (arith, next-small (s .args .lows .now) (s .args .highs .now) (s .args .letter .now) (loop .i) (t .below) (t .long) (loop .inv) (t .positive) (t .few) (t .above-low) (t .below-high), ap (λ x. loop .number * x) (t .size-is), digit-exact (s .args .lows .now) (s .args .highs .now) (s .args .letter .now) (loop .i) (t .below) (t .long) (loop .inv) (t .positive) (t .few) (t .above-low) (t .below-high) digit)
+
+mul-number : tie.Need-mul-number Inv-loop μ-loop
+mul-number c = record { fits = count-fits 32 (omega arith) (omega (arith, next-below c)) }
+
+add-number : tie.Need-add-number Inv-loop μ-loop
+add-number c = record { fits = count-fits 32 (omega arith) (omega (arith, next-below c)) }
 
 add-i : tie.Need-add-i Inv-loop μ-loop
 add-i c = omega (arith, c .before .before .before .before .before .before .before .loop-test .taken, c .before .before .before .before .before .before .before .before .before .before .fewer .ensures, c .before .before .before .before .before .before .before .before .before .before .before .before .before .before .good)

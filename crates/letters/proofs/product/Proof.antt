@@ -1,12 +1,12 @@
--- `letters::product` meets its contract: a product of two cut counts fits.
+-- `letters::product` meets its contract: a product of two cut counts fits 32 bits, by the law for any width (Widths).
 use native.Mathlib.Omega.{arith}
 use borrow.Author.Needs.{needs}
-use Rattle.letters.proofs.Counts.{product-fits}
+use Rattle.letters.proofs.Widths.{product-fits}
 use Rattle.letters.proofs.product.Statement.{statement}
 use Rattle.letters.proofs.product.Tie as tie
 
 mul-all : tie.Need-mul-all
-mul-all c = omega (arith, product-fits (c .args .a) (c .args .b) (c .pre .0) (c .pre .1))
+mul-all c = record { fits = product-fits 32 (omega arith) (c .pre .0) (c .pre .1) }
 
 returns : tie.Need-returns
 returns c = search needs

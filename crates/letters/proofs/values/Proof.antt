@@ -2,11 +2,12 @@
 use mathlib.Core.Path.{_∙_, ap}
 use Prim.Native.Nat.{min}
 use lib.IntN.{natAbs, _-ℤ_}
-use borrow.Author.Needs.{needs}
+use native.Mathlib.Omega.{arith}
 use Rattle.letters.specs.Described.{cutCount}
 use Rattle.arithmetic.proofs.Machine.{held-both}
 use Rattle.letters.proofs.Above.{ltZ-false}
 use Rattle.letters.proofs.Counts.{held-order, empty-size, size-cut}
+use Rattle.letters.proofs.Widths.{count-fits}
 use Rattle.letters.proofs.values.Statement.{statement}
 use Rattle.letters.proofs.values.Tie as tie
 
@@ -17,7 +18,7 @@ distance-requires : tie.Need-distance-requires
 distance-requires c κs = ltZ-false _ _ (c .if1 .left)
 
 add-result : tie.Need-add-result
-add-result c = search needs
+add-result c = record { fits = count-fits 32 (omega arith) (omega (arith, c .distance .ensures)) }
 
 returns-2 : tie.Need-returns-2
 returns-2 c =
