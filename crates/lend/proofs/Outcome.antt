@@ -20,7 +20,7 @@ use Rattle.outcome.proofs.Answers.{one-number, one-sheet, refused≢sheet}
 use Rattle.outcome.proofs.AcceptedCompile.{refusal-positive, accepted-compile}
 use Rattle.outcome.proofs.CompileUnique.{compile-unique}
 use Rattle.outcome.proofs.CompileTotal.{compile-total}
-use Rattle.lend.specs.Lend.{lentRoom, CompiledLent, RefusedLent, unread, notCompiled, LentCall}
+use Rattle.lend.specs.Lend.{lentRoom, CompiledLent, RefusedLent, unread, notCompiled, HasOutcome, isRefused, isCompiled, LentCall}
 
 -- ---- one outcome
 
@@ -51,10 +51,6 @@ module _ {text : List ℕ} where
   refused-not-compiled (notCompiled c h) d z = omega (arith, ap (λ a. a .refusal) (compiled-unique c d .1 .0))
 
 -- ---- and always one
-
-pub data HasOutcome (text : List ℕ) : Type 0 where
-  isRefused : {n : ℕ} → RefusedLent text n → HasOutcome text
-  isCompiled : {s : Sheet} {a : CompileAnswer} {t : Tables} → CompiledLent text s a t → a .refusal ≡ 0 → HasOutcome text
 
 pub lent-total : (text : List ℕ) → HasOutcome text
 lent-total text = go (answerTo text) (answer-correct text)

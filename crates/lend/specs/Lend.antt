@@ -43,6 +43,11 @@ pub data RefusedLent (text : List ℕ) : ℕ → Type 0 where
   -- a refusal of the compile in the rows lent
   notCompiled : {s : Sheet} {a : CompileAnswer} {t : Tables} → CompiledLent text s a t → 0 < a .refusal → RefusedLent text (a .refusal)
 
+-- There is an outcome.
+pub data HasOutcome (text : List ℕ) : Type 0 where
+  isRefused : {n : ℕ} → RefusedLent text n → HasOutcome text
+  isCompiled : {s : Sheet} {a : CompileAnswer} {t : Tables} → CompiledLent text s a t → a .refusal ≡ 0 → HasOutcome text
+
 -- ---- what a call leaves in arrays for all rows
 
 -- Entries and final bytes, with the work tables of so many rows: "work tables are zero after every call".

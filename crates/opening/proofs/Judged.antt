@@ -16,8 +16,7 @@ use Rattle.sheet.specs.Refusal.{magnitudeBound}
 use Rattle.sheet.specs.Reading.{isBeyond}
 use Rattle.scan.specs.Integer.{noInteger, integerWithin, integerRead}
 use Rattle.arithmetic.proofs.Machine.{held, number-natural, number-negative}
-use Rattle.replaying.specs.Replay.{isStateBelow, startState}
-use Rattle.opening.specs.Opens.{startText, stateOf}
+use Rattle.opening.specs.Start.{startText, isStateBelow, startState, stateOf}
 
 -- ---- a number
 

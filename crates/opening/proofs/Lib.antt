@@ -1,3 +1,4 @@
+pub mod StartLaws
 pub mod Judged
 pub mod Opening
 pub mod Plays

@@ -1,5 +1,5 @@
--- What `replay` prints is there for every sheet, record and start, and is one; and a program that prints the refusal that `open` gives, or plays the
--- record from the state and with the entries that it gives, prints it. From the one outcome of a compile in the rows lent (lend).
+-- What `replay` prints is there for every sheet, record and start, and is one; and a program that prints the refusal that `open_table` gives, or plays
+-- the record from the state and with the entries that it gives, prints it. From the one outcome of a compile in the rows lent (lend).
 use Prim.Native.Nat.{ℕ, zero, suc, _+_, _-_, _*_, _<_}
 use native.Mathlib.Omega.{arith}
 use mathlib.Core.Path.{_≡_, refl, sym, _∙_, ap, subst}
@@ -10,23 +10,20 @@ use lib.ListN.{length, getD}
 use Rattle.text.specs.Bytes.{Token, lines}
 use Rattle.meaning.specs.Expression.{Stream, Sheet}
 use Rattle.meaning.specs.Letter.{letterCount}
-use Rattle.sheet.specs.Refusal.{sheet, AnswerTo}
 use Rattle.sheet.specs.Form.{namesOf}
-use Rattle.reader.specs.Stored.{storedSheet}
 use Rattle.basics.proofs.Clearing.{zeros as zero-at}
 use Rattle.outcome.specs.Room.{zeros}
 use Rattle.outcome.specs.Compile.{CompileAnswer, Tables}
-use Rattle.lend.specs.Lend.{CompiledLent}
-use Rattle.lend.proofs.Outcome.{compiled-unique, refused-positive, refused-unique, refused-not-compiled, HasOutcome, isRefused, isCompiled, lent-total, stored-is}
+use Rattle.lend.specs.Lend.{CompiledLent, HasOutcome, isRefused, isCompiled}
+use Rattle.lend.proofs.Outcome.{compiled-unique, refused-positive, refused-unique, refused-not-compiled, lent-total, stored-is}
 use Rattle.print.specs.Text.{refusalLine}
 use Rattle.records.specs.Line.{ValueLine, malformed, outside, letter, valueLine, isNamesLine}
-use Rattle.replaying.specs.Replay.{startState, replayHeading, lineThen, outcomeFrom, entered, replayed, replayedLines}
-use Rattle.opening.specs.declared.Opened.{Opened}
-use Rattle.opening.specs.Plays.{Plays, refusedSheet, noStart, played}
+use Rattle.replaying.specs.Replay.{replayHeading, lineThen, outcomeFrom, entered, replayed, replayedLines}
 use Rattle.opening.specs.declared.OpenedTable.{OpenedTable}
-use Rattle.opening.specs.Opens.{openedAs, tableOpenedAs, Opens, OpensTable}
-use Rattle.opening.specs.Opens.Opens.{refusedSheet as givesRefusal, noStart as givesNoStart, opened}
-use Rattle.opening.specs.Opens.OpensTable.{refusedSheet as givesNoTable, noStart as givesNoState, opened as table}
+use Rattle.opening.specs.Start.{startState}
+use Rattle.opening.specs.Plays.{Plays, refusedSheet, noStart, played, HasOutput}
+use Rattle.opening.specs.Printing.{PlaysOpened}
+use Rattle.opening.specs.Opens.{openedAs, OpensTable, OpensTable.refusedSheet as givesRefusal, OpensTable.noStart as givesNoStart, OpensTable.opened as opened}
 
 -- ---- one outcome
 
@@ -59,42 +56,25 @@ module _ {text : List ℕ} (start : Option Token) where
         let state = same-state c d e f in
         λ i. replayedLines (same .0 i .streams) (same .1 .1 i .entries) (state i) (lines recordText)
 
-  -- What `open` gives back, and what it leaves in the entries, is one.
-  pub opens-unique : {r q : Opened} {entries others : List ℕ} → Opens text start r entries → Opens text start q others → (r ≡ q) × (entries ≡ others)
-  opens-unique (givesRefusal r) (givesRefusal q) = (ap (λ n. openedAs n 0 text) (refused-unique r q), refl)
+  -- What `open_table` gives back and leaves in entries and final bytes is one.
+  pub opens-unique : {r q : OpenedTable} {entries others finals others′ : List ℕ} → OpensTable text start r entries finals → OpensTable text start q others others′ → (r ≡ q) × (entries ≡ others) × (finals ≡ others′)
+  opens-unique (givesRefusal r) (givesRefusal q) = (ap (λ n. openedAs n 0 0 text) (refused-unique r q), refl, refl)
   opens-unique (givesRefusal r) (givesNoStart d z f) = absurd (refused-not-compiled r d z)
   opens-unique (givesRefusal r) (opened d z f) = absurd (refused-not-compiled r d z)
   opens-unique (givesNoStart c y e) (givesRefusal q) = absurd (refused-not-compiled q c y)
-  opens-unique (givesNoStart c y e) (givesNoStart d z f) = (refl, refl)
+  opens-unique (givesNoStart c y e) (givesNoStart d z f) = (refl, refl, refl)
   opens-unique (givesNoStart c y e) (opened d z f) = absurd (none≢some (sym (same-start c d e refl)) f)
   opens-unique (opened c y e) (givesRefusal q) = absurd (refused-not-compiled q c y)
   opens-unique (opened c y e) (givesNoStart d z f) = absurd (none≢some f (sym (same-start c d e refl)))
   opens-unique (opened c y e) (opened d z f) =
-      (ap (λ i. openedAs 0 i text) (same-state c d e f), ap (λ t. t .entries ++ zeros (32768 - length (t .entries))) (compiled-unique c d .1 .1))
-
-  -- So is what `open_table` gives back and leaves in entries and final bytes.
-  pub opens-table-unique : {r q : OpenedTable} {entries others finals others′ : List ℕ} → OpensTable text start r entries finals → OpensTable text start q others others′ → (r ≡ q) × (entries ≡ others) × (finals ≡ others′)
-  opens-table-unique (givesNoTable r) (givesNoTable q) = (ap (λ n. tableOpenedAs 0 n 0 text) (refused-unique r q), refl, refl)
-  opens-table-unique (givesNoTable r) (givesNoState d z f) = absurd (refused-not-compiled r d z)
-  opens-table-unique (givesNoTable r) (table d z f) = absurd (refused-not-compiled r d z)
-  opens-table-unique (givesNoState c y e) (givesNoTable q) = absurd (refused-not-compiled q c y)
-  opens-table-unique (givesNoState c y e) (givesNoState d z f) = (refl, refl, refl)
-  opens-table-unique (givesNoState c y e) (table d z f) = absurd (none≢some (sym (same-start c d e refl)) f)
-  opens-table-unique (table c y e) (givesNoTable q) = absurd (refused-not-compiled q c y)
-  opens-table-unique (table c y e) (givesNoState d z f) = absurd (none≢some f (sym (same-start c d e refl)))
-  opens-table-unique (table c y e) (table d z f) =
       let same = compiled-unique c d in
       let state = same-state c d e f in (
-        λ i. tableOpenedAs (same .1 .0 i .states) 0 (state i) text,
+        λ i. openedAs 0 (same .1 .0 i .states) (state i) text,
         ap (λ t. t .entries ++ zeros (32768 - length (t .entries))) (same .1 .1),
         ap (λ t. t .finals ++ zeros (256 - length (t .finals))) (same .1 .1),
       )
 
 -- ---- and always one
-
-pub record HasOutput (text recordText : List ℕ) (start : Option Token) : Type 0 where
-  pub bytes : List ℕ
-  pub plays : Plays text recordText start bytes
 
 pub plays-total : (text recordText : List ℕ) (start : Option Token) → HasOutput text recordText start
 plays-total text recordText start = go (lent-total text)
@@ -131,22 +111,15 @@ module _ (ss : List Stream) (entries others : List ℕ) (same : (i : ℕ) → ge
   same-lines state [] = refl
   same-lines state (l ∷ ls) = ap (λ printed. cond (isNamesLine (namesOf ss) l) (replayHeading ++ printed) (refusalLine 13)) (same-replayed ls 1 state)
 
--- ---- what a program prints with what `open` gives back
-
--- The stored sheet is that of the text, and each record is played along the entries from the state.
-pub record PlaysOpened (text : List ℕ) (start : Option Token) (r : Opened) (entries : List ℕ) : Type 0 where
-  pub source : Sheet
-  pub reads : AnswerTo text (sheet source)
-  pub stored : r .sheet ≡ storedSheet source
-  pub plays : (recordText : List ℕ) → Plays text recordText start (replayedLines (source .streams) entries (r .state) (lines recordText))
+-- ---- what a program prints with what `open_table` gives back
 
 module _ {text : List ℕ} {start : Option Token} where
-  pub refused-plays : {r : Opened} {entries : List ℕ} → Opens text start r entries → 0 < r .refusal → (recordText : List ℕ) → Plays text recordText start (refusalLine (r .refusal))
+  pub refused-plays : {r : OpenedTable} {entries finals : List ℕ} → OpensTable text start r entries finals → 0 < r .refusal → (recordText : List ℕ) → Plays text recordText start (refusalLine (r .refusal))
   refused-plays (givesRefusal r) h recordText = refusedSheet r
   refused-plays (givesNoStart c z e) h recordText = noStart c z e
   refused-plays (opened c z e) h recordText = absurd (omega arith)
 
-  pub opened-plays : {r : Opened} {entries : List ℕ} → Opens text start r entries → r .refusal ≡ 0 → PlaysOpened text start r entries
+  pub opened-plays : {r : OpenedTable} {entries finals : List ℕ} → OpensTable text start r entries finals → r .refusal ≡ 0 → PlaysOpened text start r entries
   opened-plays (givesRefusal r) z = absurd (omega (arith, refused-positive r))
   opened-plays (givesNoStart c y e) z = absurd (omega arith)
   opened-plays (opened {s} {t = t} {state} c y e) z =

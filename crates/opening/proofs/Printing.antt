@@ -1,15 +1,15 @@
--- What the program `replay` prints by its calls is what document 02 says of the sheet, the record and the start: the sheet that `open` gives is passed
--- with its lists cut to the streams, all chunks of the record are played in turn, whatever their sizes, and the record is ended. Said in the terms of
--- the calls' contracts (replaying, Machine); reads, writes and the loop of the program itself are not spoken of. From what is printed with what `open`
--- gives (Plays), the law of records in chunks (replaying, Chunks), and the parts of a stored sheet (situations, Stored).
+-- What the program `replay` prints by its calls is what document 02 says of the sheet, the record and the start: the sheet that `open_table` gives is
+-- passed with its lists cut to the streams, all chunks of the record are played in turn, whatever their sizes, and the record is ended. Said in the terms of
+-- the calls' contracts (replaying, Machine); reads, writes and the loop of the program itself are not spoken of. From what is printed with what
+-- `open_table` gives (Plays), the law of records in chunks (replaying, Chunks), and the parts of a stored sheet (situations, Stored).
 use Prim.Native.Nat.{ℕ, _-_, _<_, min}
 use native.Mathlib.Omega.{arith}
 use mathlib.Core.Path.{_≡_, refl, sym, _∙_, ap, subst}
-use mathlib.Core.List.{List, []}
+use mathlib.Core.List.{List}
 use mathlib.Core.Option.{Option}
 use lib.ListN.{length, take, replicate, length-map}
 use Rattle.text.specs.Bytes.{Token, lines}
-use Rattle.text.specs.Lines.{allChunks, runChunks}
+use Rattle.text.specs.Lines.{allChunks}
 use Rattle.meaning.specs.Expression.{Sheet}
 use Rattle.sheet.specs.Accepted.{Accepted}
 use Rattle.sheet.proofs.Accepted.{accepted-facts}
@@ -17,22 +17,13 @@ use Rattle.reader.specs.declared.Sheet.{Sheet as StoredSheet}
 use Rattle.reader.specs.Stored.{nameBytes, nameLengths, storedSheet}
 use Rattle.situations.proofs.Stored.{IsPadded, part-held, held-lows, held-highs}
 use Rattle.replaying.specs.Replay.{replayedLines}
-use Rattle.replaying.specs.Machine.{PlayedSheet, playedSheet, playing, startReplay, playByte, lastLine, closed}
+use Rattle.replaying.specs.Machine.{playedSheet}
 use Rattle.replaying.proofs.Chunks.{stored, replay-chunks}
-use Rattle.opening.specs.declared.Opened.{Opened}
+use Rattle.opening.specs.declared.OpenedTable.{OpenedTable}
 use Rattle.opening.specs.Plays.{Plays}
-use Rattle.opening.specs.Opens.{Opens}
+use Rattle.opening.specs.Opens.{OpensTable}
+use Rattle.opening.specs.Printing.{passedSheet, printedBy}
 use Rattle.opening.proofs.Plays.{opened-plays}
-
--- The sheet as the program passes it: the names uncut, the other lists cut to the streams.
-abbrev pub passedSheet : StoredSheet → List ℕ → PlayedSheet
-passedSheet x entries =
-    let streams = min (x .streams) 8 in
-    playedSheet (x .names) (take streams (x .lengths)) (take streams (x .lows)) (take streams (x .highs)) entries
-
--- What the calls print for the chunks of a record, from a state, with its end.
-abbrev pub printedBy : PlayedSheet → ℕ → List (List ℕ) → List ℕ
-printedBy k state chunks = closed k (lastLine k (runChunks (playByte k) (playing (startReplay state) []) chunks)) .printed
 
 -- ---- the stored sheet, cut to the streams
 
@@ -65,7 +56,7 @@ module _ (s : Sheet) (accepted : Accepted s) {x : StoredSheet} (same : x ≡ sto
 -- ---- the lines printed
 
 -- "prints `line state`, then one such line per value line [..] with the state reached"; for a refusal see `refused-plays` (Plays).
-pub calls-print : {text : List ℕ} {start : Option Token} {r : Opened} {entries : List ℕ} → Opens text start r entries → r .refusal ≡ 0 → (chunks : List (List ℕ)) → length (allChunks chunks) < 18446744073709551616
+pub calls-print : {text : List ℕ} {start : Option Token} {r : OpenedTable} {entries finals : List ℕ} → OpensTable text start r entries finals → r .refusal ≡ 0 → (chunks : List (List ℕ)) → length (allChunks chunks) < 18446744073709551616
     → Plays text (allChunks chunks) start (printedBy (passedSheet (r .sheet) entries) (r .state) chunks)
 calls-print {text} {start} {r} {entries} o z chunks few =
     let p = opened-plays o z in

@@ -1,2 +1,4 @@
+pub mod Start
 pub mod Plays
 pub mod Opens
+pub mod Printing

@@ -8,7 +8,8 @@ use Rattle.meaning.specs.Expression.{Sheet}
 use Rattle.outcome.specs.Compile.{CompileAnswer, Tables}
 use Rattle.lend.specs.Lend.{CompiledLent, RefusedLent}
 use Rattle.print.specs.Text.{refusalLine}
-use Rattle.replaying.specs.Replay.{startState, replayedLines}
+use Rattle.replaying.specs.Replay.{replayedLines}
+use Rattle.opening.specs.Start.{startState}
 
 pub data Plays (sheetText recordText : List ℕ) (start : Option Token) : List ℕ → Type 0 where
   -- "A refused sheet or start, or names that differ, print no heading." The sheet's numbers come before all others.
@@ -19,3 +20,8 @@ pub data Plays (sheetText recordText : List ℕ) (start : Option Token) : List �
   -- "reads sheet and record and prints `line state`, then one such line per value line [..] with the state reached"
   played : {s : Sheet} {a : CompileAnswer} {t : Tables} {state : ℕ} → CompiledLent sheetText s a t → a .refusal ≡ 0 → startState (a .states) start ≡ some state
       → Plays sheetText recordText start (replayedLines (s .streams) (t .entries) state (lines recordText))
+
+-- There is an outcome.
+pub record HasOutput (sheetText recordText : List ℕ) (start : Option Token) : Type 0 where
+  pub bytes : List ℕ
+  pub plays : Plays sheetText recordText start bytes

@@ -3,20 +3,15 @@ ghost use mathlib.Core.Path.{_≡_};
 ghost use mathlib.Core.Option.{none};
 ghost use Prim.Native.Nat.{_≤_};
 ghost use Rattle.sheet.specs.Refusal.{magnitudeBound};
-ghost use Rattle.replaying.specs.Replay.{startState};
-ghost use Rattle.opening.specs.Opens.{startText, Opens, OpensTable, stateOf, judged};
+ghost use Rattle.opening.specs.Start.{startText, startState, stateOf, judged};
+ghost use Rattle.opening.specs.Opens.{OpensTable};
 
-// The refusal's number, or 0 with the state to start from; and the sheet as it is read.
-pub struct Opened {
+// The refusal's number, or 0 with the number of states and the state to start from; and the sheet as it is read.
+pub struct OpenedTable {
     pub refusal: u32,
+    pub states: u32,
     pub state: u32,
     pub sheet: reader::Sheet,
-}
-
-// The same with the number of states, which is 0 after a refusal.
-pub struct OpenedTable {
-    pub states: u32,
-    pub opened: Opened,
 }
 
 // Whether a start is a state of the table, and the state, or 0.
@@ -87,12 +82,10 @@ pub fn open_table(
     let refusal = compiled.refusal;
     if refusal != 0 {
         return OpenedTable {
+            refusal: refusal,
             states: 0,
-            opened: Opened {
-                refusal: refusal,
-                state: 0,
-                sheet: sheet,
-            },
+            state: 0,
+            sheet: sheet,
         };
     }
     let judged = judge_start(compiled.states, given, start);
@@ -100,29 +93,16 @@ pub fn open_table(
         basics::clear_entries(entries, 0);
         basics::clear_bytes(finals, 0);
         return OpenedTable {
+            refusal: 11,
             states: 0,
-            opened: Opened {
-                refusal: 11,
-                state: 0,
-                sheet: sheet,
-            },
+            state: 0,
+            sheet: sheet,
         };
     }
     OpenedTable {
+        refusal: 0,
         states: compiled.states,
-        opened: Opened {
-            refusal: 0,
-            state: judged.state,
-            sheet: sheet,
-        },
+        state: judged.state,
+        sheet: sheet,
     }
-}
-
-// The same without the final bytes, which a record does not need.
-pub fn open(text: &[u8], given: bool, start: &[u8], entries: &mut [u16; 32768]) -> Opened
-    ensures { λ r. ⌜ Opens (now (text .entry)) (startText given (now (start .entry))) r (now (entries .exit)) ⌝ }
-{
-    let mut finals = [0u8; 256];
-    let table = open_table(text, given, start, entries, &mut finals);
-    table.opened
 }

@@ -1,3 +1,4 @@
 pub mod Lines
 pub mod Refused
+pub mod Handed
 pub mod Output

@@ -1,23 +1,26 @@
-// Writes what `replay` prints to standard output, chunk after chunk of a record. The crate `replaying` gives the bytes; what is left here is the loop
-// that writes them. No contract can say what reaches standard output: it is said which bytes of the record are played where all writes were whole.
+// Writes what `replay` prints for a chunk of a record to standard output. The crate `replaying` gives the bytes; what is left here is the loop that writes
+// them, by way of lent bytes, and counts those that it hands over.
 ghost use mathlib.Core.Path.{_≡_};
-ghost use lib.ListN.{length};
-ghost use Rattle.print.specs.Text.{refusalLine};
-ghost use Rattle.replaying.specs.Machine.{playedSheet, lastText};
-ghost use Rattle.playback.specs.Written.{WritesChunk};
-use libc::STDOUT_FILENO;
+ghost use Prim.Native.Nat.{_+_, min};
+ghost use Rattle.replaying.specs.Machine.{playedSheet};
+ghost use Rattle.playback.specs.Written.{highestCount, WritesChunk};
 use replaying::Replay;
 
-// Where the reading stands, and whether each write took all of its bytes.
+// Where the reading stands, how many bytes were taken by writes, and whether each write took all of its bytes.
 pub struct Written {
     pub replay: Replay,
+    pub size: usize,
     pub whole: bool,
 }
 
-// How many bytes a line has, and whether the write took all of them.
-pub struct Handed {
-    pub size: usize,
-    pub whole: bool,
+// The sum; the highest number of the machine stays, so that no sum wraps.
+fn add_size(size: usize, more: usize) -> usize
+    ensures { λ r. ⌜ r ≡ min (size + more) highestCount ⌝ }
+{
+    if more <= 18446744073709551615 - size {
+        return size + more;
+    }
+    18446744073709551615
 }
 
 // Plays all bytes of a chunk, and writes what they print by way of the lent bytes. Lent bytes without room for a line count as a write that fails.
@@ -31,10 +34,11 @@ pub fn write_chunk(
     entries: &[u16],
     out: &mut [u8],
 ) -> Written
-    ensures { λ r. ⌜ WritesChunk (playedSheet (now (names .entry)) (now (lengths .entry)) (now (lows .entry)) (now (highs .entry)) (now (entries .entry))) replay (now (chunk .entry)) r ⌝ }
+    ensures { λ r. ⌜ WritesChunk (playedSheet (now (names .entry)) (now (lengths .entry)) (now (lows .entry)) (now (highs .entry)) (now (entries .entry))) replay (now (chunk .entry)) (now (out .entry)) (now (out .exit)) r ⌝ }
 {
     let mut playing = replay;
     let mut at = 0;
+    let mut size = 0;
     let mut whole = 32 <= out.len();
     while whole {
         if chunk.len() <= at {
@@ -53,42 +57,14 @@ pub fn write_chunk(
         );
         playing = advanced.replay;
         at = advanced.next;
-        let size = advanced.size;
-        whole = io::write_all(STDOUT_FILENO, &out[..size]);
+        let printed = advanced.size;
+        let handed = output::write_front(out, printed);
+        size = add_size(size, handed.size);
+        whole = handed.whole;
     }
     Written {
         replay: playing,
+        size: size,
         whole: whole,
-    }
-}
-
-// Ends the record, and writes what its end prints.
-pub fn write_end(
-    replay: Replay,
-    names: &[u8],
-    lengths: &[u8],
-    lows: &[i64],
-    highs: &[i64],
-    entries: &[u16],
-) -> Handed
-    ensures { λ r. ⌜ r .size ≡ length (lastText (playedSheet (now (names .entry)) (now (lengths .entry)) (now (lows .entry)) (now (highs .entry)) (now (entries .entry))) replay 32) ⌝ }
-{
-    let mut line = [0u8; 32];
-    let size = replaying::finish(replay, names, lengths, lows, highs, entries, &mut line);
-    Handed {
-        size: size,
-        whole: io::write_all(STDOUT_FILENO, &line[..size]),
-    }
-}
-
-// Writes the line of a refusal.
-pub fn write_refusal(number: u32) -> Handed
-    ensures { λ r. ⌜ r .size ≡ length (refusalLine number) ⌝ }
-{
-    let mut line = [0u8; 32];
-    let size = print::refusal_line(number, &mut line);
-    Handed {
-        size: size,
-        whole: io::write_all(STDOUT_FILENO, &line[..size]),
     }
 }

@@ -3,12 +3,13 @@
 // fails, the lines printed remain, and a barred byte stands for what was not read. Failed reads and writes are told on standard error.
 use basics::fewer;
 use libc::STDERR_FILENO;
-use opening::Opened;
+use opening::OpenedTable;
 use replaying::Replay;
 use replaying::Stage;
 
-// Chunks of 65,536 bytes up to every length that a file can have, so that line numbers fit.
-const TURNS: u64 = 140737488355328;
+// The most reads of a record, so that the loop ends and line numbers fit. Full reads, of 65,536 bytes, come to every length that a file can have; a read
+// may be shorter.
+const READS: u64 = 140737488355328;
 
 // Whether all lines were written, and whether a read failed.
 struct Played {
@@ -38,6 +39,21 @@ fn has_ended(replay: Replay) -> bool {
     }
 }
 
+// Ends the record, and writes what its end prints; whether all was written.
+fn write_end(
+    replay: Replay,
+    names: &[u8],
+    lengths: &[u8],
+    lows: &[i64],
+    highs: &[i64],
+    entries: &[u16],
+) -> bool {
+    let mut line = [0u8; 32];
+    let size = replaying::finish(replay, names, lengths, lows, highs, entries, &mut line);
+    let written = output::write_front(&line, size);
+    written.whole
+}
+
 // Ends the record, behind a barred byte where it was not read whole.
 fn end_record(
     replay: Replay,
@@ -49,8 +65,7 @@ fn end_record(
     entries: &[u16],
 ) -> bool {
     if !cut {
-        let ended = playback::write_end(replay, names, lengths, lows, highs, entries);
-        return ended.whole;
+        return write_end(replay, names, lengths, lows, highs, entries);
     }
     let barred = [0u8];
     let mut out = [0u8; 32];
@@ -64,9 +79,7 @@ fn end_record(
         entries,
         &mut out,
     );
-    let last = written.replay;
-    let ended = playback::write_end(last, names, lengths, lows, highs, entries);
-    ended.whole
+    write_end(written.replay, names, lengths, lows, highs, entries)
 }
 
 // Reads the record chunk by chunk, and writes what each prints, up to its end or to a refusal.
@@ -83,7 +96,7 @@ fn play(
     let mut out = io::large_buffer();
     let mut playing = replaying::begin(state);
     let mut failed = false;
-    let mut left = TURNS;
+    let mut left = READS;
     while 0 < left {
         let got = libc::read(descriptor, &mut chunk);
         failed = got < 0;
@@ -110,7 +123,7 @@ fn play(
         }
         left -= 1;
     }
-    let cut = failed & (left < TURNS);
+    let cut = failed & (left < READS);
     Played {
         whole: end_record(playing, cut, names, lengths, lows, highs, entries),
         failed: failed,
@@ -139,15 +152,22 @@ fn play_file(sheet: reader::Sheet, state: u32, entries: &[u16]) -> bool {
     played.whole
 }
 
+// Writes the line of a refusal; whether all was written.
+fn write_refusal(refusal: u32) -> bool {
+    let mut line = [0u8; 32];
+    let size = print::refusal_line(refusal, &mut line);
+    let written = output::write_front(&line, size);
+    written.whole
+}
+
 // Writes the refusal of the sheet or the start, or plays the record; whether all was written.
-fn answer(opened: Opened, entries: &[u16; 32768]) -> bool {
-    let refusal = opened.refusal;
+fn answer(table: OpenedTable, entries: &[u16; 32768]) -> bool {
+    let refusal = table.refusal;
     if refusal != 0 {
-        let written = playback::write_refusal(refusal);
-        return written.whole;
+        return write_refusal(refusal);
     }
-    let sheet = opened.sheet;
-    play_file(sheet, opened.state, entries)
+    let sheet = table.sheet;
+    play_file(sheet, table.state, entries)
 }
 
 fn main() {
@@ -161,7 +181,14 @@ fn main() {
     let start_size = os::arg(3, &mut start);
     let given = 3 < os::arg_count();
     let mut entries = [0u16; 32768];
-    let opened = opening::open(&text[..size], given, &start[..start_size], &mut entries);
-    let whole = answer(opened, &entries);
+    let mut finals = [0u8; 256];
+    let table = opening::open_table(
+        &text[..size],
+        given,
+        &start[..start_size],
+        &mut entries,
+        &mut finals,
+    );
+    let whole = answer(table, &entries);
     tell(!whole, b"replay: the states cannot be written\n");
 }

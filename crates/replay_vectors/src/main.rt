@@ -3,8 +3,22 @@
 // start is given and its length, and then the bytes of the sheet, the record and the start.
 use basics::fewer;
 use libc::STDIN_FILENO;
-use opening::Opened;
+use opening::OpenedTable;
+use replaying::Replay;
 ghost use Prim.Native.Nat.{_<_};
+
+fn write_end(
+    replay: Replay,
+    names: &[u8],
+    lengths: &[u8],
+    lows: &[i64],
+    highs: &[i64],
+    entries: &[u16],
+) {
+    let mut line = [0u8; 32];
+    let size = replaying::finish(replay, names, lengths, lows, highs, entries, &mut line);
+    output::write_front(&line, size);
+}
 
 // The record in chunks of so many bytes, by way of few lent bytes.
 fn play_chunks(
@@ -37,25 +51,31 @@ fn play_chunks(
         playing = written.replay;
         at = end;
     }
-    playback::write_end(playing, names, lengths, lows, highs, entries);
+    write_end(playing, names, lengths, lows, highs, entries);
 }
 
-fn answer(opened: Opened, record: &[u8], chunk: usize, entries: &[u16; 32768])
+fn write_refusal(refusal: u32) {
+    let mut line = [0u8; 32];
+    let size = print::refusal_line(refusal, &mut line);
+    output::write_front(&line, size);
+}
+
+fn answer(table: OpenedTable, record: &[u8], chunk: usize, entries: &[u16; 32768])
     requires { ⌜ 0 < chunk ⌝ }
 {
-    let refusal = opened.refusal;
+    let refusal = table.refusal;
     if refusal != 0 {
-        playback::write_refusal(refusal);
+        write_refusal(refusal);
         return;
     }
-    let sheet = opened.sheet;
+    let sheet = table.sheet;
     let names = sheet.names;
     let lengths = sheet.lengths;
     let lows = sheet.lows;
     let highs = sheet.highs;
     let streams = fewer(sheet.streams, 8);
     play_chunks(
-        opened.state,
+        table.state,
         record,
         chunk,
         &names,
@@ -71,14 +91,21 @@ fn play_case(bytes: &[u8], text_end: usize, record_end: usize, given: bool) {
     let end = fewer(record_end, bytes.len());
     let start = fewer(text_end, end);
     let mut entries = [0u16; 32768];
-    let opened = opening::open(&bytes[..start], given, &bytes[end..], &mut entries);
+    let mut finals = [0u8; 256];
+    let table = opening::open_table(
+        &bytes[..start],
+        given,
+        &bytes[end..],
+        &mut entries,
+        &mut finals,
+    );
     let record = &bytes[start..end];
-    answer(opened, record, 1, &entries);
-    answer(opened, record, 2, &entries);
-    answer(opened, record, 3, &entries);
-    answer(opened, record, 5, &entries);
-    answer(opened, record, 7, &entries);
-    answer(opened, record, 64, &entries);
+    answer(table, record, 1, &entries);
+    answer(table, record, 2, &entries);
+    answer(table, record, 3, &entries);
+    answer(table, record, 5, &entries);
+    answer(table, record, 7, &entries);
+    answer(table, record, 64, &entries);
 }
 
 // One case; whether there was one.

@@ -1,13 +1,11 @@
 -- What `replay` prints for the lines of a record, from the streams of the sheet, the entries of its table and a state (document 02, S-1). "Record"
 -- and "letter" are the papers' terms.
 use Prim.Native.Nat.{ℕ, suc}
-use mathlib.Core.Bool.{Bool, false, cond, _&&_}
+use mathlib.Core.Bool.{cond}
 use mathlib.Core.List.{List, [], _∷_, _++_}
-use mathlib.Core.Option.{Option, none, some}
-use lib.Dec.{ltb, eqb}
-use lib.IntN.{ℤ, pos, negsuc, natAbs}
-use Rattle.text.specs.Bytes.{Token, bytesOf}
-use Rattle.text.specs.Token.{isInteger, integerValue}
+use lib.Dec.{eqb}
+use lib.IntN.{pos}
+use Rattle.text.specs.Bytes.{bytesOf}
 use Rattle.meaning.specs.Expression.{Stream}
 use Rattle.meaning.specs.Letter.{letterCount}
 use Rattle.sheet.specs.Form.{namesOf}
@@ -23,18 +21,6 @@ replayHeading = line (bytesOf "line" ∷ []) (bytesOf "state")
 -- "one such line per value line, counted from 1, with the state reached"
 abbrev pub stateLine : ℕ → ℕ → List ℕ
 stateLine number state = line (decimal (pos number) ∷ []) (decimal (pos state))
-
--- ---- where to start
-
--- "11, a start that is no state of the table": an integer, written as in a sheet, from 0 to before the number of states.
-abbrev pub isStateBelow : ℕ → ℤ → Bool
-isStateBelow states (pos n) = ltb n states
-isStateBelow states (negsuc n) = false
-
--- "this one may get a third, the state to start from instead of 0"; none for a start that is no state of the table
-unfoldable pub startState : ℕ → Option Token → Option ℕ
-startState states none = some 0
-startState states (some t) = cond (isInteger t && isStateBelow states (integerValue t)) (some (natAbs (integerValue t))) none
 
 -- ---- the lines of a record
 

@@ -26,8 +26,8 @@ use Rattle.reader.specs.declared.Reading.{Reading}
 use Rattle.reader.specs.Stored.{storedSheet, readingOf, nameBytes, nameLengths}
 use Rattle.outcome.specs.Compile.{CompileAnswer}
 use Rattle.situations.proofs.Stored.{part-held, lows-part, highs-part}
-use Rattle.lend.specs.Lend.{rowsLent, LentCall}
-use Rattle.lend.proofs.Outcome.{compiled-unique, compiled-held, refused-unique, refused-not-compiled, HasOutcome, isRefused, isCompiled, lent-total, stored-is, call-refused, call-compiled}
+use Rattle.lend.specs.Lend.{rowsLent, HasOutcome, isRefused, isCompiled, LentCall}
+use Rattle.lend.proofs.Outcome.{compiled-unique, compiled-held, refused-unique, refused-not-compiled, lent-total, stored-is, call-refused, call-compiled}
 use Rattle.pages.specs.Output.{Printout, tableLine, outputText}
 use Rattle.pages.proofs.Refused.{refused-text}
 use Rattle.pages.proofs.Output.{table-text}
@@ -36,7 +36,7 @@ use Rattle.print.specs.Table.{printed, AllFit}
 use Rattle.print.proofs.Names.{short-names}
 use Rattle.print.proofs.Table.{printed-part}
 use Rattle.show.specs.declared.Printed.{Printed}
-use Rattle.show.specs.Answer.{Prints, refused, compiled, Shown, printoutOf, HasRanges, CompiledWith}
+use Rattle.show.specs.Answer.{Prints, refused, compiled, HasOutput, Shown, printoutOf, HasRanges, CompiledWith}
 
 -- ---- a text prints one text
 
@@ -49,11 +49,6 @@ module _ {text : List ℕ} where
       let e = compiled-unique c c′ in (refl, λ i. printed (e .0 i .streams) (e .1 .0 i .states) (e .1 .1 i .entries) (e .1 .1 i .finals))
 
 -- ---- and always one
-
-pub record HasOutput (text : List ℕ) : Type 0 where
-  pub number : ℕ
-  pub bytes : List ℕ
-  pub prints : Prints text number bytes
 
 pub prints-total : (text : List ℕ) → HasOutput text
 prints-total text = go (lent-total text)
@@ -156,6 +151,5 @@ module _ (text : List ℕ) {reading : Reading} (read-as : reading ≡ readingOf 
       record {
         bytes = bytes;
         prints = subst (λ n. Prints text n bytes) (sym (c .prints .number)) (call-prints (c .outcome));
-        handed = c .prints .handed;
-        cut = c .prints .cut;
+        hands = c .prints .hands;
       }

@@ -1,14 +1,14 @@
 -- What `sluice` prints for a text, and what `show` gives back (document 01, "a program `sluice` that reads a sheet from standard input and prints its
 -- table").
-use Prim.Native.Nat.{ℕ, _<_, min}
+use Prim.Native.Nat.{ℕ, min}
 use mathlib.Core.Path.{_≡_}
-use mathlib.Core.Bool.{true, false}
 use mathlib.Core.List.{List}
 use lib.ListN.{length, take}
 use Rattle.meaning.specs.Expression.{Sheet}
 use Rattle.reader.specs.declared.Sheet.{Sheet as StoredSheet}
 use Rattle.outcome.specs.Compile.{CompileAnswer, Tables}
 use Rattle.lend.specs.Lend.{CompiledLent, RefusedLent, LentCall}
+use Rattle.output.specs.Output.{Hands}
 use Rattle.print.specs.Text.{refusalLine}
 use Rattle.print.specs.Table.{printed, AllFit}
 use Rattle.pages.specs.Output.{Printout, outputText}
@@ -21,13 +21,17 @@ pub data Prints (text : List ℕ) : ℕ → List ℕ → Type 0 where
   -- "a heading with the names, then a line for each entry that is not 65,535, by state and letter"
   compiled : {s : Sheet} {a : CompileAnswer} {t : Tables} → CompiledLent text s a t → a .refusal ≡ 0 → Prints text 0 (printed (s .streams) (a .states) (t .entries) (t .finals))
 
--- What `show` gives back: the refusal's number or 0, and how many bytes were taken by writes: as many as `sluice` prints where every write took its
--- bytes, and else fewer.
+-- There is an outcome.
+pub record HasOutput (text : List ℕ) : Type 0 where
+  pub number : ℕ
+  pub bytes : List ℕ
+  pub prints : Prints text number bytes
+
+-- What `show` gives back: the refusal's number or 0, and how many of the bytes that `sluice` prints were taken by writes.
 pub record Shown (text : List ℕ) (r : Printed) : Type 0 where
   pub bytes : List ℕ
   pub prints : Prints text (r .refusal) bytes
-  pub handed : r .whole ≡ true → r .size ≡ length bytes
-  pub cut : r .whole ≡ false → r .size < length bytes
+  pub hands : Hands bytes (r .size) (r .whole)
 
 -- ---- parts of a call
 
@@ -55,8 +59,7 @@ pub record HasRanges (stored : StoredSheet) : Type 0 where
 -- The number given back, and how many bytes were taken by writes.
 pub record PrintsAll (p : Printout) (r : Printed) : Type 0 where
   pub number : r .refusal ≡ p .refusal
-  pub handed : r .whole ≡ true → r .size ≡ length (outputText p)
-  pub cut : r .whole ≡ false → r .size < length (outputText p)
+  pub hands : Hands (outputText p) (r .size) (r .whole)
 
 -- The compile of the text in the rows lent for the stored sheet's letters is printed, with the stored sheet's names and ranges.
 pub record CompiledWith (text : List ℕ) (stored : StoredSheet) (r : Printed) : Type 0 where

@@ -1,12 +1,11 @@
 // Prints what `sluice` prints for a sheet: its table, or the line of its refusal. The crate `pages` gives the bytes; what is left here is the loop
-// that writes them. No contract can say what reaches standard output, so the loop counts the bytes that it hands over.
+// that writes them and counts those that it hands over.
 use basics::fewer;
 ghost use Prim.Native.Nat.{_≤_};
 ghost use lib.ListN.{length};
 ghost use Rattle.pages.specs.Lines.{IsPage};
 ghost use Rattle.pages.specs.Output.{outputAt, placesOf};
 ghost use Rattle.show.specs.Answer.{HasRanges, printoutOf, PrintsAll, CompiledWith, Shown};
-use libc::STDOUT_FILENO;
 use pages::Page;
 
 // The number of the refusal that is printed, or 0; how many bytes were taken by writes, and whether each write took all of its bytes.
@@ -72,14 +71,15 @@ fn write_pages(
                 whole: true,
             };
         }
-        if !io::write_all(STDOUT_FILENO, &page[..count]) {
+        let handed = output::write_front(&page, count);
+        if !handed.whole {
             return Printed {
                 refusal: refusal,
                 size: size,
                 whole: false,
             };
         }
-        size += count;
+        size += handed.size;
         from = filled.next;
     }
 }

@@ -80,12 +80,12 @@ module _ {text : List ℕ} {s : Sheet} {a : CompileAnswer} {t : Tables} (c : Com
 -- ---- what the calls print
 
 abbrev printed : OpenedTable → CourseAnswer → List ℕ → List ℕ
-printed opened r list = courseOutput (coursePrintout (opened .opened .sheet) (r .refusal) (take (min (r .count) 256) list))
+printed opened r list = courseOutput (coursePrintout (opened .sheet) (r .refusal) (take (min (r .count) 256) list))
 
 -- A refusal is printed as its line.
 refusal-printed : (opened : OpenedTable) (r : CourseAnswer) (list : List ℕ) {n : ℕ} → r .refusal ≡ n → 0 < n → printed opened r list ≡ refusalLine n
 refusal-printed opened r list e positive =
-    refused-text (r .refusal) (courseLine (coursePrintout (opened .opened .sheet) (r .refusal) (take (min (r .count) 256) list))) (λ z. omega arith) _ ∙ ap refusalLine e
+    refused-text (r .refusal) (courseLine (coursePrintout (opened .sheet) (r .refusal) (take (min (r .count) 256) list))) (λ z. omega arith) _ ∙ ap refusalLine e
 
 module _ {text : List ℕ} {start : Option Token} where
   -- The arrays are as long as they were lent.
@@ -101,19 +101,19 @@ module _ {text : List ℕ} {start : Option Token} where
 
   -- The rows that are passed to `course` lie within them.
   pub rows-fit : {opened : OpenedTable} {entries finals : List ℕ} → OpensTable text start opened entries finals
-      → (opened .states ≤ length finals) × (opened .states * opened .opened .sheet .letters ≤ length entries)
+      → (opened .states ≤ length finals) × (opened .states * opened .sheet .letters ≤ length entries)
   rows-fit {opened} o =
       let sizes = opened-sizes o in
       let fit = within o in
-      (subst (λ n. opened .states ≤ n) (sym (sizes .1)) (fit .0), subst (λ n. opened .states * opened .opened .sheet .letters ≤ n) (sym (sizes .0)) (fit .1))
+      (subst (λ n. opened .states ≤ n) (sym (sizes .1)) (fit .0), subst (λ n. opened .states * opened .sheet .letters ≤ n) (sym (sizes .0)) (fit .1))
     where
-      within : {opened : OpenedTable} {entries finals : List ℕ} → OpensTable text start opened entries finals → (opened .states ≤ 256) × (opened .states * opened .opened .sheet .letters ≤ 32768)
+      within : {opened : OpenedTable} {entries finals : List ℕ} → OpensTable text start opened entries finals → (opened .states ≤ 256) × (opened .states * opened .sheet .letters ≤ 32768)
       within (givesNoTable r) = (omega arith, omega arith)
       within (givesNoState c z e) = (omega arith, omega arith)
       within (table c z e) = (few-rows c z, used-fits c z)
 
   -- The ranges of the sheet are numbers of the machine.
-  pub opened-ranges : {opened : OpenedTable} {entries finals : List ℕ} → OpensTable text start opened entries finals → HasRanges (opened .opened .sheet)
+  pub opened-ranges : {opened : OpenedTable} {entries finals : List ℕ} → OpensTable text start opened entries finals → HasRanges (opened .sheet)
   opened-ranges (givesNoTable r) = read-ranges text refl
   opened-ranges (givesNoState c z e) = read-ranges text refl
   opened-ranges (table c z e) = read-ranges text refl

@@ -19,14 +19,14 @@ use Rattle.outcome.specs.Compile.{CompileAnswer, Tables}
 use Rattle.theorems.specs.UsedRows.{usedEntries, usedFinals}
 use Rattle.theorems.proofs.Courses.{state-answered}
 use Rattle.theorems.proofs.Replaying.{start-is-state}
-use Rattle.lend.specs.Lend.{CompiledLent}
+use Rattle.lend.specs.Lend.{CompiledLent, HasOutcome, isRefused, isCompiled}
 use Rattle.lend.proofs.Rows.{lent-rows}
-use Rattle.lend.proofs.Outcome.{compiled-unique, compiled-held, refused-unique, refused-not-compiled, HasOutcome, isRefused, isCompiled, lent-total}
+use Rattle.lend.proofs.Outcome.{compiled-unique, compiled-held, refused-unique, refused-not-compiled, lent-total}
 use Rattle.print.specs.Text.{refusalLine}
-use Rattle.replaying.specs.Replay.{startState}
+use Rattle.opening.specs.Start.{startState}
 use Rattle.opening.proofs.Plays.{none≢some, same-start, same-state}
 use Rattle.course_text.specs.Course.{courseText}
-use Rattle.show_course.specs.Prints.{IsCourseFrom, PrintsCourse, refusedSheet, noStart, found}
+use Rattle.show_course.specs.Prints.{IsCourseFrom, PrintsCourse, refusedSheet, noStart, found, HasOutput}
 
 -- ---- the course from a state of a compiled sheet
 
@@ -70,10 +70,6 @@ module _ {text : List ℕ} (start : Option Token) where
       ap₂ courseText (ap (λ y. y .streams) (same .0)) (best-unique (λ a b. 0) k (entryAt k (usedEntries q b u)) (finalAt (usedFinals b u)) j p r moved w)
 
 -- ---- and always one
-
-pub record HasOutput (text : List ℕ) (start : Option Token) : Type 0 where
-  pub bytes : List ℕ
-  pub prints : PrintsCourse text start bytes
 
 pub prints-total : (text : List ℕ) (start : Option Token) → HasOutput text start
 prints-total text start = go (lent-total text)

@@ -11,8 +11,8 @@ use Rattle.automaton.specs.Course.{IsBest}
 use Rattle.outcome.specs.Compile.{CompileAnswer, Tables}
 use Rattle.lend.specs.Lend.{CompiledLent, RefusedLent}
 use Rattle.print.specs.Text.{refusalLine}
-use Rattle.replaying.specs.Replay.{startState}
 use Rattle.theorems.specs.UsedRows.{usedEntries, usedFinals}
+use Rattle.opening.specs.Start.{startState}
 use Rattle.course_text.specs.Course.{courseText}
 
 -- "the fewest letters that lead to a final state [..] Among equals, the course whose letters come first in number order": the course from a state of the
@@ -29,3 +29,8 @@ pub data PrintsCourse (sheetText : List ℕ) (start : Option Token) : List ℕ �
   -- "give the fewest letters that lead to a final state, and the letters"
   found : {s : Sheet} {a : CompileAnswer} {t : Tables} {state : ℕ} {course : List ℕ} → CompiledLent sheetText s a t → a .refusal ≡ 0 → startState (a .states) start ≡ some state
       → IsCourseFrom s a t state course → PrintsCourse sheetText start (courseText (s .streams) course)
+
+-- There is an outcome.
+pub record HasOutput (sheetText : List ℕ) (start : Option Token) : Type 0 where
+  pub bytes : List ℕ
+  pub prints : PrintsCourse sheetText start bytes

@@ -6,14 +6,13 @@ use mathlib.Core.Path.{_≡_, refl, sym, _∙_, ap, subst}
 use mathlib.Core.Logic.{_↔_, _⊎_, _≢_, inl, inr}
 use mathlib.Core.Bool.{Bool, true, false, cond, _&&_}
 use mathlib.Core.List.{List, [], _∷_, _++_, append-assoc, append-nil}
-use mathlib.Core.Option.{Option, none, some}
-use lib.Dec.{eqb, ltb}
-use lib.IntN.{ℤ, pos, negsuc, natAbs}
+use mathlib.Core.Option.{none, some}
+use lib.Dec.{eqb}
 use lib.ListN.{length, take, getD}
 use Rattle.basics.proofs.Lists.{All-append}
-use Rattle.basics.proofs.Reflects.{eqb-reflects, ltb-reflects, from-true, from-false, to-true, to-false}
-use Rattle.text.specs.Bytes.{Token, tokens}
-use Rattle.text.specs.Token.{allBytes, isInteger, integerValue}
+use Rattle.basics.proofs.Reflects.{eqb-reflects, from-true, from-false, to-false}
+use Rattle.text.specs.Bytes.{tokens}
+use Rattle.text.specs.Token.{allBytes}
 use Rattle.meaning.specs.Expression.{Stream}
 use Rattle.meaning.specs.Letter.{Letter, IsLetter, letterCount, letterNumber}
 use Rattle.meaning.proofs.Letter.{letterNumber-bound}
@@ -22,10 +21,9 @@ use Rattle.automaton.specs.Stored.{entryAt}
 use Rattle.letters.specs.Described.{isLetter}
 use Rattle.letters.proofs.Streams.{isLetter-sound}
 use Rattle.sheet.specs.Form.{namesOf}
-use Rattle.print.specs.Text.{decimal, refusalLine}
-use Rattle.print.proofs.Decimal.{decimal-integer, decimal-value}
+use Rattle.print.specs.Text.{refusalLine}
 use Rattle.records.specs.Line.{ValueLine, malformed, outside, letter, isPlain, isOnePerStream, valuesRead, valueLine, isNamesLine}
-use Rattle.replaying.specs.Replay.{replayHeading, stateLine, isStateBelow, startState, LineOutcome, reaches, refuses, entered, lineThen, outcomeFrom, replayed, replayedLines}
+use Rattle.replaying.specs.Replay.{replayHeading, stateLine, LineOutcome, reaches, refuses, entered, lineThen, outcomeFrom, replayed, replayedLines}
 use Rattle.theorems.specs.Replaying.{stateLines, refusalText, valuesOf, IsLetterLine, AreLetters, lettersOf, statesThen, refusalThen, statesReached, refusalMet, PlaysThrough, ends, goes-on, Fault, fault13, fault14, fault12, FirstFault}
 
 -- ---- one line
@@ -76,31 +74,6 @@ stateLines-append (x ∷ xs) ys number =
     rw z
     (ap (stateLine number x ++_) (stateLines-append xs ys (suc number))
     ∙ sym (append-assoc (stateLine number x) (stateLines (suc number) xs) (stateLines (suc number + length xs) ys)))
-
--- ---- where to start
-
-below-test : {states n : ℕ} (z : ℤ) → cond (isStateBelow states z) (some (natAbs z)) none ≡ some n → n < states
-below-test {states} {n} (pos m) e = go (ltb m states) refl e
-  where
-    go : (b : Bool) → ltb m states ≡ b → cond b (some m) none ≡ some n → n < states
-    go true q r = let h : m ≡ n = cc in subst (λ i. i < states) h (from-true (ltb-reflects m states) q)
-    go false q r = let z : _≡_ {A = ℕ} 0 1 = cc in absurd (omega arith)
-below-test (negsuc m) e = let z : _≡_ {A = ℕ} 0 1 = cc in absurd (omega arith)
-
--- A start that is taken is a state of the table.
-pub start-below : (states : ℕ) (start : Option Token) {n : ℕ} → 0 < states → startState states start ≡ some n → n < states
-unfolding startState
-start-below states none {n} h e = let z : _≡_ {A = ℕ} 0 n = cc in subst (λ i. i < states) z h
-start-below states (some t) {n} h e = go (isInteger t) e
-  where
-    go : (b : Bool) → cond (b && isStateBelow states (integerValue t)) (some (natAbs (integerValue t))) none ≡ some n → n < states
-    go true q = below-test (integerValue t) q
-    go false q = let z : _≡_ {A = ℕ} 0 1 = cc in absurd (omega arith)
-
--- The start that a state of the table is written as is this state.
-pub start-written : (states state : ℕ) → state < states → startState states (some (decimal (pos state))) ≡ some state
-unfolding startState
-start-written states state h = rw (decimal-integer (pos state), decimal-value (pos state), to-true (ltb-reflects state states) h)
 
 module _ (ss : List Stream) (entries : List ℕ) where
   abbrev entry : ℕ → ℕ → ℕ

@@ -1,8 +1,9 @@
 -- What `replay` prints: the file to open for request S-1 of document 02. First for any streams and entries, over the lines of a record and over its
 -- text: a line for each state reached, then nothing or the refusal of the first line with a fault; and a record cut in two. Then for the table of
 -- an accepted sheet, as a call of the compile leaves it (`CompileCall`): the states printed are those that the proved step gives along the used
--- rows, 12 is printed exactly where the step gives it, and lines that are letters play through exactly if they begin a solution. From the laws of
--- lines that are played (`Plays`), of a record's text (`RecordTexts`), of steps (`Steps`) and of calls (`Demands`).
+-- rows, 12 is printed exactly where the step gives it, and lines that are letters play through exactly if they begin a solution. Last for the
+-- program's own texts, the sheet, the record and the start (`Plays` of the crate opening): a record cut in two. From the laws of lines that are
+-- played (`Plays`), of a record's text (`RecordTexts`), of steps (`Steps`) and of calls (`Demands`), and of what is printed (opening).
 use Prim.Native.Nat.{ℕ, _+_, _≤_, _<_}
 use native.Mathlib.Omega.{arith}
 use mathlib.Core.Path.{_≡_, refl, sym, _∙_, ap, ap₂, subst}
@@ -29,14 +30,19 @@ use Rattle.step.specs.Step.{refusedStep, StepAnswer}
 use Rattle.step.specs.Followed.{Followed}
 use Rattle.print.specs.Text.{decimal, refusalLine}
 use Rattle.records.specs.Line.{isNamesLine}
-use Rattle.replaying.specs.Replay.{replayHeading, startState, replayed, replayedLines}
+use Rattle.replaying.specs.Replay.{replayHeading, replayed, replayedLines}
+use Rattle.lend.specs.Lend.{CompiledLent}
+use Rattle.opening.specs.Start.{startState}
+use Rattle.opening.specs.Plays.{Plays, played}
+use Rattle.opening.proofs.StartLaws.{start-below, start-written}
+use Rattle.opening.proofs.Plays.{plays-unique}
 use Rattle.theorems.specs.Following.{BeginsSolution, HaveSameSolutions}
 use Rattle.theorems.specs.UsedRows.{usedBytes}
-use Rattle.theorems.specs.Replaying.{stateLines, refusalText, recordText, underNames, EndsWithLine, SameStatesPrinted, valuesOf, recordOfLines, IsLetterLine, AreLetters, lettersOf, statesReached, refusalMet, PlaysThrough, Fault, FirstFault}
+use Rattle.theorems.specs.Replaying.{stateLines, refusalText, replayText, underNames, EndsWithLine, SameStatesPrinted, valuesOf, recordOfLines, IsLetterLine, AreLetters, lettersOf, statesReached, refusalMet, PlaysThrough, Fault, FirstFault}
 use Rattle.theorems.proofs.Following.{all-below}
 use Rattle.theorems.proofs.Steps.{path-from↔steps, missing↔refused-12}
 use Rattle.theorems.proofs.Demands.{ReadAs, path↔solution, few-states, table-stored, equal-rows↔same-solutions}
-use Rattle.theorems.proofs.Plays.{letter-line, stateLines-append, start-below, start-written, lines-printed, states-cut, refusal-cut, through-states, through-unrefused, fault-states, fault-refusal, plays-or-fault, unrefused↔through, refusal↔fault, letters-fault, through↔path, prefix↔states, refused-12↔letter, rows-printed}
+use Rattle.theorems.proofs.Plays.{letter-line, stateLines-append, lines-printed, states-cut, refusal-cut, through-states, through-unrefused, fault-states, fault-refusal, plays-or-fault, unrefused↔through, refusal↔fault, letters-fault, through↔path, prefix↔states, refused-12↔letter, rows-printed}
 use Rattle.theorems.proofs.RecordTexts.{named-lines, cut-lines}
 
 module _ (ss : List Stream) (entries : List ℕ) where
@@ -83,7 +89,7 @@ module _ (ss : List Stream) (entries : List ℕ) where
 
   -- "prints `line state`, then one such line per value line, counted from 1"
   pub record-printed : (names : List ℕ) (ls : List (List ℕ)) (state : ℕ) → isNamesLine (namesOf ss) names ≡ true
-      → replayedLines ss entries state (names ∷ ls) ≡ recordText (statesReached ss entries state ls) (refusalMet ss entries state ls)
+      → replayedLines ss entries state (names ∷ ls) ≡ replayText (statesReached ss entries state ls) (refusalMet ss entries state ls)
   unfolding replayedLines
   record-printed names ls state e =
       ap (λ b. cond b (replayHeading ++ replayed ss entries 1 state ls) (refusalLine 13)) e
@@ -133,9 +139,9 @@ module _ (ss : List Stream) (entries : List ℕ) where
           states = statesReached ss entries state first;
           states′ = statesReached ss entries last second;
           refusal = refusalMet ss entries last second;
-          first-printed = record-printed names first state e ∙ ap (recordText (statesReached ss entries state first)) (through-unrefused ss entries through);
+          first-printed = record-printed names first state e ∙ ap (replayText (statesReached ss entries state first)) (through-unrefused ss entries through);
           second-printed = record-printed names′ second last e′;
-          whole-printed = record-printed names (first ++ second) state e ∙ ap₂ recordText (replay-cut .0) (replay-cut .1);
+          whole-printed = record-printed names (first ++ second) state e ∙ ap₂ replayText (replay-cut .0) (replay-cut .1);
         }
 
   -- And of their texts, cut between two lines.
@@ -235,6 +241,22 @@ module _ {text : List ℕ} {room : Room} {a : CompileAnswer} {t : Tables} (call 
   pub start-where-ended : (ls : List (List ℕ)) (state last : ℕ) → state < a .states → PlaysThrough (s .streams) (t .entries) state ls last
       → startState (a .states) (some (decimal (pos last))) ≡ some last
   start-where-ended ls state last inside p = start-written (a .states) last (ends-in-state ls state last inside p)
+
+-- ---- the program's texts
+
+-- "A record cut in two, the second half, under the names again, played from the state where the first ended without refusal, must print the same
+-- states": of what is printed for the texts of the whole record and of each half, the start of the second half being that state as it is printed.
+pub plays-cut : {text : List ℕ} {s : Sheet} {a : CompileAnswer} {t : Tables} → CompiledLent text s a t → a .refusal ≡ 0
+    → (start : Option Token) {state last : ℕ} → startState (a .states) start ≡ some state
+    → (names names′ first second : List ℕ) → isNamesLine (namesOf (s .streams)) names ≡ true → isNamesLine (namesOf (s .streams)) names′ ≡ true
+    → EndsWithLine first → PlaysThrough (s .streams) (t .entries) state (lines first) last
+    → {whole firstHalf secondHalf : List ℕ} → Plays text (underNames names (first ++ second)) start whole → Plays text (underNames names first) start firstHalf
+    → Plays text (underNames names′ second) (some (decimal (pos last))) secondHalf → SameStatesPrinted whole firstHalf secondHalf
+plays-cut {s = s} {a} {t} c accepted start {state} {last} begins names names′ first second e e′ cut through w f g =
+    let inside = start-is-state (c .call) (c .reads) accepted start begins in
+    let again = start-where-ended (c .call) (c .reads) accepted (lines first) state last inside through in
+    rw (plays-unique start w (played c accepted begins), plays-unique start f (played c accepted begins), plays-unique (some (decimal (pos last))) g (played c accepted again))
+    (replay-cut-texts (s .streams) (t .entries) names names′ first second e e′ cut through)
 
 -- Two accepted sheets over the same streams that have the same solutions print the same, whatever room was lent.
 pub same-solutions-print : {text text′ : List ℕ} {room room′ : Room} {a a′ : CompileAnswer} {t t′ : Tables} → CompileCall text room a t → CompileCall text′ room′ a′ t′

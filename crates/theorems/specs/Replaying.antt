@@ -29,8 +29,8 @@ refusalText none = []
 refusalText (some n) = refusalLine n
 
 -- "prints `line state`, then one such line per value line, counted from 1"
-abbrev pub recordText : (states : List ℕ) (refusal : Option ℕ) → List ℕ
-recordText states refusal = replayHeading ++ (stateLines 1 states ++ refusalText refusal)
+abbrev pub replayText : (states : List ℕ) (refusal : Option ℕ) → List ℕ
+replayText states refusal = replayHeading ++ (stateLines 1 states ++ refusalText refusal)
 
 -- ---- a record as a text
 
@@ -48,9 +48,9 @@ pub record SameStatesPrinted (whole firstHalf secondHalf : List ℕ) : Type 0 wh
   pub states : List ℕ
   pub states′ : List ℕ
   pub refusal : Option ℕ
-  pub first-printed : firstHalf ≡ recordText states none
-  pub second-printed : secondHalf ≡ recordText states′ refusal
-  pub whole-printed : whole ≡ recordText (states ++ states′) refusal
+  pub first-printed : firstHalf ≡ replayText states none
+  pub second-printed : secondHalf ≡ replayText states′ refusal
+  pub whole-printed : whole ≡ replayText (states ++ states′) refusal
 
 -- ---- lines as letters
 

@@ -12,8 +12,8 @@ pub record WorkedRecord : Type 0 where
   pub text : String
   pub printed : String
 
-unfoldable pub records : List WorkedRecord
-records =
+unfoldable pub workedRecords : List WorkedRecord
+workedRecords =
     -- one line for each value line, with the state reached
     record { text = "x y\n1 0\n1 0\n0 1\n0 0"; printed = "line state\n1 0\n2 0\n3 1\n4 1\n" }
     -- it stops before the first line that has no way on, and a later fault is not looked at

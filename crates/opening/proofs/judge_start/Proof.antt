@@ -5,7 +5,7 @@ use borrow.Author.Needs.{needs}
 use borrow.Author.Tests.{not-true, not-false}
 use mir.Syntax.{w64}
 use mir.ValLaws.{toZ-ofZ}
-use Rattle.opening.specs.Opens.{stateOf, judged}
+use Rattle.opening.specs.Start.{stateOf, judged}
 use Rattle.opening.proofs.Judged.{unread-none, beyond-start, read-start, not-given, is-given}
 use Rattle.opening.proofs.judge_start.Statement.{statement}
 use Rattle.opening.proofs.judge_start.Tie as tie

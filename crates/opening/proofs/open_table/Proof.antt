@@ -2,7 +2,7 @@
 use native.Mathlib.Omega.{arith}
 use borrow.Author.Tests.{not-true, not-false}
 use Rattle.lend.proofs.Outcome.{few-states}
-use Rattle.opening.specs.Opens.{startText}
+use Rattle.opening.specs.Start.{startText}
 use Rattle.opening.proofs.Opening.{sheet-refused, start-refused, sheet-opened}
 use borrow.Author.Needs.{needs}
 use Rattle.opening.proofs.open_table.Statement.{statement}

@@ -2,7 +2,7 @@
 use mathlib.Core.Path.{_∙_, ap}
 use borrow.Author.Needs.{needs}
 use Rattle.arithmetic.proofs.Machine.{number-cast}
-use Rattle.opening.specs.Opens.{judged}
+use Rattle.opening.specs.Start.{judged}
 use Rattle.opening.proofs.Judged.{negative-none, natural-state, natural-none}
 use Rattle.opening.proofs.state_of.Statement.{statement}
 use Rattle.opening.proofs.state_of.Tie as tie

@@ -38,17 +38,17 @@ arg-count-requires c κs = tt
 array-share-prefix-text : tie.Need-array-share-prefix-text
 array-share-prefix-text c = search needs
 
-slice-aggregate-open : tie.Need-slice-aggregate-open
-slice-aggregate-open c = sym (length-take-le _ _ (array-share-prefix-text (c .before)))
+slice-aggregate-open-table : tie.Need-slice-aggregate-open-table
+slice-aggregate-open-table c = sym (length-take-le _ _ (array-share-prefix-text (c .before)))
 
 array-share-prefix-start : tie.Need-array-share-prefix-start
 array-share-prefix-start c = search needs
 
-slice-aggregate-open-2 : tie.Need-slice-aggregate-open-2
-slice-aggregate-open-2 c = search needs
+slice-aggregate-open-table-2 : tie.Need-slice-aggregate-open-table-2
+slice-aggregate-open-table-2 c = search needs
 
-open-requires : tie.Need-open-requires
-open-requires c κs = tt
+open-table-requires : tie.Need-open-table-requires
+open-table-requires c κs = tt
 
 answer-requires : tie.Need-answer-requires
 answer-requires c κs = tt
@@ -77,10 +77,10 @@ main-spec =
     arg-requires
     arg-count-requires
     array-share-prefix-text
-    slice-aggregate-open
+    slice-aggregate-open-table
     array-share-prefix-start
-    slice-aggregate-open-2
-    open-requires
+    slice-aggregate-open-table-2
+    open-table-requires
     answer-requires
     slice-aggregate-tell-2
     tell-requires-2

@@ -20,19 +20,19 @@ slice-aggregate-play-chunks : tie.Need-slice-aggregate-play-chunks
 slice-aggregate-play-chunks c = search needs
 
 array-share-prefix-lengths : tie.Need-array-share-prefix-lengths
-array-share-prefix-lengths c = let l : length (c .before .before .before .before .before .before .before .before .before .args .opened .sheet .lengths) ≡ 8 = search needs in omega (arith, l, c .before .fewer .ensures)
+array-share-prefix-lengths c = let l : length (c .before .before .before .before .before .before .before .before .before .args .table .sheet .lengths) ≡ 8 = search needs in omega (arith, l, c .before .fewer .ensures)
 
 slice-aggregate-play-chunks-2 : tie.Need-slice-aggregate-play-chunks-2
 slice-aggregate-play-chunks-2 c = sym (length-take-le _ _ (array-share-prefix-lengths (c .before)))
 
 array-share-prefix-lows : tie.Need-array-share-prefix-lows
-array-share-prefix-lows c = let l : length (c .before .before .before .before .before .before .before .before .before .before .args .opened .sheet .lows) ≡ 8 = search needs in omega (arith, l, c .before .before .fewer .ensures)
+array-share-prefix-lows c = let l : length (c .before .before .before .before .before .before .before .before .before .before .args .table .sheet .lows) ≡ 8 = search needs in omega (arith, l, c .before .before .fewer .ensures)
 
 slice-aggregate-play-chunks-3 : tie.Need-slice-aggregate-play-chunks-3
 slice-aggregate-play-chunks-3 c = sym (length-take-le _ _ (array-share-prefix-lows (c .before)))
 
 array-share-prefix-highs : tie.Need-array-share-prefix-highs
-array-share-prefix-highs c = let l : length (c .before .before .before .before .before .before .before .before .before .before .before .args .opened .sheet .highs) ≡ 8 = search needs in omega (arith, l, c .before .before .before .fewer .ensures)
+array-share-prefix-highs c = let l : length (c .before .before .before .before .before .before .before .before .before .before .before .args .table .sheet .highs) ≡ 8 = search needs in omega (arith, l, c .before .before .before .fewer .ensures)
 
 slice-aggregate-play-chunks-4 : tie.Need-slice-aggregate-play-chunks-4
 slice-aggregate-play-chunks-4 c = sym (length-take-le _ _ (array-share-prefix-highs (c .before)))

@@ -12,20 +12,20 @@ fewer-requires c κs = tt
 fewer-requires-2 : tie.Need-fewer-requires-2
 fewer-requires-2 c κs = tt
 
-slice-aggregate-open : tie.Need-slice-aggregate-open
-slice-aggregate-open c = sym (length-take-le _ _ (omega (arith, c .before .fewer2 .ensures, c .before .before .fewer .ensures)))
+slice-aggregate-open-table : tie.Need-slice-aggregate-open-table
+slice-aggregate-open-table c = sym (length-take-le _ _ (omega (arith, c .before .fewer2 .ensures, c .before .before .fewer .ensures)))
 
-sub-open : tie.Need-sub-open
-sub-open c = search needs
+sub-open-table : tie.Need-sub-open-table
+sub-open-table c = search needs
 
-part-open-start : tie.Need-part-open-start
-part-open-start c = search needs
+part-open-table-start : tie.Need-part-open-table-start
+part-open-table-start c = search needs
 
-part-open-end : tie.Need-part-open-end
-part-open-end c = search needs
+part-open-table-end : tie.Need-part-open-table-end
+part-open-table-end c = search needs
 
-open-requires : tie.Need-open-requires
-open-requires c κs = tt
+open-table-requires : tie.Need-open-table-requires
+open-table-requires c κs = tt
 
 sub-record : tie.Need-sub-record
 sub-record c = search needs
@@ -63,11 +63,11 @@ play-case-spec =
     (tie.spec
     fewer-requires
     fewer-requires-2
-    slice-aggregate-open
-    sub-open
-    part-open-start
-    part-open-end
-    open-requires
+    slice-aggregate-open-table
+    sub-open-table
+    part-open-table-start
+    part-open-table-end
+    open-table-requires
     sub-record
     part-record-start
     part-record-end

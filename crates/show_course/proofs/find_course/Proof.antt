@@ -1,5 +1,4 @@
 -- `show_course::find_course` meets its contract: the used rows lie within the lists, and the list has 256 numbers.
-use native.Mathlib.Omega.{arith}
 use mathlib.Core.Path.{refl, sym, subst}
 use Prim.Native.Nat.{_*_}
 use lib.ListN.{take}
@@ -22,10 +21,10 @@ mul-used : tie.Need-mul-used
 mul-used c = search needs
 
 slice-aggregate-course : tie.Need-slice-aggregate-course
-slice-aggregate-course c = sym (length-take-le _ _ (c .before .before .before .before .before .before .before .before .before .pre .1))
+slice-aggregate-course c = sym (length-take-le _ _ (c .before .before .before .before .before .before .before .before .pre .1))
 
 slice-aggregate-course-2 : tie.Need-slice-aggregate-course-2
-slice-aggregate-course-2 c = sym (length-take-le _ _ (c .before .before .before .before .before .before .before .before .before .before .pre .0))
+slice-aggregate-course-2 c = sym (length-take-le _ _ (c .before .before .before .before .before .before .before .before .before .pre .0))
 
 course-requires : tie.Need-course-requires
 course-requires c κs = search needs
@@ -35,10 +34,10 @@ same-length c = search needs
 
 returns-2 : tie.Need-returns-2
 returns-2 c =
-    let a = c .before .before .before .before .before .before .before .before .before .before .before .before .before .before .args in
+    let a = c .before .before .before .before .before .before .before .before .before .before .before .before .before .args in
     record {
       refused = λ h. absurd (h (c .before .before .before .before .before .before .before .before .before .if1 .left));
-      found = λ z. subst (λ room. ShortestCourse (a .table .opened .sheet .letters) (take (a .table .states * a .table .opened .sheet .letters) (a .entries .now)) (take (a .table .states) (a .finals .now)) (a .table .opened .state) room (c .before .before .course .result .refusal) (c .before .before .course .result .count) (c .before .before .course .last .1 .1 .1 .1 .0)) (c .before .before .before .before .before .before .before .before .before .before .before .before .before .before .pre .2) (c .before .before .course .ensures);
+      found = λ z. subst (λ room. ShortestCourse (a .table .sheet .letters) (take (a .table .states * a .table .sheet .letters) (a .entries .now)) (take (a .table .states) (a .finals .now)) (a .table .state) room (c .before .before .course .result .refusal) (c .before .before .course .result .count) (c .before .before .course .last .1 .1 .1 .1 .0)) (c .before .before .before .before .before .before .before .before .before .before .before .before .before .pre .2) (c .before .before .course .ensures);
     }
 
 pub find-course-spec : {M : Type 1} → statement M

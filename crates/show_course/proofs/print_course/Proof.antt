@@ -8,7 +8,7 @@ use lib.Seq.{length-take-le}
 use Rattle.reader.specs.declared.Sheet.{Sheet as StoredSheet}
 use Rattle.course_text.specs.Output.{CoursePrintout, courseOutput}
 use Rattle.show.proofs.Pages.{fit-take}
-use Rattle.show_course.specs.Shows.{Hands}
+use Rattle.output.specs.Output.{Hands}
 use borrow.Author.Needs.{needs}
 use Rattle.show_course.proofs.print_course.Statement.{statement}
 use Rattle.show_course.proofs.print_course.Tie as tie
@@ -58,7 +58,7 @@ write-pages-requires c κs =
 returns : tie.Need-returns
 returns c =
     let a = c .before .before .before .before .before .before .before .before .before .before .before .before .before .before .args in
-    transport (λ i. Hands (courseOutput (cutTo (a .sheet) (a .answer .refusal) (a .list .now) (c .before .before .before .before .before .before .before .before .fewer .ensures i) (c .before .before .before .before .before .before .fewer2 .ensures i))) (c .write-pages .result)) (c .write-pages .ensures)
+    transport (λ i. Hands (courseOutput (cutTo (a .sheet) (a .answer .refusal) (a .list .now) (c .before .before .before .before .before .before .before .before .fewer .ensures i) (c .before .before .before .before .before .before .fewer2 .ensures i))) (c .write-pages .result .size) (c .write-pages .result .whole)) (c .write-pages .ensures)
 
 pub print-course-spec : {M : Type 1} → statement M
 print-course-spec =

@@ -1,5 +1,4 @@
 -- `show_course::show_course` meets its contract: what the calls print is what the texts print (Printing).
-use native.Mathlib.Omega.{arith}
 use mathlib.Core.Path.{refl, sym}
 use Rattle.show_course.proofs.Printing.{opened-sizes, rows-fit, opened-ranges, calls-print}
 use borrow.Author.Needs.{needs}
@@ -25,10 +24,10 @@ slice-aggregate-print-course : tie.Need-slice-aggregate-print-course
 slice-aggregate-print-course c = search needs
 
 print-course-requires : tie.Need-print-course-requires
-print-course-requires c κs = (opened-ranges (c .before .before .before .before .before .before .before .before .open-table .ensures), sym (slice-aggregate-print-course c))
+print-course-requires c κs = (opened-ranges (c .before .before .before .before .before .before .before .open-table .ensures), sym (slice-aggregate-print-course c))
 
 returns : tie.Need-returns
-returns c = record { bytes = _; prints = calls-print (c .before .before .before .before .before .before .before .before .before .open-table .ensures) (c .before .before .before .before .before .find-course .ensures); hands = c .print-course .ensures }
+returns c = record { bytes = _; prints = calls-print (c .before .before .before .before .before .before .before .before .open-table .ensures) (c .before .before .before .before .find-course .ensures); hands = c .print-course .ensures }
 
 pub show-course-spec : {M : Type 1} → statement M
 show-course-spec =
