@@ -2,9 +2,10 @@
 
     python3 enumerator/check.py SEED COUNT
 
-Tables are compared with the meaning of ultimately periodic words, situations
-with a plain listing of all short records, and normal forms with the words
-extended by what the added streams stand for.  It exits with 1 at the first
+Tables are compared with the meaning of ultimately periodic words, values at
+single times with the courses of such words, situations with a plain listing of
+all short records, and normal forms with the words extended by what the added
+streams stand for.  It exits with 1 at the first
 difference.
 """
 
@@ -16,10 +17,11 @@ from collections import Counter, deque, namedtuple
 from course_check import difference as course_difference
 from damage import damaged_sheets
 from examples import EXAMPLES, example_faults
-from generate import bound_sheets, random_sheets
+from generate import bound_sheets, division_sheets, random_sheets
 from grammar import all_subexpressions, expression_text
 from intervals import interval
-from lasso import Lasso, all_hold, horizon, is_solution, lasso_valuation
+from lasso import (Lasso, at, course, from_times, is_solution,
+                   solves_normal_form, streams_of)
 from limits import NO_ENTRY, STEP_REFUSED
 from meaning import value
 from normal_form import entry_texts, normal_form_of
@@ -57,8 +59,12 @@ def expect(condition, case, *details):
         raise Difference(case.name, case.text.decode("latin-1"), *details)
 
 
+def streams_along(case, lasso):
+    return streams_of(case.sheet.names, case.judge.letters, lasso)
+
+
 def means_solution(case, lasso):
-    return is_solution(case.sheet, case.judge.letters, lasso)
+    return is_solution(case.sheet, streams_along(case, lasso))
 
 
 def follow(entries, state, word):
@@ -197,17 +203,24 @@ def check_words(case):
         case.counts["words, of them solutions: %s" % accepted] += 1
 
 
-def check_intervals(case):
-    """Every value of every subexpression lies in its interval."""
+def check_values(case):
+    """Every value of every subexpression at a time is that of its course, and
+    lies in its interval if there is one."""
     found = [(expression, interval(expression, ranges(case.sheet)))
              for expression in all_subexpressions(case.sheet.constraints)]
     for lasso in random_lassos(case, 3):
-        valuation = lasso_valuation(case.sheet.names, case.judge.letters, lasso)
-        for time in range(8):
-            for expression, (low, high) in found:
-                expect(low <= value(expression, valuation, time) <= high,
+        streams = streams_along(case, lasso)
+        for expression, (low, high) in found:
+            values = course(expression, streams)
+            for time in range(8):
+                own = value(expression,
+                            lambda name, when: at(streams[name], when)[0], time)
+                expect(at(values, time) == (() if own is None else (own,)),
+                       case, "value", expression_text(expression), lasso)
+                expect(own is None or low <= own <= high,
                        case, "interval", expression_text(expression), lasso)
-                case.counts["values within their intervals"] += 1
+                case.counts["values compared, of them none: %s"
+                            % (own is None)] += 1
 
 
 def check_numbering(case):
@@ -330,61 +343,55 @@ def check_partition(case):
         case.counts["pairs of situations compared by themselves"] += 1
 
 
-def extended_valuation(case, normal, lasso):
-    """The streams of the sheet and, for each added stream, the values of what
+def extended_streams(case, normal, lasso):
+    """The streams of the sheet and, for each added stream, the course of what
     it stands for."""
-    base = lasso_valuation(case.sheet.names, case.judge.letters, lasso)
-    known = {}
-
-    def valuation(name, time):
-        if not name.startswith("#"):
-            return base(name, time)
-        if (name, time) not in known:
-            known[name, time] = value(normal.stands_for[int(name[1:])], base,
-                                      time)
-        return known[name, time]
-    return valuation
+    streams = streams_along(case, lasso)
+    return {**streams, **{"#%d" % number: course(expression, streams)
+                          for number, expression in enumerate(normal.stands_for)}}
 
 
-def changed(valuation, stream, time, instead):
-    return lambda name, at: (instead if (name, at) == (stream, time)
-                             else valuation(name, at))
+def changed(lasso, place, instead):
+    """The course with another value at one time."""
+    return from_times(lambda time: instead if time == place else at(lasso, time),
+                      max(len(lasso.prefix), place + 1), len(lasso.loop))
 
 
-def check_changes(case, normal, valuation, lasso):
-    """An added stream with another value anywhere breaks some entry."""
-    times = horizon(case.sheet.constraints, lasso)
+def check_changes(case, normal, streams, lasso):
+    """An added stream with another value anywhere, or with none, breaks some
+    entry; so does one with a number in the place of none."""
     for number, (low, high) in enumerate(normal.added):
         stream = "#%d" % number
-        for time in range(min(times, 6)):
-            own = valuation(stream, time)
-            expect(low <= own <= high, case, "range", stream, time, own)
-            others = [other for other in {low, high, own - 1, own + 1}
-                      if other != own]
-            for other in others:
-                expect(not all_hold(normal.entries,
-                                    changed(valuation, stream, time, other),
-                                    times + time + 2),
+        for time in range(6):
+            own = at(streams[stream], time)
+            expect(all(low <= number <= high for number in own), case, "range",
+                   stream, time, own)
+            others = {(), (low,), (high,), (0,)} | {
+                (number + more,) for number in own for more in (-1, 1)}
+            for other in others - {own}:
+                instead = changed(streams[stream], time, other)
+                expect(not solves_normal_form(normal,
+                                              {**streams, stream: instead}),
                        case, "change kept", stream, time, other, lasso)
-                case.counts["changed added values that break"] += 1
+                case.counts["changed added values that break, none before: %s"
+                            % (own == ())] += 1
 
 
 def check_normal_form(case):
-    """A word with the added streams meets all entries exactly if the word is
-    a solution; then no added value can be another."""
+    """A word with the added streams solves the normal form exactly if the word
+    is a solution; then no added value can be another."""
     normal = normal_form_of(case.sheet)
     lassos = random_lassos(case, NORMAL_FORM_WORDS)
     if case.table is not None:
         lassos += [random_walk(case, 0, 4) for _ in range(NORMAL_FORM_WORDS)]
     for lasso in lassos:
-        valuation = extended_valuation(case, normal, lasso)
-        meets = all_hold(normal.entries, valuation,
-                         horizon(case.sheet.constraints, lasso) + 1)
-        expect(meets == means_solution(case, lasso), case, "normal form",
+        streams = extended_streams(case, normal, lasso)
+        solves = solves_normal_form(normal, streams)
+        expect(solves == means_solution(case, lasso), case, "normal form",
                entry_texts(normal.entries), lasso)
         case.counts["words in normal forms"] += 1
-        if meets:
-            check_changes(case, normal, valuation, lasso)
+        if solves:
+            check_changes(case, normal, streams, lasso)
 
 
 def access_words(table):
@@ -439,7 +446,7 @@ def check_sheet(name, text, rng, counts):
     check_situations(case)
     check_partition(case)
     check_words(case)
-    check_intervals(case)
+    check_values(case)
     check_normal_form(case)
     if table is not None:
         check_table(case)
@@ -485,13 +492,14 @@ def main(seed, count):
     try:
         faults = example_faults()
         if faults:
-            raise Difference("examples of document 01", faults)
-        counts["examples of document 01"] += len(EXAMPLES)
+            raise Difference("examples", faults)
+        counts["examples"] += len(EXAMPLES)
         check_refusals(seed, counts)
         check_replays(rng, counts)
         check_courses(rng, counts)
         sheets = [(wanted.name, wanted.sheet) for wanted in EXAMPLES
-                  if "letters" not in wanted.name] + random_sheets(seed, count, 6)
+                  if "letters" not in wanted.name]
+        sheets += random_sheets(seed, count, 6) + division_sheets(seed, count, 6)
         for number, (name, text) in enumerate(sheets):
             check_sheet(name, text, rng, counts)
             if number % 50 == 49:

@@ -1,4 +1,6 @@
-"""The sheets of document 01 with the answers that document 01 gives them."""
+"""The sheets of document 01 with the answers that document 01 gives them, and
+sheets with divisions by zero (document 02, S-5) with answers worked out by
+hand."""
 
 from collections import namedtuple
 
@@ -6,7 +8,7 @@ from compiler import compile_sheet
 from limits import NO_ENTRY, SITUATIONS
 from sluice import sluice
 
-# What document 01 says of a sheet; None where it does not say.
+# What is said of a sheet; None where nothing is said.
 Example = namedtuple("Example", "name sheet refusal states situations "
                                 "entries finals output")
 
@@ -26,7 +28,7 @@ def example(name, text, refusal=0, states=None, situations=None,
                    situations, entries, finals, output)
 
 
-EXAMPLES = (
+DOCUMENT_01 = (
     example("P1", "level gate|0 0|2 1|( level ge 2 ) -> gate", states=1,
             entries=[[0, 0, 0, 0, NO_ENTRY, 0]], finals=[1],
             output=P1_OUTPUT),
@@ -52,7 +54,7 @@ EXAMPLES = (
     # What follows is worked out by hand from the rules of document 01.
     example("final-by-meaning", "x|0|1|x == 0 fby 1|1 until x",
             finals=[1, 1]),
-    example("quotient", "x|-3|-3|x == -7 / 2|-1 == -7 % 2|0 == x / 0|0 == x % 0",
+    example("quotient-cut", "x|-3|-3|x == -7 / 2|-1 == -7 % 2",
             entries=[[0]]),
     example("negative-is-true", "x|-1|1|1 until ( x - 1 )",
             entries=[[1, 1, 0], [1, 1, 1]], finals=[0, 1]),
@@ -72,8 +74,138 @@ EXAMPLES = (
 )
 
 
+# Entries over streams x and y from 0 to 1: the letters are 00, 01, 10, 11.
+ONLY_Y = [[NO_ENTRY, 0, NO_ENTRY, 0]]
+FIRST_Y = [[NO_ENTRY, 1, NO_ENTRY, 1], [1, 1, 1, 1]]
+X_UNTIL_Y = [[NO_ENTRY, 1, 0, 1], [1, 1, 1, 1]]
+
+
+def over_x_y(name, lines, *answer, **answers):
+    return example(name, "x y|0 0|1 1|" + lines, *answer, **answers)
+
+
+DISCHARGE = "volume width flow|0 0 0|2 1 2|"
+DISCHARGE_OUTPUT = b"""state final volume width flow next
+0 1 0 1 0 0
+0 1 1 1 1 0
+0 1 2 1 2 0
+"""
+DISCHARGE_GUARDED_OUTPUT = b"""state final volume width flow next
+0 1 0 0 0 0
+0 1 0 1 0 0
+0 1 1 0 0 0
+0 1 1 1 1 0
+0 1 2 0 0 0
+0 1 2 1 2 0
+"""
+
+# Document 02, S-5: a quotient or remainder with divisor 0 has no value.
+DIVISIONS = (
+    # "A comparison or implication with none on either side fails"
+    over_x_y("none-compared", "x / y == 0", states=1, situations=2,
+             entries=[[NO_ENTRY, 0, NO_ENTRY, NO_ENTRY]], finals=[1]),
+    over_x_y("none-remainder", "x % y == 0", entries=ONLY_Y, finals=[1]),
+    example("none-remainder-always", "x|0|1|( x % 0 ) == 0", 9),
+    example("none-after-quotients",
+            "x|-3|-3|x == -7 / 2|-1 == -7 % 2|0 == x / 0|0 == x % 0", 9),
+    example("none-equals-none", "x|0|1|( x / 0 ) == ( x / 0 )", 9),
+    example("none-differs-from-none", "x|0|1|( x / 0 ) != ( x / 0 )", 9),
+    example("none-implied-by-false", "x|0|1|0 -> ( x / 0 )", 9),
+    example("none-implies-true", "x|0|1|( x / 0 ) -> 1", 9),
+    over_x_y("none-implied", "x -> ( 1 / y )", entries=ONLY_Y, finals=[1]),
+    over_x_y("none-implies", "( x / y ) -> x", entries=ONLY_Y, finals=[1]),
+    # "Any operator with a part that has none [..] gives none"
+    over_x_y("none-or", "( ( y eq 0 ) or ( ( x / y ) ge 0 ) ) == 1",
+             states=1, situations=2, entries=ONLY_Y, finals=[1]),
+    over_x_y("none-or-true", "( 1 or ( x / y ) ) == 1", entries=ONLY_Y),
+    over_x_y("none-and", "( ( y ne 0 ) and ( x / y ) ) == 0",
+             entries=[[NO_ENTRY, 0, NO_ENTRY, NO_ENTRY]]),
+    over_x_y("none-and-false", "( 0 and ( x / y ) ) == 0", entries=ONLY_Y),
+    over_x_y("none-on-the-left-of-and", "( ( x / y ) and 0 ) == 0",
+             entries=ONLY_Y),
+    example("none-not", "x|0|1|( not ( x / 0 ) ) >= 0", 9),
+    example("none-times-0", "x|0|1|( 0 * ( x / 0 ) ) == 0", 9),
+    example("none-eq-none", "x|0|1|( ( x / 0 ) eq ( x / 0 ) ) >= 0", 9),
+    example("none-divisor", "x|1|2|( x / ( x / 0 ) ) >= 0", 9),
+    # "`if` needs only its condition and chosen branch"
+    over_x_y("guarded", "( if y then ( x / y ) else 0 ) == 0", states=1,
+             situations=2, entries=[[0, 0, 0, NO_ENTRY]], finals=[1]),
+    over_x_y("guarded-by-else", "( if ( y eq 0 ) then 0 else ( x % y ) ) == 0",
+             entries=[[0, 0, 0, 0]]),
+    over_x_y("guarded-too-late",
+             "( if y then ( x / ( 0 fby y ) ) else 0 ) >= 0",
+             entries=[[0, NO_ENTRY, 0, NO_ENTRY]]),
+    over_x_y("none-condition", "( if ( x / y ) then 1 else 1 ) == 1",
+             entries=ONLY_Y),
+    over_x_y("none-chosen", "( if x then ( 1 / y ) else 1 ) == 1",
+             entries=[[0, 0, NO_ENTRY, 0]]),
+    # "`until` treats none as 0"
+    example("none-until-left", "y|0|1|( 1 / 0 ) until y", states=2,
+            situations=2, entries=[[NO_ENTRY, 1], [1, 1]], finals=[1, 1]),
+    example("none-until-right", "y|0|1|1 until ( 1 / y )", states=2,
+            situations=3, entries=[[0, 1], [1, 1]], finals=[0, 1]),
+    example("none-until-never", "y|0|1|1 until ( y / 0 )", 9),
+    over_x_y("none-until-left-or-done", "( 1 / x ) until y",
+             entries=X_UNTIL_Y, finals=[0, 1]),
+    over_x_y("none-until-right-or-left", "x until ( 1 / y )",
+             entries=X_UNTIL_Y, finals=[0, 1]),
+    over_x_y("none-not-until", "( not ( 1 / x ) ) until y", entries=FIRST_Y,
+             finals=[1, 1]),
+    # `next` reads the later time only, `fby` one side at a time
+    over_x_y("none-next", "next ( x / y ) == 0", states=2, situations=6,
+             entries=[[1, 1, 1, 1], [NO_ENTRY, 1, NO_ENTRY, NO_ENTRY]]),
+    example("none-first-next", "y|0|1|( first next ( 1 / y ) ) == 1",
+            entries=[[1, 1], [NO_ENTRY, 2], [2, 2]]),
+    example("none-left-of-fby", "y|0|1|0 == ( ( 0 / y ) fby 0 )", states=2,
+            situations=4, entries=[[NO_ENTRY, 1], [1, 1]]),
+    example("none-right-of-fby", "y|0|1|1 >= ( 0 fby ( 1 / y ) )", states=1,
+            situations=5, entries=[[NO_ENTRY, 0]]),
+    example("none-until-fby", "y|0|1|1 until ( ( 1 / y ) fby 1 )",
+            entries=[[0, 0]], finals=[1]),
+    over_x_y("none-next-fby", "( next ( ( x / 0 ) fby y ) ) == 1",
+             entries=ONLY_Y),
+    # "The `first` of none is none, in situations too."
+    over_x_y("none-first-not-read",
+             "( if 1 then 1 else ( first ( x / y ) ) ) == 1", states=1,
+             situations=4, entries=[[0, 0, 0, 0]]),
+    over_x_y("none-first-times-0", "( 0 * ( first ( x / y ) ) ) != 1",
+             states=2, situations=3, entries=FIRST_Y),
+    over_x_y("none-first-of-first", "( first first ( x / y ) ) >= 0",
+             states=2, situations=3, entries=FIRST_Y),
+    over_x_y("none-first-in-first",
+             "( if 1 then 1 else ( first ( 0 * ( first ( x / y ) ) ) ) ) == 1",
+             states=1, situations=4),
+    over_x_y("none-until-first", "( first ( 1 / x ) ) until y", states=3,
+             entries=[[NO_ENTRY, 1, 2, 1], [1, 1, 1, 1], [2, 1, 2, 1]]),
+    example("none-first-of-none", "x|0|1|( first ( x / 0 ) ) == 0", 9),
+    # 106 situations where 105 rows are lent, and 105 where 106 are
+    example("none-first-refused-10", "x y|0 0|103 2|"
+            "( if 1 then 1 else ( first ( x / y ) ) ) == 1", situations=106,
+            output=b"refused 10\n"),
+    example("none-first-within-rows", "x y|0 0|102 2|"
+            "( if 1 then 1 else ( first ( x / y ) ) ) == 1", situations=105),
+    # docs/sheets.md, "A discharge sheet"
+    example("discharge", DISCHARGE + "flow == volume / width", states=1,
+            situations=2, output=DISCHARGE_OUTPUT),
+    example("discharge-guarded", DISCHARGE
+            + "flow == if width then ( volume / width ) else 0", states=1,
+            situations=2, output=DISCHARGE_GUARDED_OUTPUT),
+    example("discharge-implied", DISCHARGE
+            + "width -> ( flow eq ( volume / width ) )",
+            output=DISCHARGE_OUTPUT),
+    example("discharge-guarded-rule", DISCHARGE
+            + "( if width then ( flow eq ( volume / width ) ) else 1 ) == 1",
+            states=1, situations=2,
+            entries=[[0, 0, 0, 0, NO_ENTRY, NO_ENTRY,
+                      0, 0, 0, NO_ENTRY, 0, NO_ENTRY,
+                      0, 0, 0, NO_ENTRY, NO_ENTRY, 0]]),
+)
+
+EXAMPLES = DOCUMENT_01 + DIVISIONS
+
+
 def example_faults():
-    """What the enumerator answers otherwise than document 01."""
+    """What the enumerator answers otherwise."""
     faults = []
     for wanted in EXAMPLES:
         compiled = compile_sheet(wanted.sheet, SITUATIONS)

@@ -2,9 +2,9 @@
 
     python3 enumerator/generate.py SEED COUNT
 
-prints COUNT random sheets, then the sheets at the bounds and those with many
-situations, one JSON object a line with its name and the sheet as a latin-1
-text.
+prints COUNT random sheets and COUNT with divisions, then the sheets at the
+bounds and those with many situations, one JSON object a line with its name and
+the sheet as a latin-1 text.
 """
 
 import json
@@ -16,7 +16,7 @@ from grammar import COMPARISON_SIGNS, COMPARISON_WORDS, OPERATORS
 STREAM_NAMES = ("x", "y", "z", "level", "gate", "a", "weirgate", "flow")
 
 # Lines that often leave solutions over.  NAME is a stream, PART a random
-# part, SMALL a small integer.
+# part, SMALL a small integer, DIVISION a quotient or remainder in brackets.
 UNTIL_TEMPLATES = (
     "1 until ( NAME eq SMALL )",
     "1 until PART",
@@ -55,6 +55,33 @@ TEMPLATES = (
     "NAME != SMALL fby ( next next NAME )",
     "next ( SMALL fby NAME ) <= NAME",
 )
+# Lines in which a value may be none (document 02, S-5).
+DIVISION_TEMPLATES = (
+    "DIVISION <= PART",
+    "DIVISION != DIVISION",
+    "SMALL <= next DIVISION",
+    "( DIVISION fby NAME ) != SMALL",
+    "NAME >= SMALL fby DIVISION",
+    "next ( DIVISION fby DIVISION ) >= SMALL",
+    "( next DIVISION fby next next NAME ) >= SMALL",
+    "DIVISION -> PART",
+    "PART -> DIVISION",
+    "DIVISION until PART",
+    "PART until DIVISION",
+    "1 until ( not DIVISION )",
+    "( not next DIVISION ) until ( DIVISION and NAME )",
+    "( if NAME then DIVISION else PART ) >= SMALL",
+    "( if ( NAME ne 0 ) then ( NAME / NAME ) else SMALL ) <= NAME",
+    "( if DIVISION then PART else NAME ) >= SMALL",
+    "( NAME and DIVISION ) == PART",
+    "( NAME or DIVISION ) -> PART",
+    "( ( DIVISION eq DIVISION ) + ( first NAME ) ) >= SMALL",
+    "first DIVISION >= SMALL",
+    "( if NAME then SMALL else first DIVISION ) <= NAME",
+    "( if 1 then NAME else ( first next DIVISION ) ) >= SMALL",
+    "( SMALL * first ( DIVISION fby NAME ) ) != SMALL",
+    "PART until ( first DIVISION )",
+)
 
 
 def random_integer(rng):
@@ -90,6 +117,13 @@ def random_expression(rng, names, depth):
             + random_part(rng, names, depth))
 
 
+def random_division(rng, names):
+    """The tokens of a quotient or remainder in brackets."""
+    dividend = random_part(rng, names, 1)
+    operator = rng.choice("//%")
+    return ["("] + dividend + [operator] + random_part(rng, names, 1) + [")"]
+
+
 def random_constraint(rng, names, depth):
     sign = rng.choice(COMPARISON_SIGNS
                       + ("->", "->", "->", "until", "until", "!=", "<="))
@@ -106,6 +140,8 @@ def template_constraint(rng, names, templates):
             tokens += random_part(rng, names, 2)
         elif word == "SMALL":
             tokens.append(random_integer(rng))
+        elif word == "DIVISION":
+            tokens += random_division(rng, names)
         else:
             tokens.append(word)
     return tokens
@@ -137,12 +173,17 @@ def random_ranges(rng, count, letter_limit):
     return lows, highs
 
 
-def random_lines(rng, letter_limit=8):
-    """The lines of a well-formed sheet, without the ends of lines."""
-    count = rng.choice((1, 1, 1, 2, 2, 3))
+def random_header(rng, count, letter_limit):
+    """The names of count streams and the three header lines."""
     names = rng.sample(STREAM_NAMES, count)
     lows, highs = random_ranges(rng, count, letter_limit)
-    lines = [" ".join(names), " ".join(lows), " ".join(highs)]
+    return names, [" ".join(names), " ".join(lows), " ".join(highs)]
+
+
+def random_lines(rng, letter_limit=8):
+    """The lines of a well-formed sheet, without the ends of lines."""
+    names, lines = random_header(rng, rng.choice((1, 1, 1, 2, 2, 3)),
+                                 letter_limit)
     for _ in range(rng.choice((0, 1, 1, 1, 2, 2, 3, 4))):
         chance = rng.random()
         if chance < 0.3:
@@ -164,6 +205,23 @@ def random_sheets(seed, count, letter_limit=8):
     rng = random.Random(seed)
     return [("random-%d-%d" % (seed, number),
              sheet_bytes(random_lines(rng, letter_limit), rng.random() < 0.8))
+            for number in range(count)]
+
+
+def division_lines(rng, letter_limit):
+    """The same of a sheet with a division in most of its constraints."""
+    names, lines = random_header(rng, rng.choice((1, 2, 2)), letter_limit)
+    for _ in range(rng.choice((1, 1, 1, 2, 3))):
+        templates = DIVISION_TEMPLATES if rng.random() < 0.8 else TEMPLATES
+        lines.append(spaced(rng, template_constraint(rng, names, templates)))
+    return lines
+
+
+def division_sheets(seed, count, letter_limit=8):
+    """Named random sheets in which values may be none."""
+    rng = random.Random(seed)
+    return [("division-%d-%d" % (seed, number),
+             sheet_bytes(division_lines(rng, letter_limit)))
             for number in range(count)]
 
 
@@ -474,7 +532,7 @@ def large_table_sheets():
 
 
 def main(seed, count):
-    sheets = (random_sheets(seed, count)
+    sheets = (random_sheets(seed, count) + division_sheets(seed, count)
               + [(name, sheet) for name, _, sheet in bound_sheets()]
               + counted_sheets() + large_table_sheets())
     print_sheets(sheets)

@@ -1,6 +1,8 @@
-"""Document 01, "Meaning at time i (from 0)".
+"""Document 01, "Meaning at time i (from 0)", with document 02, S-5: a quotient
+or remainder with divisor 0 has no value.
 
 A valuation is a function that gives the value of a named stream at a time.
+Python's None is document 02's "none".
 """
 
 import operator
@@ -15,17 +17,18 @@ COMPARE_SIGN = dict(zip(COMPARISON_SIGNS,
 
 
 def quotient(dividend, divisor):
-    """"A quotient is cut toward zero"; "With divisor 0 both are 0." """
+    """"A quotient is cut toward zero"; with divisor 0 it "has no value"."""
     if divisor == 0:
-        return 0
+        return None
     magnitude = abs(dividend) // abs(divisor)
     return magnitude if (dividend < 0) == (divisor < 0) else -magnitude
 
 
 def remainder(dividend, divisor):
-    """"the remainder has the dividend's sign"; "With divisor 0 both are 0." """
+    """"the remainder has the dividend's sign"; with divisor 0 it "has no
+    value"."""
     if divisor == 0:
-        return 0
+        return None
     return dividend - divisor * quotient(dividend, divisor)
 
 
@@ -39,38 +42,57 @@ POINTWISE = {
 }
 
 
+def applied(function, *parts):
+    """"Any operator with a part that has none at the time it is read gives
+    none": also `and` and `or`, which read both parts."""
+    return None if None in parts else function(*parts)
+
+
+def is_true(result):
+    """"any value but 0 is true", and none is no value."""
+    return result is not None and result != 0
+
+
 def value(expression, valuation, time):
-    """The value of the expression at the time."""
+    """The value of the expression at the time, or None if it has none."""
     kind = type(expression)
     if kind is Integer:
         return expression.value
     if kind is Name:
         return valuation(expression.text, time)
     if kind is Conditional:
-        holds = value(expression.condition, valuation, time) != 0
-        branch = expression.when_true if holds else expression.when_false
+        # "`if` needs only its condition and chosen branch."
+        condition = value(expression.condition, valuation, time)
+        if condition is None:
+            return None
+        branch = expression.when_true if condition else expression.when_false
         return value(branch, valuation, time)
     word = expression.word
-    # "`first e` is e at 0. `next e` is e at i+1."
+    # "`first e` is e at 0. `next e` is e at i+1."  Other times of e are not
+    # read.
     if word == "first":
         return value(expression.operand, valuation, 0)
     if word == "next":
         return value(expression.operand, valuation, time + 1)
     if word == "not":
-        return int(value(expression.operand, valuation, time) == 0)
-    # "`a fby b` is a at 0, and b at i−1 later."
+        return applied(lambda part: int(part == 0),
+                       value(expression.operand, valuation, time))
+    # "`a fby b` is a at 0, and b at i−1 later."  One side is read at a time.
     if word == "fby":
         if time == 0:
             return value(expression.left, valuation, 0)
         return value(expression.right, valuation, time - 1)
-    return POINTWISE[word](value(expression.left, valuation, time),
-                           value(expression.right, valuation, time))
+    return applied(POINTWISE[word], value(expression.left, valuation, time),
+                   value(expression.right, valuation, time))
 
 
 def holds_at(constraint, valuation, time):
-    """Whether a comparison or implication holds at the time."""
+    """Whether a comparison or implication holds at the time: "A comparison or
+    implication with none on either side fails at that time"."""
     left = value(constraint.left, valuation, time)
     right = value(constraint.right, valuation, time)
+    if left is None or right is None:
+        return False
     if constraint.sign == "->":
         return left == 0 or right != 0
     return COMPARE_SIGN[constraint.sign](left, right)
@@ -81,10 +103,11 @@ PENDING, DONE, BROKEN = "pending", "done", "broken"
 
 def until_at(constraint, valuation, time):
     """What one time does to an `until` that was pending before: done if the
-    right side is not 0, broken if both sides are 0, else still pending."""
-    if value(constraint.right, valuation, time) != 0:
+    right side is true, broken if neither side is, else still pending;
+    "`until` treats none as 0"."""
+    if is_true(value(constraint.right, valuation, time)):
         return DONE
-    if value(constraint.left, valuation, time) == 0:
+    if not is_true(value(constraint.left, valuation, time)):
         return BROKEN
     return PENDING
 

@@ -11,9 +11,22 @@ from grammar import (Binary, Conditional, Constraint, Name, Unary,
 from intervals import interval, untils
 from reading import ranges, read
 
-# entries: constraints.  stands_for: for each added stream the expression of
-# the sheet that it stands for.  added: the range of each added stream.
-NormalForm = namedtuple("NormalForm", "refusal entries stands_for added")
+
+class NormalForm(namedtuple("NormalForm", "refusal rewritten added_entries "
+                                          "stands_for added")):
+    """rewritten: the sheet's constraints, which hold as in a sheet.
+    added_entries: those in which "none equals none and no number" (document
+    02, S-5).  stands_for: for each added stream the expression of the sheet
+    that it stands for.  added: the range of each added stream's numbers; it
+    "may carry none" beside them."""
+
+    @property
+    def entries(self):
+        return self.rewritten + self.added_entries
+
+
+def refused(refusal):
+    return NormalForm(refusal, [], [], [], [])
 
 
 def temporal_operators(sheet):
@@ -60,7 +73,7 @@ def rewrite_constraint(constraint, streams):
     return constraint._replace(left=left, right=right)
 
 
-def added_entries(operator, streams):
+def entries_of(operator, streams):
     """The entries that 000 adds for one operator, in its order."""
     place = operator.place
     own = streams[place]
@@ -91,13 +104,14 @@ def normal_form_of(sheet):
         streams[operator.place] = [Name("#%d" % (len(stands_for) + index))
                                    for index in range(len(expressions))]
         stands_for += expressions
-    entries = [rewrite_constraint(constraint, streams)
-               for constraint in sheet.constraints]
-    for operator in operators:
-        entries += added_entries(operator, streams)
-    assert len(entries) == entry_count(sheet, operators)
+    rewritten = [rewrite_constraint(constraint, streams)
+                 for constraint in sheet.constraints]
+    entries = [entry for operator in operators
+               for entry in entries_of(operator, streams)]
     added = [interval(expression, ranges(sheet)) for expression in stands_for]
-    return NormalForm(0, entries, stands_for, added)
+    normal = NormalForm(0, rewritten, entries, stands_for, added)
+    assert len(normal.entries) == entry_count(sheet, operators)
+    return normal
 
 
 def entry_count(sheet, operators):
@@ -111,10 +125,10 @@ def normal_form(text, list_length):
     "The normal form can meet 1 to 7 and 10, and leaves its list zero." """
     refusal, sheet = read(text)
     if refusal:
-        return NormalForm(refusal, [], [], [])
+        return refused(refusal)
     result = normal_form_of(sheet)
     if list_length < len(result.entries):
-        return NormalForm(10, [], [], [])
+        return refused(10)
     return result
 
 

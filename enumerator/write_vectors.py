@@ -15,8 +15,8 @@ from course import course
 from course_cases import course_cases
 from damage import damaged_sheets
 from examples import EXAMPLES
-from generate import (bound_sheets, counted_sheets, large_table_sheets,
-                      random_sheets)
+from generate import (bound_sheets, counted_sheets, division_sheets,
+                      large_table_sheets, random_sheets)
 from grammar import constraint_text
 from intervals import deepest_back, deepest_reach, firsts, untils
 from limits import SITUATIONS, STEP_REFUSED
@@ -34,6 +34,7 @@ from step_cases import step_cases
 DEFAULT_DIRECTORY = Path(__file__).resolve().parent.parent / "vectors"
 SEED = 1
 RANDOM_SHEETS = 400
+DIVISION_SHEETS = 100
 # Of the drawn sheets, one in so many has normal forms.
 NORMAL_STRIDE = 3
 DAMAGED_EACH = 16
@@ -58,7 +59,8 @@ def drawn_sheets():
     """Sheets with vectors for few row counts."""
     return (random_sheets(SEED, RANDOM_SHEETS)
             + [(name, text) for name, _, text in spelling_sheets()]
-            + damaged_sheets(SEED, DAMAGED_EACH))
+            + damaged_sheets(SEED, DAMAGED_EACH)
+            + division_sheets(SEED, DIVISION_SHEETS))
 
 
 def is_small(analysis):

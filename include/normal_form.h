@@ -27,6 +27,13 @@
  * `left_added` and `right_added` are the numbers of the first streams that rewriting the left and the right side adds.
  * `stream_kind` is the kind of stream `left`, always 0. All else is 0.
  *
+ * What a solution of the entries is. A quotient or remainder with divisor 0 has no value. An operator, `and`, `or` and `not`
+ * among them, with a part that has none gives none, whatever the other part is; an `if` reads only its condition and the
+ * branch that it takes; `first`, `next` and `fby` read one value at one time. The sheet's own streams have a
+ * number at every time; an added stream has a number from `low` to `high`, or no value, at each time. In kinds 1 and 2 a
+ * missing value counts as in the sheet: a comparison or implication with none on either side fails, and `until` takes none
+ * as 0. In kinds 3 to 5, the added entries, two sides are equal where both have no value, and none equals no number.
+ *
  * examples/print_normal.c prints the entries of a sheet.
  */
 #ifndef NORMAL_FORM_H

@@ -11,16 +11,20 @@ enum { KEY = 16, KEY_LETTERS = 1, KEY_FIRSTS = 7, KEY_MARKS = 15, ROWS = 4096 };
 // a value within the magnitude bound as a natural number of a key
 #define RAISE 1000000000
 
+// stands for no value; no value within the magnitude bound is equal to it
+#define ABSENT (RAISE + 1)
+
 // What an expression is evaluated in: the letters that are known, one after the other, and, in a record that was cut, the firsts.
 typedef struct { const sheet *s; const int64_t *window, *firsts; int whole; } view;
 
 static int64_t applied(uint8_t kind, int64_t a, int64_t b) {
+    if (a == ABSENT || b == ABSENT) return ABSENT;
     switch (kind) {
     case ADD: return a + b;
     case SUBTRACT: return a - b;
     case MULTIPLY: return a * b;
-    case DIVIDE: return b ? a / b : 0;
-    case REMAINDER: return b ? a % b : 0;
+    case DIVIDE: return b ? a / b : ABSENT;
+    case REMAINDER: return b ? a % b : ABSENT;
     case LT: return a < b;
     case LE: return a <= b;
     case EQ: return a == b;
@@ -32,6 +36,8 @@ static int64_t applied(uint8_t kind, int64_t a, int64_t b) {
     }
 }
 
+static int64_t negated(int64_t a) { return a == ABSENT ? ABSENT : !a; }
+
 // The value of the part that ends before `end`, at a place of the window.
 static int64_t value_before(const view *v, size_t end, size_t place) {
     const sheet *s = v->s;
@@ -42,10 +48,11 @@ static int64_t value_before(const view *v, size_t end, size_t place) {
     case NAME: return v->window[place * s->streams + (size_t)s->values[i]];
     case FIRST: return v->whole ? value_before(v, i, 0) : v->firsts[s->values[i]];
     case NEXT: return value_before(v, i, place + 1);
-    case NOT: return !value_before(v, i, place);
+    case NOT: return negated(value_before(v, i, place));
     case IF: {
         size_t middle = s->starts[i - 1];
-        return value_before(v, value_before(v, s->starts[middle - 1], place) ? middle : i, place);
+        int64_t condition = value_before(v, s->starts[middle - 1], place);
+        return condition == ABSENT ? ABSENT : value_before(v, condition ? middle : i, place);
     }
     // in a record that was cut, place 0 is not asked for
     case FBY: return place ? value_before(v, i, place - 1) : value_before(v, s->starts[i - 1], 0);
@@ -59,7 +66,11 @@ static int64_t value_before(const view *v, size_t end, size_t place) {
 
 static int64_t value_of(const view *v, size_t node, size_t place) { return value_before(v, node + 1, place); }
 
+// an `until` takes no value as 0
+static int is_true(int64_t a) { return a != 0 && a != ABSENT; }
+
 static int holds(uint8_t relation, int64_t a, int64_t b) {
+    if (a == ABSENT || b == ABSENT) return 0;
     switch (relation) {
     case LESS: return a < b;
     case AT_MOST: return a <= b;
@@ -77,8 +88,8 @@ static int judge(const view *v, size_t place, uint32_t *marks) {
     uint32_t told = 0, mark = 1;
     for (size_t j = 0; j < s->constraints; j++) {
         if (s->relations[j] == UNTIL) {
-            if ((*marks & mark) || value_of(v, s->rights[j], place)) told |= mark;
-            else if (!value_of(v, s->lefts[j], place)) return 0;
+            if ((*marks & mark) || is_true(value_of(v, s->rights[j], place))) told |= mark;
+            else if (!is_true(value_of(v, s->lefts[j], place))) return 0;
             mark <<= 1;
         } else if (!holds(s->relations[j], value_of(v, s->lefts[j], place), value_of(v, s->rights[j], place))) return 0;
     }

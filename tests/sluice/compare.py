@@ -2,8 +2,8 @@
 
     python3 tests/sluice/compare.py COUNT [SEED [PROGRAM]]
 
-Gives the program COUNT random sheets, a quarter as many damaged ones, the sheets
-at the bounds and those with many situations, one run each, and compares every
+Gives the program COUNT random sheets, a quarter as many with divisions, a quarter
+as many damaged ones, the sheets at the bounds and those with many situations, one run each, and compares every
 byte that it prints. PROGRAM is target/bin/sluice, which `rt check sluice` makes.
 An endless input must be refused too, and not be read to its end.
 """
@@ -16,7 +16,7 @@ from collections import Counter
 ROOT = pathlib.Path(__file__).resolve().parents[2]
 sys.path.insert(0, str(ROOT / "enumerator"))
 from damage import damaged_sheets  # noqa: E402
-from generate import bound_sheets, counted_sheets, large_table_sheets, random_sheets  # noqa: E402
+from generate import bound_sheets, counted_sheets, division_sheets, large_table_sheets, random_sheets  # noqa: E402
 from sluice import sluice  # noqa: E402
 
 LETTER_LIMITS = (4, 8, 16, 32)
@@ -31,7 +31,7 @@ def sheets(count, seed):
         chosen += random_sheets(seed * len(LETTER_LIMITS) + place, each, limit)
     chosen = chosen[:count]
     damaged = damaged_sheets(seed, -(-count // 48))
-    return (chosen + damaged[:count // 4]
+    return (chosen + division_sheets(seed, count // 4) + damaged[:count // 4]
             + [(name, text) for name, _, text in bound_sheets()]
             + counted_sheets() + large_table_sheets())
 

@@ -13,8 +13,9 @@ use borrow.Author.Tests.{ltb-true, ltb-false, le-leb, lt-leb, eq-eqb, ne-eqb}
 use mir.Syntax.{w64}
 use mir.Val.{SFits, Fits, toZ, ofZ}
 use mir.ValLaws.{toZ-ofZ, sfits-le}
-use Rattle.meaning.specs.Value.{nonzero, compares, equal}
-use Rattle.nodes.specs.Bounded.{inBound, Small}
+use Rattle.meaning.specs.Value.{absent, number, nonzero, compares, equal}
+use Rattle.nodes.specs.Bounded.{inBound, Small, noValue, evaluated}
+use Rattle.arithmetic.specs.Coded.{coded}
 
 -- ---- what passes through locals
 
@@ -159,13 +160,13 @@ bits-not-zero z f = by (ℕ-discrete (ofZ w64 z) 0)
     by (yes e) = ap not (eq-eqb (ofZ w64 z) 0 e) ∙ sym (bits-false z f e)
     by (no e) = ap not (ne-eqb (ofZ w64 z) 0 e) ∙ sym (bits-nonzero z e)
 
--- ---- division: the quotient or remainder f, and 0 by 0
+-- ---- division: the quotient or remainder f, and none by 0
 
 module _ (f : ℤ → ℤ → ℤ) (a b : ℤ) where
-  pub by-nonzero : nonzero b ≡ true → f a b ≡ cond (nonzero b) (f a b) (pos 0)
-  by-nonzero e = simp e
+  pub by-nonzero : nonzero b ≡ true → inBound (f a b) ≡ true → f a b ≡ coded (evaluated (cond (nonzero b) (number (f a b)) absent))
+  by-nonzero e h = simp (e, h)
 
-  pub by-zero : nonzero b ≡ false → pos 0 ≡ cond (nonzero b) (f a b) (pos 0)
+  pub by-zero : nonzero b ≡ false → coded noValue ≡ coded (evaluated (cond (nonzero b) (number (f a b)) absent))
   by-zero e = simp e
 
 -- The nonzero of a value that was held, as a branch leaves it.

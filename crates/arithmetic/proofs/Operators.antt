@@ -10,14 +10,19 @@ use borrow.Author.Tests.{leb-true, le-leb, lt-leb, lt-ltb, le-ltb}
 use mir.Syntax.{w64}
 use mir.Val.{SFits}
 use mir.ValLaws.{toZ-ofZ}
-use Rattle.meaning.specs.Arithmetic.{or, apply}
-use Rattle.nodes.specs.Bounded.{inBound, Small, noValue, bounded, operatorsByKind, operatorAt, appliedByKind}
+use Rattle.meaning.specs.Arithmetic.{Operator, or, applyNumbers}
+use Rattle.nodes.specs.Bounded.{inBound, Small, noValue, bounded, evaluated, operatorsByKind, operatorAt, appliedByKind}
+use Rattle.arithmetic.specs.Coded.{coded}
 use Rattle.arithmetic.proofs.Machine.{held, held-both}
 
-pub applied-kind : {k : ℕ} {a b r : ℤ} (n : ℕ) → k ≡ n → SFits w64 a → SFits w64 b → SFits w64 r → r ≡ apply (operatorAt n) (held a) (held b)
-    → held r ≡ apply (operatorAt k) a b
-applied-kind {k} {a} {b} {r} n e fa fb fr h =
-    toZ-ofZ w64 r fr ∙ h ∙ held-both (apply (operatorAt n)) a b fa fb ∙ ap (λ i. apply (operatorAt i) a b) (sym e)
+-- What an operator gives of two numbers, as one number.
+abbrev pub codedApply : Operator → ℤ → ℤ → ℤ
+codedApply o a b = coded (evaluated (applyNumbers o a b))
+
+pub applied-kind : {k : ℕ} {a b r : ℤ} → SFits w64 a → SFits w64 b → SFits w64 r → (n : ℕ) → k ≡ n → r ≡ codedApply (operatorAt n) (held a) (held b)
+    → held r ≡ codedApply (operatorAt k) a b
+applied-kind {k} {a} {b} {r} fa fb fr n e h =
+    toZ-ofZ w64 r fr ∙ h ∙ held-both (codedApply (operatorAt n)) a b fa fb ∙ ap (λ i. codedApply (operatorAt i) a b) (sym e)
 
 -- A kind that is none of the first ones is a later one.
 pub later : {n k : ℕ} → n ≤ k → (k ≡ n → ⊥) → suc n ≤ k
@@ -30,10 +35,9 @@ operatorAt-last k h = by (ℕ-discrete (k - 7) 12)
     by (yes e) = ap (λ i. getD operatorsByKind i or) e
     by (no e) = List·getD-eq-default operatorsByKind or {n = k - 7} (omega arith)
 
-pub applied-last : {k : ℕ} {a b r : ℤ} → 19 ≤ k → SFits w64 a → SFits w64 b → SFits w64 r → r ≡ apply or (held a) (held b)
-    → held r ≡ apply (operatorAt k) a b
-applied-last {k} {a} {b} {r} l fa fb fr h =
-    toZ-ofZ w64 r fr ∙ h ∙ held-both (apply or) a b fa fb ∙ ap (λ o. apply o a b) (sym (operatorAt-last k l))
+pub applied-last : {k : ℕ} {a b r : ℤ} → SFits w64 a → SFits w64 b → SFits w64 r → 19 ≤ k → r ≡ codedApply or (held a) (held b) → held r ≡ codedApply (operatorAt k) a b
+applied-last {k} {a} {b} {r} fa fb fr l h =
+    toZ-ofZ w64 r fr ∙ h ∙ held-both (codedApply or) a b fa fb ∙ ap (λ o. codedApply o a b) (sym (operatorAt-last k l))
 
 -- ---- operands within the bound
 
@@ -64,9 +68,9 @@ module _ (k : ℕ) (a b : ℤ) where
 
   module _ (l : 7 ≤ k) (h : k ≤ 19) where
     pub byKind-bounded : SFits w64 a → SFits w64 b → inBound a ≡ true → inBound b ≡ true
-        → bounded (apply (operatorAt k) (held a) (held b)) ≡ appliedByKind k a b
+        → evaluated (applyNumbers (operatorAt k) (held a) (held b)) ≡ appliedByKind k a b
     byKind-bounded fa fb p q =
-        held-both (λ x y. bounded (apply (operatorAt k) x y)) a b fa fb ∙ sym (simp (le-leb 7 k l, lt-ltb k 20 (omega arith), p, q))
+        held-both (λ x y. evaluated (applyNumbers (operatorAt k) x y)) a b fa fb ∙ sym (simp (le-leb 7 k l, lt-ltb k 20 (omega arith), p, q))
 
     pub byKind-left : inBound a ≡ false → noValue ≡ appliedByKind k a b
     byKind-left p = simp (le-leb 7 k l, lt-ltb k 20 (omega arith), p)

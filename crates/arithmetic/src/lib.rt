@@ -3,11 +3,12 @@ use basics::either;
 use nodes::Evaluated;
 ghost use mathlib.Core.Path.{_≡_};
 ghost use Prim.Native.Nat.{_≤_};
+ghost use lib.IntN.{_+ℤ_, _-ℤ_, _*ℤ_};
 ghost use lib.Signed.{ltZ, leZ};
 ghost use Rattle.meaning.specs.Value.{nonzero, bit, compares, equal};
-ghost use Rattle.meaning.specs.Arithmetic.{add, subtract, multiply, divide, remainder, apply};
+ghost use Rattle.meaning.specs.Arithmetic.{divide, remainder, applyNumbers};
 ghost use Rattle.arithmetic.specs.Coded.{coded};
-ghost use Rattle.nodes.specs.Bounded.{inBound, Small, noValue, bounded, operatorAt, appliedByKind};
+ghost use Rattle.nodes.specs.Bounded.{inBound, Small, noValue, bounded, evaluated, operatorAt, appliedByKind};
 
 // "Magnitudes to 1,000,000,000."
 pub fn in_bound(z: i64) -> bool
@@ -40,7 +41,7 @@ pub fn bounded(z: i64) -> Evaluated
 }
 
 // The number that stands for no value.
-pub fn absent() -> i64
+pub fn no_value_coded() -> i64
     ensures { λ r. ⌜ r ≡ coded noValue ⌝ }
 {
     2000000000
@@ -50,7 +51,7 @@ pub fn absent() -> i64
 pub fn bounded_coded(z: i64) -> i64
     ensures { λ r. ⌜ r ≡ coded (bounded z) ⌝ }
 {
-    if in_bound(z) { z } else { absent() }
+    if in_bound(z) { z } else { no_value_coded() }
 }
 
 // "any value but 0 is true"
@@ -69,45 +70,39 @@ pub fn bit(b: bool) -> i64
 
 fn sum(a: i64, b: i64) -> i64
     requires { ⌜ Small a × Small b ⌝ }
-    ensures { λ r. ⌜ r ≡ apply add a b ⌝ }
+    ensures { λ r. ⌜ r ≡ a +ℤ b ⌝ }
 {
     a + b
 }
 
 fn difference(a: i64, b: i64) -> i64
     requires { ⌜ Small a × Small b ⌝ }
-    ensures { λ r. ⌜ r ≡ apply subtract a b ⌝ }
+    ensures { λ r. ⌜ r ≡ a -ℤ b ⌝ }
 {
     a - b
 }
 
 fn product(a: i64, b: i64) -> i64
     requires { ⌜ Small a × Small b ⌝ }
-    ensures { λ r. ⌜ r ≡ apply multiply a b ⌝ }
+    ensures { λ r. ⌜ r ≡ a *ℤ b ⌝ }
 {
     a * b
 }
 
-// "A quotient is cut toward zero": −7 / 2 is −3. With divisor 0 it is 0.
+// "A quotient is cut toward zero": −7 / 2 is −3. By 0 there is none.
 fn quotient(a: i64, b: i64) -> i64
     requires { ⌜ Small a × Small b ⌝ }
-    ensures { λ r. ⌜ r ≡ apply divide a b ⌝ }
+    ensures { λ r. ⌜ r ≡ coded (evaluated (applyNumbers divide a b)) ⌝ }
 {
-    if b == 0 {
-        return 0;
-    }
-    a / b
+    if b == 0 { no_value_coded() } else { a / b }
 }
 
-// "the remainder has the dividend's sign": −7 % 2 is −1. With divisor 0 it is 0.
+// "the remainder has the dividend's sign": −7 % 2 is −1. By 0 there is none.
 fn remainder(a: i64, b: i64) -> i64
     requires { ⌜ Small a × Small b ⌝ }
-    ensures { λ r. ⌜ r ≡ apply remainder a b ⌝ }
+    ensures { λ r. ⌜ r ≡ coded (evaluated (applyNumbers remainder a b)) ⌝ }
 {
-    if b == 0 {
-        return 0;
-    }
-    a % b
+    if b == 0 { no_value_coded() } else { a % b }
 }
 
 pub fn less(a: i64, b: i64) -> bool
@@ -129,10 +124,10 @@ pub fn same(a: i64, b: i64) -> bool
 }
 
 // The operators by a node's kind, from 7 on in the order of document 01; every later kind is taken as the last. Only the results of
-// `+ - *` are tested, since the others are within the bound where the operands are.
+// `+ - *` are tested, since the others are none or within the bound where the operands are.
 fn applied(kind: u8, a: i64, b: i64) -> i64
     requires { ⌜ (7 ≤ kind) × Small a × Small b ⌝ }
-    ensures { λ r. ⌜ r ≡ coded (bounded (apply (operatorAt kind) a b)) ⌝ }
+    ensures { λ r. ⌜ r ≡ coded (evaluated (applyNumbers (operatorAt kind) a b)) ⌝ }
 {
     match kind {
         nodes::ADD_NODE => bounded_coded(sum(a, b)),
@@ -156,19 +151,19 @@ pub fn apply_coded(kind: u8, a: i64, b: i64) -> i64
     ensures { λ r. ⌜ r ≡ coded (appliedByKind kind a b) ⌝ }
 {
     if kind < nodes::ADD_NODE {
-        return absent();
+        return no_value_coded();
     }
     if nodes::OR_NODE < kind {
-        return absent();
+        return no_value_coded();
     }
     if in_bound(a) {
         if in_bound(b) {
             applied(kind, a, b)
         } else {
-            absent()
+            no_value_coded()
         }
     } else {
-        absent()
+        no_value_coded()
     }
 }
 

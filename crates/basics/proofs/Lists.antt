@@ -42,6 +42,10 @@ pub All-mapped : {X Y : Type 0} {P : X → Type 0} (Q : Y → Type 0) (f : X →
 All-mapped Q f g [] h = tt
 All-mapped Q f g (x ∷ xs) h = (g x (h .0), All-mapped Q f g xs (h .1))
 
+pub All-unmapped : {X Y : Type 0} (Q : Y → Type 0) (f : X → Y) (xs : List X) → All Q (map f xs) → All (λ x. Q (f x)) xs
+All-unmapped Q f [] h = tt
+All-unmapped Q f (x ∷ xs) h = (h .0, All-unmapped Q f xs (h .1))
+
 -- ---- a property of some member
 
 module _ {X : Type 0} (P : X → Type 0) where

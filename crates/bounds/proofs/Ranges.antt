@@ -5,18 +5,19 @@ use native.Mathlib.Decide.{ℕ-discrete, decLe}
 use mathlib.Core.Path.{_≡_, refl, sym, _∙_, ap, ap₂, subst}
 use mathlib.Core.Bool.{Bool, true, false, cond, _&&_}
 use mathlib.Core.List.{List}
-use lib.IntN.{ℤ, pos, negsuc, natAbs, negℤ, _-ℤ_, +ℤ-idl}
+use lib.IntN.{ℤ, pos, negsuc, natAbs, negℤ, _+ℤ_, _-ℤ_, _*ℤ_, +ℤ-idl}
 use lib.ListN.{length, getD}
 use lib.Signed.{ltZ, leZ, _≤ℤ_}
 use borrow.Author.Tests.{le-leb, lt-leb, leb-false, lt-ltb, le-ltb}
 use mir.Syntax.{w64}
 use mir.Val.{SFits, ofZ}
 use mir.ValLaws.{toZ-ofZ}
-use Rattle.meaning.specs.Arithmetic.{Interval, least, greatest, overEnds, magnitude, around, truthInterval, operatorInterval, apply, remainderBound, remainderInterval}
+use Rattle.meaning.specs.Value.{number}
+use Rattle.meaning.specs.Arithmetic.{Interval, least, greatest, overEnds, magnitude, around, truthInterval, applyNumbers, operatorInterval, remainderBound, remainderInterval}
 use Rattle.meaning.proofs.Arithmetic.{magnitude-bounds}
 use Rattle.meaning.proofs.Order.{≤ℤ-trans, least-≤-left, least-≤-right, greatest-≥-left, greatest-≥-right}
 use Rattle.sheet.specs.Refusal.{magnitudeBound}
-use Rattle.nodes.specs.Bounded.{inBound, noValue, someValue, bounded, operatorAt, appliedByKind}
+use Rattle.nodes.specs.Bounded.{inBound, noValue, someValue, bounded, evaluated, operatorAt, appliedByKind}
 use Rattle.nodes.specs.Bounds.{noRange, rangeWithin, intervalOf, usable, combined, operatorRange, streamRange, endsInBound}
 use Rattle.nodes.specs.declared.Evaluated.{Evaluated}
 use Rattle.nodes.specs.declared.Range.{Range}
@@ -161,27 +162,47 @@ module _ (p q r s : Evaluated) (ep : p .ok ≡ true) where
 
 -- ---- "for `+ - *` the least and greatest over the ends"
 
-applied-bounded : (k : ℕ) (a b : ℤ) → 7 ≤ k → k < 20 → inBound a ≡ true → inBound b ≡ true → appliedByKind k a b ≡ bounded (apply (operatorAt k) a b)
-applied-bounded k a b l h p q = simp (le-leb 7 k l, lt-ltb k 20 h, p, q)
+-- What holds of n, and of every later number, holds from n on.
+from : (P : ℕ → Type 0) (n : ℕ) → P n → ((k : ℕ) → suc n ≤ k → P k) → (k : ℕ) → n ≤ k → P k
+from P n p f k h = by (ℕ-discrete k n)
+  where
+    by : Dec (k ≡ n) → P k
+    by (yes e) = subst P (sym e) p
+    by (no e) = f k (omega arith)
 
 spanValues-cong : {p p′ q q′ r r′ s s′ : Evaluated} → p ≡ p′ → q ≡ q′ → r ≡ r′ → s ≡ s′ → spanValues p q r s ≡ spanValues p′ q′ r′ s′
 spanValues-cong a b c d = λ i. spanValues (a i) (b i) (c i) (d i)
 
-module _ (k : ℕ) (a b : Range) (l : 7 ≤ k) (h : k < 20) (ua : usable a ≡ true) (ub : usable b ≡ true) where
-  end : (x y : ℤ) → inBound x ≡ true → inBound y ≡ true → {p : Evaluated} → p ≡ appliedByKind k (held x) (held y) → p ≡ bounded (apply (operatorAt k) x y)
-  end x y ix iy e = e ∙ held-both (appliedByKind k) x y (inBound-fits x ix) (inBound-fits y iy) ∙ applied-bounded k x y l h ix iy
+module _ (a b : Range) (ua : usable a ≡ true) (ub : usable b ≡ true) where
+  -- The operator of kind k gives the number that f gives.
+  module _ (k : ℕ) (l : 7 ≤ k) (h : k < 20) (f : ℤ → ℤ → ℤ) (gives : (x y : ℤ) → applyNumbers (operatorAt k) x y ≡ number (f x y)) where
+    end : (x y : ℤ) → inBound x ≡ true → inBound y ≡ true → {p : Evaluated} → p ≡ appliedByKind k (held x) (held y) → p ≡ bounded (f x y)
+    end x y ix iy e =
+        e ∙ held-both (appliedByKind k) x y (inBound-fits x ix) (inBound-fits y iy)
+        ∙ simp (le-leb 7 k l, lt-ltb k 20 h, ix, iy) (ap evaluated (gives x y))
 
-  pub over-ends : {p q r s : Evaluated} → p ≡ appliedByKind k (held (a .low)) (held (b .low)) → q ≡ appliedByKind k (held (a .low)) (held (b .high))
+    ends-span : {p q r s : Evaluated} → p ≡ appliedByKind k (held (a .low)) (held (b .low)) → q ≡ appliedByKind k (held (a .low)) (held (b .high))
+        → r ≡ appliedByKind k (held (a .high)) (held (b .low)) → s ≡ appliedByKind k (held (a .high)) (held (b .high)) → spanValues p q r s ≡ rangeWithin (overEnds f (intervalOf a) (intervalOf b))
+    ends-span ep eq er es =
+        let x = usable-parts a ua in
+        let y = usable-parts b ub in
+        spanValues-cong (end (a .low) (b .low) (x .1) (y .1) ep) (end (a .low) (b .high) (x .1) (y .2) eq) (end (a .high) (b .low) (x .2) (y .1) er) (end (a .high) (b .high) (x .2) (y .2) es)
+        ∙ span-bounded (f (a .low) (b .low)) (f (a .low) (b .high)) (f (a .high) (b .low)) (f (a .high) (b .high))
+
+  -- The four results span the interval of what the operator gives.
+  abbrev Spans : ℕ → Type 0
+  Spans k =
+      k < 10 → (p q r s : Evaluated) → p ≡ appliedByKind k (held (a .low)) (held (b .low)) → q ≡ appliedByKind k (held (a .low)) (held (b .high))
       → r ≡ appliedByKind k (held (a .high)) (held (b .low)) → s ≡ appliedByKind k (held (a .high)) (held (b .high))
-      → spanValues p q r s ≡ rangeWithin (overEnds (apply (operatorAt k)) (intervalOf a) (intervalOf b))
-  over-ends ep eq er es =
-      let x = usable-parts a ua in
-      let y = usable-parts b ub in
-      spanValues-cong (end (a .low) (b .low) (x .1) (y .1) ep) (end (a .low) (b .high) (x .1) (y .2) eq) (end (a .high) (b .low) (x .2) (y .1) er) (end (a .high) (b .high) (x .2) (y .2) es)
-      ∙ span-bounded (apply (operatorAt k) (a .low) (b .low)) (apply (operatorAt k) (a .low) (b .high))
-      (apply (operatorAt k) (a .high) (b .low)) (apply (operatorAt k) (a .high) (b .high))
+      → spanValues p q r s ≡ rangeWithin (operatorInterval (operatorAt k) (intervalOf a) (intervalOf b))
 
--- ---- "for `/` and `%` from −M to M"
+  pub over-ends : (k : ℕ) → 7 ≤ k → Spans k
+  over-ends =
+      from Spans 7 (λ h p q r s ep eq er es. ends-span 7 (omega arith) (omega arith) _+ℤ_ (λ x y. refl) ep eq er es)
+      (from Spans 8 (λ h p q r s ep eq er es. ends-span 8 (omega arith) (omega arith) _-ℤ_ (λ x y. refl) ep eq er es)
+      (from Spans 9 (λ h p q r s ep eq er es. ends-span 9 (omega arith) (omega arith) _*ℤ_ (λ x y. refl) ep eq er es) (λ k l h. absurd (omega arith))))
+
+-- ---- "for `/` [..] from −M to M"
 
 zero-minus : (z : ℤ) → pos 0 -ℤ z ≡ negℤ z
 zero-minus z = +ℤ-idl (negℤ z)
@@ -306,20 +327,7 @@ module _ (a b : Range) (u : usable a ≡ true) (v : usable b ≡ true) where
 
 -- ---- the operators by their kinds
 
--- What holds of n, and of every later number, holds from n on.
-from : (P : ℕ → Type 0) (n : ℕ) → P n → ((k : ℕ) → suc n ≤ k → P k) → (k : ℕ) → n ≤ k → P k
-from P n p f k h = by (ℕ-discrete k n)
-  where
-    by : Dec (k ≡ n) → P k
-    by (yes e) = subst P (sym e) p
-    by (no e) = f k (omega arith)
-
 module _ (I J : Interval) where
-  ends-interval : (k : ℕ) → 7 ≤ k → k < 10 → overEnds (apply (operatorAt k)) I J ≡ operatorInterval (operatorAt k) I J
-  ends-interval =
-      let P : ℕ → Type 0 = λ k. k < 10 → overEnds (apply (operatorAt k)) I J ≡ operatorInterval (operatorAt k) I J in
-      from P 7 (λ h. refl) (from P 8 (λ h. refl) (from P 9 (λ h. refl) (λ k l h. absurd (omega arith))))
-
   around-interval : (k : ℕ) → k ≡ 10 → around (magnitude I) ≡ operatorInterval (operatorAt k) I J
   around-interval k e = ap (λ j. operatorInterval (operatorAt j) I J) (sym e)
 
@@ -353,8 +361,8 @@ module _ (k : ℕ) (a b : Range) where
       of-interval : {I : Interval} → I ≡ operatorInterval (operatorAt k) (intervalOf a) (intervalOf b) → rangeWithin I ≡ operatorRange k a b
       of-interval e = of-joined (ap rangeWithin e ∙ joined-yes (operatorInterval (operatorAt k)) a b p q)
 
-      pub kind-ends : k < 10 → rangeWithin (overEnds (apply (operatorAt k)) (intervalOf a) (intervalOf b)) ≡ operatorRange k a b
-      kind-ends t = of-interval (ends-interval (intervalOf a) (intervalOf b) k l t)
+      pub kind-ends : rangeWithin (operatorInterval (operatorAt k) (intervalOf a) (intervalOf b)) ≡ operatorRange k a b
+      kind-ends = of-interval refl
 
       pub kind-around : k ≡ 10 → rangeWithin (around (magnitude (intervalOf a))) ≡ operatorRange k a b
       kind-around e = of-interval (around-interval (intervalOf a) (intervalOf b) k e)

@@ -11,7 +11,7 @@ ghost use mathlib.Core.Bool.{true};
 ghost use Prim.Native.Nat.{suc, _+_, _-_, _≤_, _<_};
 ghost use lib.IntN.{pos, natAbs};
 ghost use lib.ListN.{length};
-ghost use Rattle.meaning.specs.Arithmetic.{least, greatest, hull, overEnds, around, magnitude, remainderBound, remainderInterval, apply};
+ghost use Rattle.meaning.specs.Arithmetic.{least, greatest, hull, around, magnitude, remainderBound, remainderInterval, operatorInterval};
 ghost use Rattle.nodes.specs.Bounded.{inBound, operatorAt};
 ghost use Rattle.nodes.specs.Evaluate.{stored, HoldsParts};
 ghost use Rattle.nodes.specs.Bounds.{noRange, rangeWithin, intervalOf, usable, combined, truthRange, operatorRange, branchRange, streamRange, limited, noSummary, leafSummary, firstSummary, nextSummary, negationSummary, operatorSummary, conditionalSummary, fbySummary, summaryBefore, nodeSummary};
@@ -125,7 +125,7 @@ fn span_values(p: Evaluated, q: Evaluated, r: Evaluated, s: Evaluated) -> Range
 // "for `+ - *` the least and greatest over the ends": within the bound where all four results are.
 fn over_ends(kind: u8, a: Range, b: Range) -> Range
     requires { ⌜ (7 ≤ kind) × (kind < 10) × (usable a ≡ true) × (usable b ≡ true) ⌝ }
-    ensures { λ r. ⌜ r ≡ rangeWithin (overEnds (apply (operatorAt kind)) (intervalOf a) (intervalOf b)) ⌝ }
+    ensures { λ r. ⌜ r ≡ rangeWithin (operatorInterval (operatorAt kind) (intervalOf a) (intervalOf b)) ⌝ }
 {
     let low = a.low;
     let high = a.high;

@@ -9,6 +9,7 @@ use lib.IntN.{ℤ}
 use lib.ListN.{length, getD, take, length-map, List·getD-eq-default}
 use Rattle.basics.proofs.Tests.{cond-cases, true-of-T}
 use Rattle.basics.proofs.Lists.{getD-map}
+use Rattle.basics.proofs.Reflects.{from-true}
 use Rattle.meaning.specs.Expression.{Stream}
 use Rattle.meaning.specs.Letter.{letterCount, letterOf}
 use Rattle.meaning.specs.Window.{joinOver}
@@ -20,11 +21,11 @@ use Rattle.nodes.proofs.Record.{letter-length}
 use Rattle.automaton.specs.Words.{AllBelow}
 use Rattle.letters.specs.Described.{described, hasLetter, withLetter}
 use Rattle.letters.proofs.Counts.{length-described}
-use Rattle.letters.proofs.Streams.{unnamed, letterOf-unnamed}
+use Rattle.letters.proofs.Streams.{unnamed, letterOf-unnamed, letter-reflects}
 use Rattle.print.specs.Text.{decimal, tokensLine}
 use Rattle.print.specs.Table.{linesFrom, storedNames, AllFit}
 use Rattle.print.proofs.Names.{eightBytes, Short, stored-names}
-use Rattle.print.proofs.Places.{found, letter-front}
+use Rattle.print.proofs.Places.{letter-front}
 use Rattle.print.proofs.Table.{has-letter}
 use Rattle.print.proofs.Lengths.{names-line-length, numbers-line-length, letter-fits}
 use Rattle.pages.specs.Lines.{lineRoom}
@@ -45,7 +46,7 @@ module _ (lows highs : List ℤ) (n : ℕ) where
 
   module _ (h : hasLetter streams n 8 ≡ true) where
     pub few-streams : min (length lows) (length highs) ≤ 8
-    few-streams = omega (arith, found streams n h .1 .1, length-described lows highs)
+    few-streams = omega (arith, from-true (letter-reflects streams n 8) h .fits, length-described lows highs)
 
     pub values-there : {k : ℕ} → k ≡ min (length lows) (length highs) → (out : List ℤ) → length out ≡ 8 → {values : List ℤ} → values ≡ withLetter streams n out
         → tokensLine (map decimal (take k values)) ≡ valuesText lows highs n
@@ -104,9 +105,9 @@ module _ (p : CoursePrintout) (refusal : p .refusal < 4294967296) (lows : AllFit
       let ss = described (p .lows) (p .highs) in
       cond-cases (λ (l : List ℕ). length l ≤ lineRoom) (hasLetter ss n 8) {x = letterLine ss n} {y = []}
       (λ t.
-      let f = found ss n (true-of-T (hasLetter ss n 8) t) in
-      let l = letterOf-letter ss n (f .1 .0) in
-      omega (arith, numbers-line-length (letterOf ss n) (letter-fits (p .lows) (p .highs) (letterOf ss n) lows highs l) (omega (arith, letter-length l, f .1 .1))))
+      let f = from-true (letter-reflects ss n 8) (true-of-T (hasLetter ss n 8) t) in
+      let l = letterOf-letter ss n (f .known) in
+      omega (arith, numbers-line-length (letterOf ss n) (letter-fits (p .lows) (p .highs) (letterOf ss n) lows highs l) (omega (arith, letter-length l, f .fits))))
       (λ t. omega arith)
 
   letter-short : (course : List ℕ) (i : ℕ) → length (getD (map (valuesText (p .lows) (p .highs)) course) i []) ≤ lineRoom

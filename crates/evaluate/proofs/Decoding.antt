@@ -1,4 +1,4 @@
--- Every value of a part can be read back from its number, since what each node answers is no value or within the bound.
+-- Every value of a part or a node can be read back from its number, since what each node answers is no value or within the bound.
 use Prim.Native.Nat.{ℕ, zero, suc}
 use mathlib.Core.Path.{_≡_, refl, sym, _∙_, ap}
 use mathlib.Core.Bool.{Bool, true, false, cond, not, _&&_}
@@ -9,7 +9,7 @@ use mir.Syntax.{w64}
 use mir.Val.{SFits}
 use Rattle.meaning.specs.Value.{nonzero}
 use Rattle.nodes.specs.Bounded.{inBound, noValue, someValue, bounded, appliedByKind}
-use Rattle.nodes.specs.Evaluate.{Nodes, View, places, Kind, integerNode, nameNode, firstNode, nextNode, negationNode, conditionalNode, fbyNode, operatorNode, kindOf, leftEnd, answerUpTo, lookup, operated, valueByKind, valueStep, valueBefore}
+use Rattle.nodes.specs.Evaluate.{Nodes, View, hasNode, places, Kind, integerNode, nameNode, firstNode, nextNode, negationNode, conditionalNode, fbyNode, operatorNode, kindOf, leftEnd, answerUpTo, lookup, operated, valueByKind, valueStep, valueBefore, nodeValue}
 use Rattle.nodes.specs.declared.Evaluated.{Evaluated}
 use Rattle.arithmetic.specs.Coded.{coded}
 use Rattle.arithmetic.proofs.Machine.{held}
@@ -54,6 +54,10 @@ module _ (N : Nodes) (W : View) where
   unfolding valueBefore
   decodes-before e p = decodes-up-to e e p
 
+  pub decodes-node : (root p : ℕ) → Decodes (nodeValue N W root p)
+  unfolding nodeValue
+  decodes-node root p = decodes-cond (hasNode N root && ltb p (places W)) (decodes-before (suc root) p) decodes-none
+
   -- The value of a part, read back from the number that a call gave.
   pub held-before : (e p : ℕ) {r : ℤ} → SFits w64 r → r ≡ coded (valueBefore N W e p) → bounded (held r) ≡ valueBefore N W e p
   held-before e p f h = held-decoded (valueBefore N W e p) f h (decodes-before e p)
@@ -68,15 +72,15 @@ module _ (z : ℤ) {e : Evaluated} (h : bounded z ≡ e) where
   pub value-there : inBound z ≡ true → someValue z ≡ e
   value-there t = sym (simp t) ∙ h
 
-  pub value-absent : inBound z ≡ false → noValue ≡ e
-  value-absent t = sym (simp t) ∙ h
+  pub value-missing : inBound z ≡ false → noValue ≡ e
+  value-missing t = sym (simp t) ∙ h
 
 -- ---- operators
 
-absent-operand : (t u : Bool) (x : Evaluated) → cond t (cond (u && false) x noValue) noValue ≡ noValue
-absent-operand true true x = refl
-absent-operand true false x = refl
-absent-operand false u x = refl
+missing-operand : (t u : Bool) (x : Evaluated) → cond t (cond (u && false) x noValue) noValue ≡ noValue
+missing-operand true true x = refl
+missing-operand true false x = refl
+missing-operand false u x = refl
 
 -- An operand without value has a number beyond the bound, of which an operator gives no value.
 pub applied-coded : (k : ℕ) (x y : Evaluated) → appliedByKind k (coded x) (coded y) ≡ operated k x y
@@ -85,5 +89,5 @@ applied-coded k x y = by (x .ok) (y .ok)
     by : (s t : Bool)
         → appliedByKind k (cond s (x .value) (pos 2000000000)) (cond t (y .value) (pos 2000000000)) ≡ cond (s && t) (appliedByKind k (x .value) (y .value)) noValue
     by true true = refl
-    by true false = absent-operand (leb 7 k && ltb k 20) (inBound (x .value)) _
-    by false t = absent-operand (leb 7 k && ltb k 20) false noValue
+    by true false = missing-operand (leb 7 k && ltb k 20) (inBound (x .value)) _
+    by false t = missing-operand (leb 7 k && ltb k 20) false noValue

@@ -52,8 +52,8 @@ module _ (z : ℤ) (f : SFits w64 z) where
   pub negated-there : inBound z ≡ true → {t : Bool} → t ≡ nonzero (held z) → bit (not t) ≡ coded (negatedResult (bounded z))
   negated-there h e = ap (λ t. bit (not t)) (e ∙ ap nonzero (toZ-ofZ w64 z f)) ∙ sym (simp h)
 
-  pub negated-absent : inBound z ≡ false → coded noValue ≡ coded (negatedResult (bounded z))
-  negated-absent h = sym (simp h)
+  pub negated-missing : inBound z ≡ false → coded noValue ≡ coded (negatedResult (bounded z))
+  negated-missing h = sym (simp h)
 
 -- ---- leaves
 

@@ -1,10 +1,10 @@
-use arithmetic::absent;
 use arithmetic::apply_coded;
 use arithmetic::bit;
 use arithmetic::bounded;
 use arithmetic::bounded_coded;
 use arithmetic::in_bound;
 use arithmetic::no_value;
+use arithmetic::no_value_coded;
 use arithmetic::nonzero;
 use nodes::Evaluated;
 use nodes::left_end;
@@ -26,13 +26,13 @@ fn numbered(list: &[i64], number: i64) -> i64
     ensures { λ r. ⌜ r ≡ coded (numbered (now (list .entry)) number) ⌝ }
 {
     if number < 0 {
-        return absent();
+        return no_value_coded();
     }
     let k = number as usize;
     if k < list.len() {
         return bounded_coded(list[k]);
     }
-    absent()
+    no_value_coded()
 }
 
 // How many whole letters the window has.
@@ -51,14 +51,14 @@ fn stream_at(window: &[i64], streams: usize, place: usize, number: i64) -> i64
     ensures { λ r. ⌜ r ≡ coded (streamEvaluated (now (window .entry)) streams place number) ⌝ }
 {
     if number < 0 {
-        return absent();
+        return no_value_coded();
     }
     let k = number as usize;
     if k < streams {
         let at = place * streams + k;
         return bounded_coded(window[at]);
     }
-    absent()
+    no_value_coded()
 }
 
 // The negation of a value that is given as one number.
@@ -68,7 +68,7 @@ fn negated(a: i64) -> i64
     if in_bound(a) {
         bit(!nonzero(a))
     } else {
-        absent()
+        no_value_coded()
     }
 }
 
@@ -104,7 +104,7 @@ fn leaf(
     ensures { λ r. ⌜ r ≡ coded (leafValue (now (kinds .entry)) (now (values .entry)) (now (window .entry)) streams end place) ⌝ }
 {
     if end == 0 {
-        return absent();
+        return no_value_coded();
     }
     let i = end - 1;
     if kinds[i] == nodes::INTEGER_NODE {
@@ -240,7 +240,7 @@ fn value_before(
             }
         }
         // A `next` is left only where the window has no next letter, and a `fby` only at place 0.
-        nodes::NEXT_NODE => absent(),
+        nodes::NEXT_NODE => no_value_coded(),
         nodes::NEGATION_NODE => {
             let inside = negations(kinds, i);
             let a = value_before(
@@ -295,7 +295,7 @@ fn value_before(
                     )
                 }
             } else {
-                absent()
+                no_value_coded()
             }
         }
         nodes::FBY_NODE => {

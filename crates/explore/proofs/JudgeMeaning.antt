@@ -1,5 +1,5 @@
 -- Judged constraints, in terms of the values of their sides: the answer is lawful exactly if every constraint permits it, and then the marks are
--- those before with those of the untils whose right side is not 0 now. From the definition, constraint by constraint.
+-- those before with those of the untils whose right side is true now. From the definition, constraint by constraint.
 use Prim.Native.Nat.{ℕ, suc, _+_, _*_, _/_, _%_}
 use native.Mathlib.Omega.{arith}
 use mathlib.Core.Path.{_≡_, refl, _∙_, ap}

@@ -28,8 +28,7 @@ use Rattle.nodes.specs.FirstPlaces.{allFirstPlaces}
 use Rattle.nodes.proofs.FirstPlaces.{allPlaces-long}
 use Rattle.explore.specs.StoredSheet.{storeFor, HasLetters}
 use Rattle.extend.proofs.KeyLists.{length-padded}
-use Rattle.explore.proofs.KeySituations.{padded-take, lowered-all, drop-below, firsts-long, key-cut}
-use Rattle.explore.proofs.StoredFirsts.{firsts-bounded}
+use Rattle.explore.proofs.KeySituations.{padded-take, drop-below, firsts-long, key-cut}
 use Rattle.extend.proofs.StepLaws.{encoded-size}
 
 -- ---- the parts of a key
@@ -108,12 +107,10 @@ module _ (s : Sheet) (accepted : Accepted s) (behind : List Node) (values : List
         let all : recent r ≡ r = ap (λ n. drop n r) none in
         (λ i. view ((after-window ∙ ap (λ l. flat (recordOf (s .streams) (l ++ (a ∷ [])))) all) i) (length (s .streams)) (map lowered (firstsIn (length (allFirstPlaces 0 (s .constraints))) (keyOf s r))) (size i))
 
-    -- Of a cut record the last letters and the values of the firsts are there.
+    -- Of a cut record the last letters and the values of the firsts are there, as they are read from the key.
     pub view-cut : w < length r
         → viewAfter (storeFor s behind values) (keyOf s r) a
-        ≡ view (flat (recordOf (s .streams) (recent r ++ (a ∷ [])))) (length (s .streams)) (firstValues (s .constraints) (recordOf (s .streams) r)) false
+        ≡ view (flat (recordOf (s .streams) (recent r ++ (a ∷ [])))) (length (s .streams)) (map lowered (map raised (firstValues (s .constraints) (recordOf (s .streams) r)))) false
     view-cut h =
         let size : leb (sizeIn (keyOf s r)) w ≡ false = lt-leb (sizeIn (keyOf s r)) w (omega (arith, key-size r)) in
-        let firsts : map lowered (firstsIn (length (allFirstPlaces 0 (s .constraints))) (keyOf s r)) ≡ firstValues (s .constraints) (recordOf (s .streams) r) =
-        ap (map lowered) (key-firsts r h) ∙ lowered-all (firstValues (s .constraints) (recordOf (s .streams) r)) (firsts-bounded s accepted r below h) in
-        (λ i. view (after-window i) (length (s .streams)) (firsts i) (size i))
+        (λ i. view (after-window i) (length (s .streams)) (map lowered (key-firsts r h i)) (size i))

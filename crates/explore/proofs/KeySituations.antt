@@ -1,15 +1,15 @@
 -- Keys of records of letters in range are equal exactly if their situations are, where a key has room for the letters and the firsts and the
--- values of the firsts are within the magnitude bound. From the parts of a key, one by one.
+-- values of the firsts are none or within the magnitude bound. From the parts of a key, one by one.
 use Prim.Native.Nat.{ℕ, zero, suc, _+_, _-_, _≤_, _<_, min}
 use native.Mathlib.Omega.{arith}
 use native.Mathlib.Decide.{decLe}
 use mathlib.Core.Path.{_≡_, refl, sym, _∙_, ap, ap₂}
 use mathlib.Core.Bool.{Bool, true, false, cond}
 use mathlib.Core.List.{List, [], _∷_, _++_, map}
-use lib.IntN.{natAbs}
 use lib.ListN.{length, getD, take, drop, replicate, length-drop, length-map}
 use lib.Seq.{take-take, take-append-seam, take-at, drop-at}
-use borrow.Author.Tests.{leb-true, le-leb, lt-leb}
+use borrow.Author.Tests.{le-leb, lt-leb}
+use Rattle.basics.specs.Lists.{All}
 use Rattle.sheet.specs.Refusal.{windowBound, firstBound}
 use Rattle.automaton.specs.Words.{AllBelow}
 use Rattle.meaning.specs.Value.{Value}
@@ -19,11 +19,11 @@ use Rattle.meaning.specs.Window.{allFirsts, allUntils}
 use Rattle.meaning.specs.Situation.{firstValues, untilMarks, whole, cut}
 use Rattle.meaning.proofs.Letter.{letterNumber-letterOf}
 use Rattle.meaning.proofs.Lawful.{situation-whole, situation-cut, whole-injective, cut-injective, whole≢cut}
-use Rattle.nodes.specs.Bounded.{inBound}
+use Rattle.nodes.specs.Bounded.{storedValue, SmallValue}
 use Rattle.extend.specs.Key.{withZeros, encodedKey, raised, lowered, marksNumber, width, keyOf}
 use Rattle.explore.specs.Rows.{situationOf, letterNumbers}
 use Rattle.extend.proofs.KeyLists.{length-padded}
-use Rattle.extend.proofs.KeyNumbers.{lowered-raised}
+use Rattle.extend.proofs.KeyNumbers.{stored-raised}
 
 -- ---- the parts of a key
 
@@ -59,14 +59,14 @@ marks-injective (false ∷ l) (false ∷ m) h e = ap (false ∷_) (marks-injecti
 marks-injective (true ∷ l) (false ∷ m) h e = absurd (omega arith)
 marks-injective (false ∷ l) (true ∷ m) h e = absurd (omega arith)
 
--- Values within the bound.
-abbrev pub AllBounded : List Value → Type 0
-AllBounded [] = Unit
-AllBounded (v ∷ l) = (inBound v ≡ true) × AllBounded l
+-- What the numbers in a key that are made of values stand for.
+abbrev pub readBack : List ℕ → List Value
+readBack l = map storedValue (map lowered l)
 
-pub lowered-all : (l : List Value) → AllBounded l → map lowered (map raised l) ≡ l
-lowered-all [] h = refl
-lowered-all (v ∷ l) h = ap₂ _∷_ (lowered-raised v (leb-true (natAbs v) 1000000000 (h .0)) (h .0)) (lowered-all l (h .1))
+-- Values are read back as they were.
+pub stored-all : (l : List Value) → All SmallValue l → readBack (map raised l) ≡ l
+stored-all [] h = refl
+stored-all (v ∷ l) h = ap₂ _∷_ (stored-raised v (h .0)) (stored-all l (h .1))
 
 -- ---- letter numbers
 
@@ -150,7 +150,7 @@ module _ (s : Sheet) where
 
   -- Equal keys have equal situations.
   module _ (narrow : width s ≤ windowBound) (few : length (allFirsts (s .constraints)) ≤ firstBound)
-      (bounded : (r : List ℕ) → AllBelow (letterNumbers s) r → width s < length r → AllBounded (firstValues (s .constraints) (recordOf (s .streams) r))) where
+      (bounded : (r : List ℕ) → AllBelow (letterNumbers s) r → width s < length r → All SmallValue (firstValues (s .constraints) (recordOf (s .streams) r))) where
     pub key-situation : (r t : List ℕ) → AllBelow (letterNumbers s) r → AllBelow (letterNumbers s) t → keyOf s r ≡ keyOf s t → situationOf s r ≡ situationOf s t
     key-situation r t hr ht e = by (decLe (length r) w) (decLe (length t) w)
       where
@@ -164,6 +164,6 @@ module _ (s : Sheet) where
             let p = encoded-injective _ _ _ _ _ _ _ _ (sym (key-cut r (omega arith)) ∙ e ∙ key-cut t (omega arith)) in
             let letters = padded-injective windowBound (drop (length r - w) r) (drop (length t - w) t) (omega (arith, length-drop (length r - w) r, length-drop (length t - w) t)) (omega (arith, length-drop (length r - w) r)) (p .1) in
             let numbers = padded-injective firstBound (map raised (values r)) (map raised (values t)) (firsts-long r ∙ sym (firsts-long t)) (omega (arith, firsts-long r)) (p .2) in
-            let firsts : values r ≡ values t = sym (lowered-all (values r) (bounded r hr (omega arith))) ∙ ap (map lowered) numbers ∙ lowered-all (values t) (bounded t ht (omega arith)) in
+            let firsts : values r ≡ values t = sym (stored-all (values r) (bounded r hr (omega arith))) ∙ ap readBack numbers ∙ stored-all (values t) (bounded t ht (omega arith)) in
             let told = marks-injective (marks r) (marks t) (marks-long r ∙ sym (marks-long t)) (p .3) in
             shown-cut r (omega arith) ∙ (λ i. cut (records (letters i)) (firsts i) (told i)) ∙ sym (shown-cut t (omega arith))

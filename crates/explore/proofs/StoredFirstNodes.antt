@@ -6,11 +6,12 @@ use native.Mathlib.Decide.{decLt}
 use mathlib.Core.Path.{_≡_, refl, sym, _∙_, ap, ap₂, subst}
 use mathlib.Core.Bool.{true}
 use mathlib.Core.List.{List, [], _∷_, _++_, map, map-append}
+use lib.IntN.{ℤ}
 use lib.ListN.{length, length-append, length-map, List·getD-eq-default}
 use Rattle.basics.proofs.Lists.{All-append, All-member, member-All}
 use Rattle.basics.specs.Lists.{All}
 use Rattle.meaning.specs.Value.{Value}
-use Rattle.meaning.specs.Expression.{Expression, first, Constraint, leftSide, rightSide, Stream, Sheet, value}
+use Rattle.meaning.specs.Expression.{Expression, first, Constraint, leftSide, rightSide, Stream, Sheet, valueFrom, value}
 use Rattle.meaning.specs.Interval.{subexpressions}
 use Rattle.meaning.specs.Letter.{Record, OfLetters, streamsOf}
 use Rattle.meaning.specs.Window.{reach, firsts, sideFirsts, allFirsts, D}
@@ -18,6 +19,7 @@ use Rattle.meaning.proofs.Bounds.{first-within}
 use Rattle.meaning.proofs.Window.{value-near}
 use Rattle.sheet.specs.Accepted.{Accepted}
 use Rattle.nodes.specs.Postfix.{Node, postfix, sideNodes, allNodes}
+use Rattle.nodes.specs.Bounded.{valueIn}
 use Rattle.nodes.specs.Evaluate.{Nodes, nodesOf, View, view, places, nodeValue}
 use Rattle.nodes.proofs.Postfix.{StoredAt, storedInteger, storedName, storedFirst, storedNext, storedNegation, storedBinary, storedConditional, storedFby, Holds, Holds-append, nodes-hold, postfix-stored}
 use Rattle.nodes.proofs.Meaning.{nodeValue-value}
@@ -94,7 +96,7 @@ first-inside l {p = p} (storedFirst s x) = by (decLt p (length l))
         let e : _≡_ {A = ℕ} 2 0 = sym (x .kind) ∙ List·getD-eq-default (map (λ (y : Node). y .kind) l) 0 {n = p} (omega (arith, length-map l (λ (y : Node). y .kind))) in
         absurd (omega arith)
 
-module _ (s : Sheet) (accepted : Accepted s) (lawfulRecord : Record) (letters : OfLetters (s .streams) lawfulRecord) (long : D (s .constraints) < length lawfulRecord) (behind : List Node) (stored : List Value) where
+module _ (s : Sheet) (accepted : Accepted s) (lawfulRecord : Record) (letters : OfLetters (s .streams) lawfulRecord) (long : D (s .constraints) < length lawfulRecord) (behind : List Node) (stored : List ℤ) where
   abbrev ss : List Stream
   ss = s .streams
 
@@ -110,20 +112,19 @@ module _ (s : Sheet) (accepted : Accepted s) (lawfulRecord : Record) (letters : 
   abbrev Known : Expression → Type 0
   Known e = Fine ss (first e) × (reach e ≤ D cs)
 
-  first-node : {n k p : ℕ} {e : Expression} → StoredAt (nodesOf nodes) n k (first e) (suc p) → Known e → nodeValue (nodesOf nodes) W p 0 .value ≡ value (streamsOf lawfulRecord) e 0
-  unfolding value reach
+  first-node : {n k p : ℕ} {e : Expression} → StoredAt (nodesOf nodes) n k (first e) (suc p) → Known e → valueIn (nodeValue (nodesOf nodes) W p 0) ≡ value (streamsOf lawfulRecord) e 0
+  unfolding value valueFrom reach
   first-node {n} {k} {p} {e} st h =
       let w = endless s accepted lawfulRecord letters long in
       let all-places = record-places ss (accepted .someStream) lawfulRecord letters stored true in
       let shown = record-letters ss (accepted .someStream) lawfulRecord letters stored true in
       let near : 0 + reach (first e) < places W = omega (arith, all-places, h .1) in
-      ap (λ v. v .value)
-      (nodeValue-value nodes W w (λ k q b l. shown .shows k q b l ∙ sym (lasting-same (streamsOf lawfulRecord) (length lawfulRecord) k q (omega (arith, all-places)))) 0 (first e) st (first-inside nodes st) refl (h .0 .names) near
-      (whole-met ss w (endless-ranged s accepted lawfulRecord letters long) (first e) 0 (h .0 .names) (h .0 .bounds)))
+      nodeValue-value nodes W w (λ k q b l. shown .shows k q b l ∙ sym (lasting-same (streamsOf lawfulRecord) (length lawfulRecord) k q (omega (arith, all-places)))) 0 (first e) st (first-inside nodes st) refl (h .0 .names) near
+      (whole-met ss w (endless-ranged s accepted lawfulRecord letters long) (first e) 0 (h .0 .names) (h .0 .bounds))
       ∙ value-near w (streamsOf lawfulRecord) (length lawfulRecord) (lasting-same (streamsOf lawfulRecord) (length lawfulRecord)) e 0 (omega (arith, h .1))
 
   -- In a whole record each first's node has its value.
-  pub first-nodes : {Y : Type 0} (f : Value → Y) → map (λ p. f (nodeValue (nodesOf nodes) W p 0 .value)) (allFirstPlaces 0 cs) ≡ map (λ e. f (value (streamsOf lawfulRecord) e 0)) (allFirsts cs)
+  pub first-nodes : {Y : Type 0} (f : Value → Y) → map (λ p. f (valueIn (nodeValue (nodesOf nodes) W p 0))) (allFirstPlaces 0 cs) ≡ map (λ e. f (value (streamsOf lawfulRecord) e 0)) (allFirsts cs)
   first-nodes f =
       allPlaces-map (nodesOf nodes) Known _ _ (λ n k p e st h. ap f (first-node st h)) 0 0 cs
       (nodes-hold [] (allNodes 0 0 cs) behind)

@@ -1,17 +1,15 @@
 -- The firsts of an accepted sheet: what each stands before has names of the sheet's streams and intervals within the bound, so its value in a
--- record of letters in range is within the bound. From the intervals of subexpressions (meaning) and the bounds of an accepted sheet.
+-- record of letters in range is none or within the bound. From the intervals of subexpressions (meaning) and the bounds of an accepted sheet.
 use Prim.Native.Nat.{ℕ, _+_, _<_}
 use native.Mathlib.Omega.{arith}
 use mathlib.Core.Path.{refl, subst}
 use mathlib.Core.List.{List, [], _∷_, _++_, map, List·Memᴰ, List·Memᴰ·head, List·Memᴰ·tail}
 use lib.ListN.{length, getD, length-map}
-use borrow.Author.Tests.{le-leb}
-use lib.IntN.{natAbs}
 use Rattle.basics.proofs.Lists.{All-append, member-All, All-member}
 use Rattle.basics.specs.Lists.{All}
 use Rattle.automaton.specs.Words.{AllBelow}
 use Rattle.meaning.specs.Value.{Streams}
-use Rattle.meaning.specs.Arithmetic.{Within}
+use Rattle.meaning.specs.Arithmetic.{Within, AnyWithin}
 use Rattle.meaning.specs.Expression.{Expression, integer, name, first, next, negation, binary, conditional, fby, Constraint, leftSide, rightSide, Stream, Sheet, rangeOf, value}
 use Rattle.meaning.specs.Interval.{interval, subexpressions, NamesBelow}
 use Rattle.meaning.specs.Letter.{Record, OfLetters, letterOf, recordOf, streamsOf}
@@ -22,12 +20,12 @@ use Rattle.meaning.proofs.Bounds.{first-within}
 use Rattle.meaning.proofs.Window.{value-near}
 use Rattle.meaning.proofs.Letter.{letter-within}
 use Rattle.meaning.proofs.Interval.{interval-sound}
-use Rattle.sheet.specs.Refusal.{magnitudeBound, onLeft, onRight, InBounds}
+use Rattle.sheet.specs.Refusal.{onLeft, onRight, InBounds}
 use Rattle.sheet.specs.Accepted.{Accepted}
-use Rattle.nodes.proofs.Accepted.{inBounds-small, lasting, lasting-same, lasting-ranged}
+use Rattle.nodes.specs.Bounded.{SmallValue}
+use Rattle.nodes.proofs.Accepted.{any-small, lasting, lasting-same, lasting-ranged}
 use Rattle.extend.specs.Key.{width}
 use Rattle.explore.specs.Rows.{letterNumbers}
-use Rattle.explore.proofs.KeySituations.{AllBounded}
 use Rattle.explore.proofs.RowLaws.{below-letters}
 
 module _ (ss : List Stream) where
@@ -78,28 +76,28 @@ module _ (s : Sheet) (accepted : Accepted s) where
     pub endless-ranged : (k i : ℕ) → k < length (s .streams) → Within (rangeOf (s .streams) k) (endless k i)
     endless-ranged = lasting-ranged (streamsOf wholeRecord) (length wholeRecord) (s .streams) (λ k i b h. letter-within (letters (getD wholeRecord i []) (getD-member wholeRecord i [] h)) k b) (omega arith)
 
-    -- The value of what a first stands before lies in its interval.
-    pub first-value : (e : Expression) → List·Memᴰ e (allFirsts (s .constraints)) → Within (interval (s .streams) e) (value (streamsOf wholeRecord) e 0)
+    -- The value of what a first stands before, if it is a number, lies in its interval.
+    pub first-value : (e : Expression) → List·Memᴰ e (allFirsts (s .constraints)) → AnyWithin (interval (s .streams) e) (value (streamsOf wholeRecord) e 0)
     first-value e m =
         let f = All-member (λ f. Fine (s .streams) (first f)) firsts-fine m in
         let r = first-within (s .constraints) e m in
-        subst (Within (interval (s .streams) e)) (value-near endless (streamsOf wholeRecord) (length wholeRecord) (lasting-same (streamsOf wholeRecord) (length wholeRecord)) e 0 (omega arith))
+        subst (AnyWithin (interval (s .streams) e)) (value-near endless (streamsOf wholeRecord) (length wholeRecord) (lasting-same (streamsOf wholeRecord) (length wholeRecord)) e 0 (omega arith))
         (interval-sound (s .streams) endless endless-ranged e (f .names) 0)
 
-    values-bounded : (l : List Expression) → ((e : Expression) → List·Memᴰ e l → List·Memᴰ e (allFirsts (s .constraints))) → AllBounded (map (λ e. value (streamsOf wholeRecord) e 0) l)
+    values-bounded : (l : List Expression) → ((e : Expression) → List·Memᴰ e l → List·Memᴰ e (allFirsts (s .constraints))) → All SmallValue (map (λ e. value (streamsOf wholeRecord) e 0) l)
     unfolding interval subexpressions
     values-bounded [] h = tt
     values-bounded (e ∷ l) h =
         let m = h e (List·Memᴰ·head refl) in
         let f = All-member (λ f. Fine (s .streams) (first f)) firsts-fine m in (
-          le-leb (natAbs (value (streamsOf wholeRecord) e 0)) magnitudeBound (inBounds-small {I = interval (s .streams) e} (f .bounds .0) (first-value e m)),
+          any-small {I = interval (s .streams) e} (value (streamsOf wholeRecord) e 0) (f .bounds .0) (first-value e m),
           values-bounded l (λ d k. h d (List·Memᴰ·tail k)),
         )
 
-    pub record-bounded : AllBounded (firstValues (s .constraints) wholeRecord)
+    pub record-bounded : All SmallValue (firstValues (s .constraints) wholeRecord)
     unfolding firstValues
     record-bounded = values-bounded (allFirsts (s .constraints)) (λ e m. m)
 
-  -- The values of the firsts of a cut record are within the bound.
-  pub firsts-bounded : (r : List ℕ) → AllBelow (letterNumbers s) r → width s < length r → AllBounded (firstValues (s .constraints) (recordOf (s .streams) r))
+  -- The values of the firsts of a cut record are none or within the bound.
+  pub firsts-bounded : (r : List ℕ) → AllBelow (letterNumbers s) r → width s < length r → All SmallValue (firstValues (s .constraints) (recordOf (s .streams) r))
   firsts-bounded r h l = record-bounded (recordOf (s .streams) r) (below-letters (s .streams) r h) (omega (arith, length-map r (letterOf (s .streams))))

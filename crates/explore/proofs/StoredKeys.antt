@@ -22,6 +22,7 @@ use Rattle.meaning.proofs.Facts.{length-snoc}
 use Rattle.meaning.proofs.Lawful.{firstValues-append}
 use Rattle.sheet.specs.Accepted.{Accepted}
 use Rattle.nodes.specs.Postfix.{Node}
+use Rattle.nodes.specs.Bounded.{valueIn}
 use Rattle.nodes.specs.Evaluate.{View, nodeValue}
 use Rattle.extend.specs.Key.{encodedKey, raised, marksNumber, sizeIn, firstsIn, width, keyOf}
 use Rattle.extend.specs.Step.{Store, unlawful, lawfulWith, viewAfter, lettersAfter, firstsFrom, judgedAfter, keyAfter}
@@ -95,7 +96,7 @@ module _ (s : Sheet) (accepted : Accepted s) (behind : List Node) (values : List
     leads-whole h =
         let size = key-size s accepted behind values has r in
         let none : firstsFrom K W (sizeIn key) numbers ≡ [] =
-        (λ i. cond (le-leb (sizeIn key) w (omega (arith, size)) i) (cond (lt-ltb (sizeIn key) w (omega (arith, size)) i) [] (map (λ node. raised (nodeValue (K .nodes) W node 0 .value)) (K .firstNodes))) numbers) in
+        (λ i. cond (le-leb (sizeIn key) w (omega (arith, size)) i) (cond (lt-ltb (sizeIn key) w (omega (arith, size)) i) [] (map (λ node. raised (valueIn (nodeValue (K .nodes) W node 0))) (K .firstNodes))) numbers) in
         let e : length more - w ≡ 0 = omega (arith, length-snoc r a) in
         new-key more [] (whole-letters (omega arith)) none
         ∙ ap (λ n. encodedKey (length more) (drop n more) [] (marksNumber (untilMarks cs longer))) e
@@ -107,7 +108,7 @@ module _ (s : Sheet) (accepted : Accepted s) (behind : List Node) (values : List
         let size = key-size s accepted behind values has r in
         let long : length longer ≡ suc (length r) = length-map more (letterOf ss) ∙ length-snoc r a in
         let stored : firstsFrom K W (sizeIn key) numbers ≡ map raised (firstValues cs longer) =
-        (λ i. cond (le-leb (sizeIn key) w (omega (arith, size)) i) (cond (le-ltb (sizeIn key) w (omega (arith, size)) i) [] (map (λ node. raised (nodeValue (K .nodes) (view-whole s accepted behind values has r a below here (omega arith) i) node 0 .value)) (K .firstNodes))) numbers)
+        (λ i. cond (le-leb (sizeIn key) w (omega (arith, size)) i) (cond (le-ltb (sizeIn key) w (omega (arith, size)) i) [] (map (λ node. raised (valueIn (nodeValue (K .nodes) (view-whole s accepted behind values has r a below here (omega arith) i) node 0))) (K .firstNodes))) numbers)
         ∙ first-nodes s accepted longer (below-letters ss more (below-snoc (letterNumbers s) r a below here)) (omega (arith, long)) behind (W .firsts) raised
         ∙ sym (map-map raised (λ e. value (streamsOf longer) e 0) (allFirsts cs)) in
         let e : length more ≡ suc w = omega (arith, length-snoc r a) in
@@ -120,7 +121,7 @@ module _ (s : Sheet) (accepted : Accepted s) (behind : List Node) (values : List
         let size = key-size s accepted behind values has r in
         let recent = drop (length r - w) r in
         let kept : firstsFrom K W (sizeIn key) numbers ≡ map raised (firstValues cs longer) =
-        (λ i. cond (lt-leb (sizeIn key) w (omega (arith, size)) i) (cond (ltb (sizeIn key) w) [] (map (λ node. raised (nodeValue (K .nodes) W node 0 .value)) (K .firstNodes))) numbers)
+        (λ i. cond (lt-leb (sizeIn key) w (omega (arith, size)) i) (cond (ltb (sizeIn key) w) [] (map (λ node. raised (valueIn (nodeValue (K .nodes) W node 0))) (K .firstNodes))) numbers)
         ∙ key-firsts s accepted behind values has r h
         ∙ ap (map raised) (sym (firstValues-append cs (recordOf ss r) (letterOf ss a ∷ []) (omega (arith, length-map r (letterOf ss)))) ∙ ap (firstValues cs) (sym (map-append (letterOf ss) r (a ∷ [])))) in
         let long : length (recent ++ (a ∷ [])) ≡ suc w = omega (arith, length-snoc recent a, length-drop (length r - w) r) in

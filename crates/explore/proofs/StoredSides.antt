@@ -12,32 +12,34 @@ use lib.Seq.{drop-append-le, getD-drop}
 use Rattle.basics.proofs.Lists.{getD-map}
 use Rattle.automaton.specs.Words.{AllBelow}
 use Rattle.automaton.proofs.ReachedRows.{below-snoc}
-use Rattle.meaning.specs.Value.{Value}
-use Rattle.meaning.specs.Arithmetic.{Within}
+use Rattle.meaning.specs.Value.{Value, absent}
+use Rattle.meaning.specs.Arithmetic.{AnyWithin}
 use Rattle.meaning.specs.Expression.{Expression, Constraint, until, integer, leftSide, rightSide, Stream, Sheet, value}
 use Rattle.meaning.specs.Interval.{interval}
 use Rattle.meaning.specs.Letter.{Record, letterOf, recordOf, streamsOf}
 use Rattle.meaning.specs.Window.{reach, back, firsts, sideFirsts, allFirsts, B, D}
 use Rattle.meaning.specs.Situation.{firstValues}
+use Rattle.meaning.specs.Evaluation.{windowValue}
 use Rattle.meaning.proofs.Facts.{length-snoc, getD-member, joinOver-member}
 use Rattle.meaning.proofs.Bounds.{sides-within}
 use Rattle.meaning.proofs.Stored.{Stored, Stored-left, Stored-right, Stored-map}
 use Rattle.meaning.proofs.Window.{windowValue-value}
 use Rattle.meaning.proofs.Lawful.{append-begins, firstValues-begins}
 use Rattle.sheet.specs.Accepted.{Accepted}
+use Rattle.nodes.specs.Bounded.{valueIn}
 use Rattle.nodes.specs.Code.{relationCode}
 use Rattle.nodes.specs.Postfix.{Node, StoredConstraint, allNodes, storedConstraints}
 use Rattle.nodes.specs.Evaluate.{Nodes, nodesOf, View, view, nodeValue}
 use Rattle.nodes.proofs.Postfix.{firstsBefore, stored-length}
 use Rattle.nodes.proofs.Accepted.{FirstsWithin, IsSide, leftOf, rightOf, accepted-value, accepted-windowValue}
 use Rattle.nodes.proofs.Record.{flat, record-places, record-letters}
-use Rattle.extend.specs.Key.{width, keyOf}
+use Rattle.extend.specs.Key.{raised, lowered, width, keyOf}
 use Rattle.extend.specs.Step.{viewAfter, lettersAfter, valueAt}
 use Rattle.explore.specs.Rows.{letterNumbers}
 use Rattle.explore.specs.StoredSheet.{storeFor, HasLetters}
-use Rattle.explore.proofs.KeySituations.{drop-below, drop-record}
+use Rattle.explore.proofs.KeySituations.{readBack, stored-all, drop-below, drop-record}
 use Rattle.explore.proofs.RowLaws.{below-letters}
-use Rattle.explore.proofs.StoredFirsts.{first-value}
+use Rattle.explore.proofs.StoredFirsts.{first-value, firsts-bounded}
 use Rattle.explore.proofs.KeyDecoding.{after-known, view-whole, view-cut}
 use Rattle.explore.proofs.JudgeMeaning.{Reads}
 
@@ -68,7 +70,7 @@ record Looks (cs : List Constraint) (e : Expression) (f : ℕ) : Type 0 where
   backward : back e ≤ B cs
   ahead : reach e ≤ D cs
   member : (g : Expression) → List·Memᴰ g (firsts e) → List·Memᴰ g (allFirsts cs)
-  stored : (v : Expression → Value) (ys : List Value) → Stored v (pos 0) ys 0 (allFirsts cs) → Stored v (pos 0) ys f (firsts e)
+  stored : (v : Expression → Value) (ys : List Value) → Stored v absent ys 0 (allFirsts cs) → Stored v absent ys f (firsts e)
   numbered : f + length (firsts e) ≤ length (allFirsts cs)
 
 side-looks : (cs : List Constraint) {e : Expression} {i f : ℕ} → IsSide cs c₀ t₀ e i f → Looks cs e f
@@ -81,7 +83,7 @@ side-looks cs (leftOf j b) =
       backward = x .back-left;
       ahead = x .reach-left;
       member = λ g k. joinOver-member sideFirsts cs c g m (Memᴰ·append-left (firsts (rightSide c)) k);
-      stored = λ v ys h. Stored-left v (pos 0) ys (firstsBefore 0 cs j) (firsts (leftSide c)) (firsts (rightSide c)) (stored-before v (pos 0) ys 0 cs j b h);
+      stored = λ v ys h. Stored-left v absent ys (firstsBefore 0 cs j) (firsts (leftSide c)) (firsts (rightSide c)) (stored-before v absent ys 0 cs j b h);
       numbered = omega (arith, length-append (firsts (leftSide c)) (firsts (rightSide c)));
     }
 side-looks cs (rightOf j b) =
@@ -93,7 +95,7 @@ side-looks cs (rightOf j b) =
       backward = x .back-right;
       ahead = x .reach-right;
       member = λ g k. joinOver-member sideFirsts cs c g m (Memᴰ·append-right (firsts (leftSide c)) k);
-      stored = λ v ys h. Stored-right v (pos 0) ys (firstsBefore 0 cs j) (firsts (leftSide c)) (firsts (rightSide c)) (stored-before v (pos 0) ys 0 cs j b h);
+      stored = λ v ys h. Stored-right v absent ys (firstsBefore 0 cs j) (firsts (leftSide c)) (firsts (rightSide c)) (stored-before v absent ys 0 cs j b h);
       numbered = omega (arith, length-append (firsts (leftSide c)) (firsts (rightSide c)));
     }
 
@@ -167,55 +169,67 @@ module _ (s : Sheet) (accepted : Accepted s) (behind : List Node) (values : List
       let e : window ≡ drop (length r - w) longer = ap (recordOf ss) (sym (drop-append-le (length r - w) r (a ∷ []) (omega arith))) ∙ sym (drop-record ss (length r - w) (r ++ (a ∷ []))) in
       ap (λ x. getD x k (pos 0)) (ap (λ x. getD x t []) e ∙ getD-drop (length r - w) longer t [])
 
-  -- The stored values of the firsts are those in the longer record, and lie in their intervals.
+  -- The stored values of the firsts are those in the longer record, and lie in their intervals where they are numbers.
   module _ (cut : w < length r) where
-    stored-firsts : Stored (λ f. value (streamsOf longer) f 0) (pos 0) (firstValues cs (recordOf ss r)) 0 (allFirsts cs)
+    stored-firsts : Stored (λ f. value (streamsOf longer) f 0) absent (firstValues cs (recordOf ss r)) 0 (allFirsts cs)
     stored-firsts =
         let e : recordOf ss r ++ (letterOf ss a ∷ []) ≡ longer = sym (map-append (letterOf ss) r (a ∷ [])) in
         let v = firstValues-begins cs (streamsOf (recordOf ss r ++ (letterOf ss a ∷ []))) (recordOf ss r) (append-begins (recordOf ss r) (letterOf ss a ∷ [])) (omega (arith, length-map r (letterOf ss)))
         ∙ ap (λ x. map (λ f. value (streamsOf x) f 0) (allFirsts cs)) e in
-        subst (λ x. Stored (λ f. value (streamsOf longer) f 0) (pos 0) x 0 (allFirsts cs)) (sym v) (Stored-map (λ f. value (streamsOf longer) f 0) (pos 0) (allFirsts cs))
+        subst (λ x. Stored (λ f. value (streamsOf longer) f 0) absent x 0 (allFirsts cs)) (sym v) (Stored-map (λ f. value (streamsOf longer) f 0) absent (allFirsts cs))
 
     stored-long : length (firstValues cs (recordOf ss r)) ≡ length (allFirsts cs)
     unfolding firstValues
     stored-long = length-map (allFirsts cs) _
 
     firsts-within : (f : ℕ) (es : List Expression) → ((e : Expression) → List·Memᴰ e es → List·Memᴰ e (allFirsts cs))
-        → Stored (λ f. value (streamsOf longer) f 0) (pos 0) (firstValues cs (recordOf ss r)) f es → FirstsWithin ss (firstValues cs (recordOf ss r)) f es
+        → Stored (λ f. value (streamsOf longer) f 0) absent (firstValues cs (recordOf ss r)) f es → FirstsWithin ss (firstValues cs (recordOf ss r)) f es
     firsts-within f [] m h = tt
     firsts-within f (e ∷ es) m h = (
-      subst (Within (interval ss e)) (sym (h .0)) (first-value s accepted longer (below-letters ss (r ++ (a ∷ [])) (below-snoc (letterNumbers s) r a below here)) (omega (arith, longer-long)) e (m e (List·Memᴰ·head refl))),
+      subst (AnyWithin (interval ss e)) (sym (h .0)) (first-value s accepted longer (below-letters ss (r ++ (a ∷ [])) (below-snoc (letterNumbers s) r a below here)) (omega (arith, longer-long)) e (m e (List·Memᴰ·head refl))),
       firsts-within (suc f) es (λ d k. m d (List·Memᴰ·tail k)) (h .1),
     )
 
-    side-cut : {e : Expression} {i f : ℕ} → IsSide cs c₀ t₀ e i f → nodeValue nodes W i (known - D cs) .value ≡ value (streamsOf longer) e (length r - D cs)
+    -- What the key keeps of them.
+    abbrev kept : List ℕ
+    kept = map raised (firstValues cs (recordOf ss r))
+
+    kept-values : readBack kept ≡ firstValues cs (recordOf ss r)
+    kept-values = stored-all (firstValues cs (recordOf ss r)) (firsts-bounded s accepted r below cut)
+
+    kept-long : length (map lowered kept) ≡ length (allFirsts cs)
+    kept-long = length-map kept lowered ∙ length-map (firstValues cs (recordOf ss r)) raised ∙ stored-long
+
+    side-cut : {e : Expression} {i f : ℕ} → IsSide cs c₀ t₀ e i f → valueIn (nodeValue nodes W i (known - D cs)) ≡ value (streamsOf longer) e (length r - D cs)
     side-cut {e} {i} {f} side =
         let x = side-looks cs side in
         let stored = firstValues cs (recordOf ss r) in
         let st = x .stored (λ f. value (streamsOf longer) f 0) stored stored-firsts in
         let letters = below-letters ss (recent ++ (a ∷ [])) (below-snoc (letterNumbers s) recent a (drop-below (letterNumbers s) (length r - w) r below) here) in
-        let seen = view (flat window) (length ss) stored false in
+        let seen = view (flat window) (length ss) (map lowered kept) false in
+        let within = subst (λ l. FirstsWithin ss l f (firsts e)) (sym kept-values) (firsts-within f (firsts e) (x .member) st) in
         let place : known - D cs ≡ B cs = omega (arith, known-is) in
         let time : length r - w + B cs ≡ length r - D cs = omega arith in
-        (λ j. nodeValue nodes (view-cut s accepted behind values has r a below here cut j) i (place j) .value)
-        ∙ ap (λ v. v .value) (accepted-windowValue s accepted seen (streamsOf window) (record-letters ss (accepted .someStream) window letters stored false) behind c₀ t₀ side refl (B cs) (x .backward)
-        (omega (arith, record-places ss (accepted .someStream) window letters stored false, window-long, x .ahead)) (omega (arith, stored-long, x .numbered)) (firsts-within f (firsts e) (x .member) st))
+        (λ j. valueIn (nodeValue nodes (view-cut s accepted behind values has r a below here cut j) i (place j)))
+        ∙ accepted-windowValue s accepted seen (streamsOf window) (record-letters ss (accepted .someStream) window letters (map lowered kept) false) behind c₀ t₀ side refl (B cs) (x .backward)
+        (omega (arith, record-places ss (accepted .someStream) window letters (map lowered kept) false, window-long, x .ahead)) (omega (arith, kept-long, x .numbered)) within
+        ∙ ap (λ l. windowValue (streamsOf window) l f e (B cs)) kept-values
         ∙ windowValue-value (streamsOf longer) (streamsOf window) stored (length r - w) (B cs + D cs) (λ k t h. window-shows k t) e f (B cs) (x .backward) (omega (arith, x .ahead)) st
         ∙ ap (value (streamsOf longer) e) time
 
-  side-whole : length r ≤ w → {e : Expression} {i f : ℕ} → IsSide cs c₀ t₀ e i f → nodeValue nodes W i (known - D cs) .value ≡ value (streamsOf longer) e (length r - D cs)
+  side-whole : length r ≤ w → {e : Expression} {i f : ℕ} → IsSide cs c₀ t₀ e i f → valueIn (nodeValue nodes W i (known - D cs)) ≡ value (streamsOf longer) e (length r - D cs)
   side-whole h {e} {i} {f} side =
       let x = side-looks cs side in
       let letters = below-letters ss (r ++ (a ∷ [])) (below-snoc (letterNumbers s) r a below here) in
       let place : known - D cs ≡ length r - D cs = omega (arith, known-is) in
-      (λ j. nodeValue nodes (view-whole s accepted behind values has r a below here h j) i (place j) .value)
-      ∙ ap (λ v. v .value) (accepted-value s accepted _ (streamsOf longer) (record-letters ss (accepted .someStream) longer letters _ true) behind c₀ t₀ side refl (length r - D cs)
-      (omega (arith, record-places ss (accepted .someStream) longer letters (W .firsts) true, longer-long, x .ahead)))
+      (λ j. valueIn (nodeValue nodes (view-whole s accepted behind values has r a below here h j) i (place j)))
+      ∙ accepted-value s accepted _ (streamsOf longer) (record-letters ss (accepted .someStream) longer letters _ true) behind c₀ t₀ side refl (length r - D cs)
+      (omega (arith, record-places ss (accepted .someStream) longer letters (W .firsts) true, longer-long, x .ahead))
 
-  side-value : {e : Expression} {i f : ℕ} → IsSide cs c₀ t₀ e i f → nodeValue nodes W i (known - D cs) .value ≡ value (streamsOf longer) e (length r - D cs)
+  side-value : {e : Expression} {i f : ℕ} → IsSide cs c₀ t₀ e i f → valueIn (nodeValue nodes W i (known - D cs)) ≡ value (streamsOf longer) e (length r - D cs)
   side-value {e} {i} {f} side = by (decLe (length r) w)
     where
-      by : Dec (length r ≤ w) → nodeValue nodes W i (known - D cs) .value ≡ value (streamsOf longer) e (length r - D cs)
+      by : Dec (length r ≤ w) → valueIn (nodeValue nodes W i (known - D cs)) ≡ value (streamsOf longer) e (length r - D cs)
       by (yes h) = side-whole h side
       by (no h) = side-cut (omega arith) side
 
@@ -234,8 +248,8 @@ module _ (s : Sheet) (accepted : Accepted s) (behind : List Node) (values : List
       let e : 0 + j ≡ j = omega arith in
       let l : j < length stored = omega (arith, stored-length 0 0 cs) in (
         ap₂ (λ l k. getD l k 0) (stored-relations 0 0 cs) e ∙ getD-map relationCode cs j c₀ 0 b,
-        ap (λ k. nodeValue nodes W (getD (storeFor s behind values .lefts) k 0) (known - D cs) .value) e
-            ∙ ap (λ i. nodeValue nodes W i (known - D cs) .value) (getD-map (λ (t : StoredConstraint). t .left) stored j t₀ 0 l) ∙ side-value (leftOf j b),
-        ap (λ k. nodeValue nodes W (getD (storeFor s behind values .rights) k 0) (known - D cs) .value) e
-            ∙ ap (λ i. nodeValue nodes W i (known - D cs) .value) (getD-map (λ (t : StoredConstraint). t .right) stored j t₀ 0 l) ∙ side-value (rightOf j b),
+        ap (λ k. valueIn (nodeValue nodes W (getD (storeFor s behind values .lefts) k 0) (known - D cs))) e
+            ∙ ap (λ i. valueIn (nodeValue nodes W i (known - D cs))) (getD-map (λ (t : StoredConstraint). t .left) stored j t₀ 0 l) ∙ side-value (leftOf j b),
+        ap (λ k. valueIn (nodeValue nodes W (getD (storeFor s behind values .rights) k 0) (known - D cs))) e
+            ∙ ap (λ i. valueIn (nodeValue nodes W i (known - D cs))) (getD-map (λ (t : StoredConstraint). t .right) stored j t₀ 0 l) ∙ side-value (rightOf j b),
       ))

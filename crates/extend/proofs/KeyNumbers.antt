@@ -1,4 +1,4 @@
--- Values raised to natural numbers and lowered back: what they are, that they fit what they are stored in, and that one undoes the other.
+-- Values raised to natural numbers and lowered back: what they are, that they fit what they are stored in, and that one undoes the other, of none too.
 use Prim.Native.Nat.{ℕ, suc, _+_, _-_, _≤_, _<_}
 use native.Mathlib.Omega.{arith}
 use mathlib.Core.Path.{_≡_, refl, sym, _∙_, ap, subst}
@@ -6,11 +6,12 @@ use mathlib.Core.Bool.{Bool, true, false, cond}
 use lib.Dec.{T, ltb}
 use lib.IntN.{ℤ, pos, negsuc, natAbs, subℕ, _+ℤ_}
 use lib.Signed.{mag, nonNeg}
-use borrow.Author.Tests.{lt-ltb, le-ltb}
+use borrow.Author.Tests.{le-leb, lt-ltb, le-ltb}
 use mir.Syntax.{w32, w64}
 use mir.Val.{Fits, SFits}
 use mir.ValLaws.{toZ-ofZ}
-use Rattle.nodes.specs.Bounded.{inBound}
+use Rattle.meaning.specs.Value.{Value, absent, number}
+use Rattle.nodes.specs.Bounded.{inBound, storedValue, SmallValue}
 use Rattle.arithmetic.proofs.Machine.{held}
 use Rattle.extend.specs.Key.{raised, lowered}
 
@@ -55,14 +56,19 @@ module _ (z : ℤ) (small : natAbs z ≤ 1000000000) where
     held-sum-casts =
         subst (λ (y : ℤ). T (nonNeg y) × Fits w32 (natAbs y)) (sym held-sum) (tt, record { fits = omega (arith, sum-natural .1) })
 
-    pub held-sum-raised : inBound z ≡ true → natAbs (held (held z +ℤ pos 1000000000)) ≡ raised z
+    pub held-sum-raised : inBound z ≡ true → natAbs (held (held z +ℤ pos 1000000000)) ≡ raised (storedValue z)
     held-sum-raised e = ap natAbs held-sum ∙ sym (simp e)
 
-pub lowered-raised : (z : ℤ) → natAbs z ≤ 1000000000 → inBound z ≡ true → lowered (raised z) ≡ z
-lowered-raised z h e = let is : raised z ≡ natAbs (z +ℤ pos 1000000000) = simp e in ap lowered is ∙ by z h
-  where
-    by : (z : ℤ) → natAbs z ≤ 1000000000 → lowered (natAbs (z +ℤ pos 1000000000)) ≡ z
-    by (pos n) h = subℕ-least (n + 1000000000) 1000000000 (omega arith) ∙ ap pos (omega arith)
-    by (negsuc n) h =
-        ap (λ y. lowered (natAbs y)) (subℕ-least 1000000000 (suc n) h)
-        ∙ subℕ-less (1000000000 - suc n) 1000000000 (omega arith) ∙ ap negsuc (omega arith)
+pub raised-absent : (z : ℤ) → inBound z ≡ false → raised absent ≡ raised (storedValue z)
+raised-absent z e = sym (simp e)
+
+lowered-raised : (z : ℤ) → natAbs z ≤ 1000000000 → lowered (raised (number z)) ≡ z
+lowered-raised (pos n) h = subℕ-least (n + 1000000000) 1000000000 (omega arith) ∙ ap pos (omega arith)
+lowered-raised (negsuc n) h =
+    ap (λ y. lowered (natAbs y)) (subℕ-least 1000000000 (suc n) h)
+    ∙ subℕ-less (1000000000 - suc n) 1000000000 (omega arith) ∙ ap negsuc (omega arith)
+
+-- What is stored of a value is read back as it.
+pub stored-raised : (v : Value) → SmallValue v → storedValue (lowered (raised v)) ≡ v
+stored-raised absent h = refl
+stored-raised (number z) h = ap storedValue (lowered-raised z h) ∙ simp (le-leb (natAbs z) 1000000000 h)

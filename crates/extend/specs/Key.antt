@@ -2,7 +2,7 @@
 -- document 01's terms.
 --   0        the number of letters of the record, or one more than D+B where the record is cut
 --   1 to 6   the numbers of its last letters, at most D+B of them, and 0 beyond them
---   7 to 14  the values of the firsts of a cut record, each raised to a natural number, and 0 beyond them
+--   7 to 14  the values of the firsts of a cut record, each raised to a natural number, none too, and 0 beyond them
 --   15       the untils that are done, as the digits of a number in base 2
 use Prim.Native.Nat.{ℕ, suc, _+_, _-_, _*_, min}
 use mathlib.Core.Bool.{Bool, cond}
@@ -11,12 +11,11 @@ use lib.Dec.{leb}
 use lib.IntN.{ℤ, pos, natAbs, _+ℤ_, _-ℤ_}
 use lib.ListN.{length, getD, take, drop, replicate}
 use Rattle.sheet.specs.Refusal.{windowBound, firstBound}
-use Rattle.meaning.specs.Value.{Value}
+use Rattle.meaning.specs.Value.{Value, absent, number}
 use Rattle.meaning.specs.Expression.{Sheet}
 use Rattle.meaning.specs.Letter.{recordOf}
 use Rattle.meaning.specs.Window.{B, D}
 use Rattle.meaning.specs.Situation.{firstValues, untilMarks}
-use Rattle.nodes.specs.Bounded.{inBound}
 
 -- the list with as many zeros after it as make k numbers
 abbrev pub withZeros : ℕ → List ℕ → List ℕ
@@ -25,11 +24,13 @@ withZeros k l = take k (l ++ replicate k 0)
 unfoldable pub encodedKey : ℕ → List ℕ → List ℕ → ℕ → List ℕ
 encodedKey size letters firsts marks = size ∷ (withZeros windowBound letters ++ (withZeros firstBound firsts ++ (marks ∷ [])))
 
--- A value within the magnitude bound as a natural number, and back.
+-- A value, none or within the magnitude bound, as a natural number; and the number back from it, which stands for none beyond the bound. "The `first`
+-- of none is none, in situations too." (document 02, S-5)
 abbrev pub raised : Value → ℕ
-raised z = cond (inBound z) (natAbs (z +ℤ pos 1000000000)) 0
+raised absent = 2000000001
+raised (number z) = natAbs (z +ℤ pos 1000000000)
 
-abbrev pub lowered : ℕ → Value
+abbrev pub lowered : ℕ → ℤ
 lowered x = pos x -ℤ pos 1000000000
 
 -- The marks of the untils, the first as the lowest digit.

@@ -11,6 +11,7 @@ use lib.Seq.{paste}
 use Rattle.sheet.specs.Refusal.{streamBound, constraintBound, firstBound, windowBound}
 use Rattle.meaning.specs.Value.{Value, truth}
 use Rattle.meaning.specs.Expression.{holds}
+use Rattle.nodes.specs.Bounded.{valueIn}
 use Rattle.nodes.specs.Code.{signAt}
 use Rattle.nodes.specs.Evaluate.{Nodes, stored, View, view, nodeValue}
 use Rattle.sides.specs.Mark.{odd}
@@ -60,7 +61,7 @@ withDigit b r = cond (r .ok) (lawfulWith (digit b + 2 * r .marks)) r
 -- `value` has the value of a node. The next n constraints from the one numbered j on are judged; `marks` are those of their untils so far. The
 -- answer has the marks afterwards.
 module _ (relations lefts rights : List ℕ) (value : ℕ → Value) where
-  -- An until is permitted if its left is not 0, or it is done.
+  -- An until is permitted if its left is true, or it is done; none counts as 0.
   abbrev pub untilDone : ℕ → ℕ → Bool
   untilDone j marks = odd marks || truth (value (getD rights j 0))
 
@@ -101,7 +102,7 @@ module _ (K : Store) where
 
 module _ (K : Store) where
   abbrev pub valueAt : View → ℕ → ℕ → Value
-  valueAt W place node = nodeValue (K .nodes) W node place .value
+  valueAt W place node = valueIn (nodeValue (K .nodes) W node place)
 
   -- The time newly judged is D letters back; there is none before D letters are there. `known` is how many letters of the record are there.
   abbrev pub judgedIn : View → ℕ → ℕ → Judged

@@ -2,6 +2,7 @@
 ghost use mathlib.Core.Path.{_≡_};
 ghost use Prim.Native.Nat.{_<_, _≤_};
 ghost use lib.ListN.{length};
+ghost use Rattle.nodes.specs.Bounded.{valueIn};
 ghost use Rattle.nodes.specs.Evaluate.{stored, view, nodeValue};
 ghost use Rattle.extend.specs.Step.{unlawful, judgedFrom};
 ghost use Rattle.extend.specs.Marking.{IsSmall, begun, grown};
@@ -68,7 +69,7 @@ pub fn judge(
     marks: u32,
 ) -> Judged
     requires { ⌜ (length (now lefts) ≡ length (now relations)) × (length (now rights) ≡ length (now relations)) × (length (now relations) ≤ 32) ⌝ }
-    ensures { λ r. ⌜ r ≡ judgedFrom (now (relations .entry)) (now (lefts .entry)) (now (rights .entry)) (λ node. nodeValue (stored (now (kinds .entry)) (now (values .entry)) (now (starts .entry))) (view (now (window .entry)) streams (now (firsts .entry)) whole) node place .value) 0 (length (now (relations .entry))) marks ⌝ }
+    ensures { λ r. ⌜ r ≡ judgedFrom (now (relations .entry)) (now (lefts .entry)) (now (rights .entry)) (λ node. valueIn (nodeValue (stored (now (kinds .entry)) (now (values .entry)) (now (starts .entry))) (view (now (window .entry)) streams (now (firsts .entry)) whole) node place)) 0 (length (now (relations .entry))) marks ⌝ }
 {
     let mut marking = begin(marks);
     let mut j = 0;

@@ -12,20 +12,21 @@ ghost use Prim.Native.Nat.{ℕ, _+_, _*_, _<_, _≤_, min};
 ghost use lib.ListN.{length, getD, take, drop};
 ghost use lib.Seq.{paste};
 ghost use Rattle.sheet.specs.Refusal.{windowBound, firstBound, streamBound};
+ghost use Rattle.nodes.specs.Bounded.{valueIn, storedValue};
 ghost use Rattle.nodes.specs.Evaluate.{stored, view, nodeValue};
 ghost use Rattle.basics.specs.Answers.{Says};
 ghost use Rattle.sizes.specs.Room.{keySize, windowRoom};
 ghost use Rattle.extend.specs.Key.{encodedKey, raised, lowered};
 ghost use Rattle.extend.specs.Step.{windowOf, withLetterAfter};
 
-// A value within the magnitude bound as a natural number, and back.
+// A value that is given as one number, as a natural number, and back: a number beyond the magnitude bound stands for none.
 fn raised(z: i64) -> u32
-    ensures { λ r. ⌜ r ≡ raised z ⌝ }
+    ensures { λ r. ⌜ r ≡ raised (storedValue z) ⌝ }
 {
     if in_bound(z) {
         return (z + 1000000000) as u32;
     }
-    0
+    2000000001
 }
 
 fn lowered(x: u32) -> i64
@@ -156,7 +157,7 @@ pub fn raise_all(
     numbers: &mut [u32],
 )
     requires { ⌜ length (now «first_nodes») ≤ length (now numbers) ⌝ }
-    ensures { λ r. ⌜ take (length (now («first_nodes» .entry))) (now (numbers .exit)) ≡ map (λ node. raised (nodeValue (stored (now (kinds .entry)) (now (values .entry)) (now (starts .entry))) (view (now (window .entry)) streams (now (firsts .entry)) whole) node 0 .value)) (now («first_nodes» .entry)) ⌝ }
+    ensures { λ r. ⌜ take (length (now («first_nodes» .entry))) (now (numbers .exit)) ≡ map (λ node. raised (valueIn (nodeValue (stored (now (kinds .entry)) (now (values .entry)) (now (starts .entry))) (view (now (window .entry)) streams (now (firsts .entry)) whole) node 0))) (now («first_nodes» .entry)) ⌝ }
 {
     let mut i = 0;
     while i < first_nodes.len() {

@@ -27,6 +27,7 @@ ghost use Prim.Native.Nat.{_-_, _≤_, min};
 ghost use lib.Dec.{leb, ltb};
 ghost use lib.ListN.{length, take};
 ghost use Rattle.sheet.specs.Refusal.{windowBound, firstBound, streamBound};
+ghost use Rattle.nodes.specs.Bounded.{valueIn};
 ghost use Rattle.nodes.specs.Evaluate.{stored, view, nodeValue};
 ghost use Rattle.basics.specs.Answers.{Says};
 ghost use Rattle.sizes.specs.Room.{keySize};
@@ -57,7 +58,7 @@ fn judge_letter(
     marks: u32,
 ) -> Judged
     requires { ⌜ (length (now lefts) ≡ length (now relations)) × (length (now rights) ≡ length (now relations)) × (length (now relations) ≤ 32) ⌝ }
-    ensures { λ r. ⌜ r ≡ cond (leb ahead held) (judgedFrom (now (relations .entry)) (now (lefts .entry)) (now (rights .entry)) (λ node. nodeValue (stored (now (kinds .entry)) (now (values .entry)) (now (starts .entry))) (view (now (window .entry)) streams (now (firsts .entry)) whole) node (held - ahead) .value) 0 (length (now (relations .entry))) marks) (lawfulWith marks) ⌝ }
+    ensures { λ r. ⌜ r ≡ cond (leb ahead held) (judgedFrom (now (relations .entry)) (now (lefts .entry)) (now (rights .entry)) (λ node. valueIn (nodeValue (stored (now (kinds .entry)) (now (values .entry)) (now (starts .entry))) (view (now (window .entry)) streams (now (firsts .entry)) whole) node (held - ahead))) 0 (length (now (relations .entry))) marks) (lawfulWith marks) ⌝ }
 {
     if held < ahead {
         return Judged { ok: true, marks };
@@ -94,7 +95,7 @@ fn firsts_after(
     numbers: &mut [u32],
 ) -> usize
     requires { ⌜ (length (now «first_nodes») ≤ length (now numbers)) × (length (now «held_firsts») ≤ length (now numbers)) ⌝ }
-    ensures { λ r. ⌜ take r (now (numbers .exit)) ≡ cond (leb size width) (cond (ltb size width) [] (map (λ node. raised (nodeValue (stored (now (kinds .entry)) (now (values .entry)) (now (starts .entry))) (view (now (window .entry)) streams (now (firsts .entry)) whole) node 0 .value)) (now («first_nodes» .entry)))) (now («held_firsts» .entry)) ⌝ }
+    ensures { λ r. ⌜ take r (now (numbers .exit)) ≡ cond (leb size width) (cond (ltb size width) [] (map (λ node. raised (valueIn (nodeValue (stored (now (kinds .entry)) (now (values .entry)) (now (starts .entry))) (view (now (window .entry)) streams (now (firsts .entry)) whole) node 0))) (now («first_nodes» .entry)))) (now («held_firsts» .entry)) ⌝ }
     ensures { λ r. ⌜ r ≤ length (now (numbers .entry)) ⌝ }
 {
     if size < width {

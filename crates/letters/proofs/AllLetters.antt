@@ -11,7 +11,8 @@ use lib.Dec.{leb}
 use lib.IntN.{ℤ}
 use lib.ListN.{length, take, drop, length-append, length-drop}
 use lib.Seq.{take-at, drop-at, drop-drop, drop-length, length-take-le}
-use borrow.Author.Tests.{le-leb, lt-leb, lt-ltb}
+use borrow.Author.Tests.{le-leb, lt-leb}
+use Rattle.basics.proofs.Reflects.{to-true}
 use Rattle.meaning.specs.Expression.{Stream}
 use Rattle.meaning.specs.Letter.{letterCount, letterOf}
 use Rattle.meaning.proofs.Letter.{letterOf-letter}
@@ -19,7 +20,7 @@ use Rattle.nodes.proofs.Record.{letter-length}
 use Rattle.sheet.specs.Refusal.{letterBound}
 use Rattle.letters.specs.Described.{described, cutCount, hasLetter, withLetter, lettersBelow, hasRoom, withLetters}
 use Rattle.letters.proofs.Counts.{length-described}
-use Rattle.letters.proofs.Streams.{unnamed, letterCount-unnamed, letterOf-unnamed, length-unnamed}
+use Rattle.letters.proofs.Streams.{unnamed, letterCount-unnamed, letterOf-unnamed, length-unnamed, letter-reflects}
 
 -- ---- the places of the letters
 
@@ -125,20 +126,19 @@ module _ (lows highs out : List ℤ) where
             subst (λ x. a * x + x ≤ length out) (sym width) (omega (arith, m, suc-mul a (length streams), fits))
 
         -- So it can be written there.
-        pub letter-there : (a : ℕ) → a < r → (now : List ℤ) {at m : ℕ} → at ≡ a * n → m ≡ n → length now ≡ length out
+        pub can-write-next : (a : ℕ) → a < r → (now : List ℤ) {at m : ℕ} → at ≡ a * n → m ≡ n → length now ≡ length out
             → hasLetter streams a (length (take m (drop at now))) ≡ true
-        unfolding hasLetter
-        letter-there a b now {at} {m} p w long =
+        can-write-next a b now {at} {m} p w long =
             let room : m ≤ length (drop at now) = omega (arith, length-drop at now, letter-fits a b) in
             let size = length-take-le m (drop at now) room in
-            simp (le-leb count letterBound (omega arith), lt-ltb a count (omega arith), le-leb (length streams) (length (take m (drop at now))) (omega (arith, width)))
+            to-true (letter-reflects streams a (length (take m (drop at now)))) (record { few = omega arith; known = omega arith; fits = omega (arith, width) })
 
         one-letter : (a : ℕ) → a < r → (rest : List ℤ) → length streams ≤ length rest → withLetter streams a (take (length streams) rest) ≡ letterOf streams a
-        unfolding withLetter hasLetter
+        unfolding withLetter
         one-letter a b rest k =
             let long = length-take-le (length streams) rest k in
             let t : hasLetter streams a (length (take (length streams) rest)) ≡ true =
-            simp (le-leb count letterBound (omega arith), lt-ltb a count (omega arith), le-leb (length streams) (length (take (length streams) rest)) (omega arith)) in
+            to-true (letter-reflects streams a (length (take (length streams) rest))) (record { few = omega arith; known = omega arith; fits = omega arith }) in
             let none : drop (length streams) (take (length streams) rest) ≡ [] = ap (λ x. drop x (take (length streams) rest)) (sym long) ∙ drop-length (take (length streams) rest) in
             simp t (ap (λ x. letterOf streams a ++ x) none ∙ append-nil (letterOf streams a))
 

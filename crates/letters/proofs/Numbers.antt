@@ -6,24 +6,24 @@ use mathlib.Core.Path.{_≡_, refl, sym, _∙_, ap, ap₂, subst}
 use mathlib.Core.Bool.{Bool, true, false, cond, _&&_}
 use mathlib.Core.List.{List, [], _∷_, _++_, append-assoc}
 use lib.Arith.{digits-lt, digits-div, digits-mod}
-use lib.Dec.{leb, ltb}
+use lib.Dec.{leb}
 use lib.IntN.{ℤ, pos, natAbs, _+ℤ_, _-ℤ_}
 use lib.ListN.{length, getD, drop, take, set, take-append-drop}
 use lib.Seq.{drop-cons, drop-length, take-suc, set-at, length-take-le}
 use lib.Signed.{leZ}
-use borrow.Author.Tests.{leb-true, ltb-true, le-leb, lt-leb, lt-ltb, le-ltb}
+use borrow.Author.Tests.{le-leb, lt-leb}
 use mir.Syntax.{w64}
 use mir.Val.{SFits}
+use Rattle.basics.proofs.Reflects.{from-true, to-true, to-false}
 use Rattle.meaning.specs.Expression.{Stream}
 use Rattle.meaning.specs.Letter.{size, letterCount, letterNumber, letterOf}
 use Rattle.meaning.proofs.Letter.{size-within, within-size, letterNumber-bound}
-use Rattle.nodes.proofs.Parts.{and-true-left, and-true-right}
 use Rattle.nodes.proofs.Record.{letter-length}
 use Rattle.sheet.specs.Refusal.{letterBound}
 use Rattle.arithmetic.proofs.Machine.{held, held-both}
 use Rattle.letters.specs.Described.{ranged, described, cutCount, isLetter, numberOf, hasLetter, withLetter}
 use Rattle.letters.proofs.Above.{leZ-true, between-fits}
-use Rattle.letters.proofs.Streams.{isLetter-sound}
+use Rattle.letters.proofs.Streams.{isLetter-sound, LetterThere, letter-reflects}
 use Rattle.letters.proofs.Counts.{length-described, described-cons, described-end, countFrom, countFrom-end, countFrom-step}
 
 -- ---- digits
@@ -154,25 +154,12 @@ module _ (lows highs : List ℤ) where
     abbrev streams : List Stream
     streams = described lows highs
 
-    -- What there is where a letter can be written.
-    pub letter-there : hasLetter streams number (length out) ≡ true → (number < count 0) × (count 0 ≤ 1024) × (width ≤ length out)
-    unfolding hasLetter
-    letter-there t =
-        let few = leb (letterCount streams) letterBound in
-        let known = ltb number (letterCount streams) in
-        let room = leb (length streams) (length out) in
-        let l = and-true-right few (known && room) t in (
-          ltb-true number (letterCount streams) (and-true-left known room l),
-          leb-true (letterCount streams) letterBound (and-true-left few (known && room) t),
-          let r = leb-true (length streams) (length out) (and-true-right known room l) in omega (arith, length-described lows highs),
-        )
-
     -- The list with all streams written holds the letter.
     pub all-written : hasLetter streams number (length out) ≡ true → {l : List ℤ} {i : ℕ} → i ≡ 0 → l ≡ written number out i → l ≡ withLetter streams number out
     unfolding withLetter
     all-written t z w =
-        let h = letter-there t in
-        w ∙ ap (written number out) z ∙ ap₂ (λ x y. letterOf streams x ++ drop y out) (mod-eq-of-lt (h .0)) (sym (length-described lows highs)) ∙ sym (simp t)
+        let h = from-true (letter-reflects streams number (length out)) t in
+        w ∙ ap (written number out) z ∙ ap₂ (λ x y. letterOf streams x ++ drop y out) (mod-eq-of-lt (h .known)) (sym (length-described lows highs)) ∙ sym (simp t)
 
     -- The two parts of the answer of `letter_values`: whether the letter is there, and the list.
     abbrev ValuesAnswer : Bool → List ℤ → Type 0
@@ -182,27 +169,24 @@ module _ (lows highs : List ℤ) where
     unfolding withLetter
     none-of e = (sym e, sym (simp e))
 
+    none-there : (LetterThere streams number (length out) → ⊥) → ValuesAnswer false out
+    none-there f = none-of (to-false (letter-reflects streams number (length out)) f)
+
     pub too-many : {r : ℕ} → r ≡ cutCount (letterCount streams) → 1024 < r → ValuesAnswer false out
-    unfolding hasLetter
-    too-many e h = none-of (simp (lt-leb (letterCount streams) letterBound (omega arith)))
+    too-many e h = none-there (λ t. omega arith)
 
     module _ {r : ℕ} (e : r ≡ cutCount (letterCount streams)) (h : r ≤ 1024) where
       pub not-number : r ≤ number → ValuesAnswer false out
-      unfolding hasLetter
-      not-number k = none-of (simp (le-leb (letterCount streams) letterBound (omega arith), le-ltb number (letterCount streams) (omega arith)))
+      not-number k = none-there (λ t. omega arith)
 
       module _ (k : number < r) {n : ℕ} (q : n ≡ width) where
         pub no-room : length out < n → ValuesAnswer false out
-        unfolding hasLetter
-        no-room l =
-            let d = length-described lows highs in
-            none-of (simp (le-leb (letterCount streams) letterBound (omega arith), lt-ltb number (letterCount streams) (omega arith), lt-leb (length streams) (length out) (omega arith)))
+        no-room l = none-there (λ t. omega (arith, length-described lows highs))
 
         pub can-write : n ≤ length out → hasLetter streams number (length out) ≡ true
-        unfolding hasLetter
         can-write b =
             let d = length-described lows highs in
-            simp (le-leb (letterCount streams) letterBound (omega arith), lt-ltb number (letterCount streams) (omega arith), le-leb (length streams) (length out) (omega arith))
+            to-true (letter-reflects streams number (length out)) (record { few = omega arith; known = omega arith; fits = omega arith })
 
 -- ---- from a letter to its number
 

@@ -1,6 +1,6 @@
--- The streams that a sheet's lowest and highest values describe have the letters of the sheet's own streams; and the test for a letter decides
--- whether the values are one.
-use Prim.Native.Nat.{ℕ, _+_, _*_, _/_, _%_, suc}
+-- The streams that a sheet's lowest and highest values describe have the letters of the sheet's own streams; the test for a letter decides whether
+-- the values are one, and the test for a number whether there is a letter with it, and room for its values.
+use Prim.Native.Nat.{ℕ, _+_, _*_, _/_, _%_, _≤_, _<_, suc}
 use native.Mathlib.Omega.{arith}
 use mathlib.Core.Path.{_≡_, refl, sym, _∙_, ap, ap₂, subst}
 use mathlib.Core.Bool.{Bool, true, _&&_}
@@ -10,11 +10,13 @@ use lib.IntN.{pos, natAbs, _+ℤ_, _-ℤ_}
 use lib.Signed.{leZ, leZ-yes}
 use lib.ListN.{length}
 use Rattle.basics.proofs.Tests.{true-of-T}
+use Rattle.basics.proofs.Reflects.{Reflects, reflects-iff, and-reflects, leb-reflects, ltb-reflects}
 use Rattle.meaning.specs.Expression.{Stream}
 use Rattle.meaning.specs.Letter.{Letter, IsLetter, none, more, size, letterCount, letterNumber, letterOf}
 use Rattle.nodes.specs.Bounds.{lowsOf, highsOf}
 use Rattle.nodes.proofs.Parts.{and-true-left, and-true-right}
-use Rattle.letters.specs.Described.{described, isLetter}
+use Rattle.sheet.specs.Refusal.{letterBound}
+use Rattle.letters.specs.Described.{described, isLetter, hasLetter}
 
 -- ---- the sheet's streams
 
@@ -51,7 +53,7 @@ isLetter-unnamed [] (v ∷ l) = refl
 isLetter-unnamed (s ∷ ss) [] = refl
 isLetter-unnamed (s ∷ ss) (v ∷ l) = ap (λ t. leZ (s .range .low) v && (leZ v (s .range .high) && t)) (isLetter-unnamed ss l)
 
--- ---- the test
+-- ---- the test for a letter
 
 T-of : {b : Bool} → b ≡ true → T b
 T-of e = subst T (sym e) tt
@@ -71,3 +73,17 @@ unfolding isLetter
 isLetter-complete none = refl
 isLetter-complete (more {s} {ss} {v} {l} w h) =
     simp (true-of-T (leZ (s .range .low) v) (w .above .le), true-of-T (leZ v (s .range .high)) (w .below .le)) (isLetter-complete h)
+
+-- ---- the test for a number
+
+-- The letters are at most as many as the bound, the number is a letter's, and there is room for so many values.
+pub record LetterThere (ss : List Stream) (n room : ℕ) : Type 0 where
+  pub few : letterCount ss ≤ letterBound
+  pub known : n < letterCount ss
+  pub fits : length ss ≤ room
+
+pub letter-reflects : (ss : List Stream) (n room : ℕ) → Reflects (LetterThere ss n room) (hasLetter ss n room)
+unfolding hasLetter
+letter-reflects ss n room =
+    reflects-iff (λ p. record { few = p .0; known = p .1 .0; fits = p .1 .1 }) (λ h. (h .few, (h .known, h .fits)))
+    (and-reflects (leb-reflects (letterCount ss) letterBound) (and-reflects (ltb-reflects n (letterCount ss)) (leb-reflects (length ss) room)))

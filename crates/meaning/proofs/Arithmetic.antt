@@ -1,4 +1,5 @@
--- What an operator gives lies in the operator's interval, and an operator's interval is not empty. From the order of the integers (Order).
+-- What an operator gives, where it gives a number, lies in the operator's interval, and an operator's interval is not empty. From the order of
+-- the integers (Order).
 use Prim.Native.Nat.{ℕ, zero, suc, _/_, _%_, _≤_, _<_, max, zero-le}
 use native.Mathlib.Omega.{arith}
 use native.Mathlib.Nat.{le-trans, div-le-self, mod-le, mod-lt, le-of-suc-le-suc, not-suc-le-zero}
@@ -7,9 +8,9 @@ use mathlib.Core.Bool.{Bool, true, false, not, cond, _&&_, _||_}
 use lib.Dec.{T, leb→le, le→leb}
 use lib.IntN.{ℤ, pos, negsuc, negℤ, natAbs, sucℤ, predℤ, _+ℤ_, _-ℤ_, _*ℤ_, sucℤ-+ℤ, +ℤ-sucℤ, +ℤ-predℤ, +ℤ-idr, sucℤ-*ℤ, *ℤ-comm, negℤ-sucℤ}
 use lib.Signed.{leZ, quotZ, remZ, _≤ℤ_, ≤ℤ-refl, leZ-yes}
-use Rattle.meaning.specs.Value.{Value, nonzero, truth, bit, compares}
+use Rattle.meaning.specs.Value.{Value, absent, number, nonzero, bit, compares}
 use Rattle.meaning.specs.Expression.{negated, chosen}
-use Rattle.meaning.specs.Arithmetic.{Operator, add, subtract, multiply, divide, remainder, compare, and, or, Interval, Within, least, greatest, hull, overEnds, magnitude, around, remainderBound, remainderInterval, truthInterval, apply, operatorInterval}
+use Rattle.meaning.specs.Arithmetic.{Operator, add, subtract, multiply, divide, remainder, compare, and, or, Interval, Within, AnyWithin, least, greatest, hull, overEnds, magnitude, around, remainderBound, remainderInterval, truthInterval, applyNumbers, apply, operatorInterval}
 use Rattle.meaning.proofs.Order.{≤ℤ-trans, least-≤-left, least-≤-right, least-cases, greatest-≥-left, greatest-≥-right, greatest-cases, ≤-sucℤ, predℤ-≤, Rising, Falling, rising-≤, falling-≤, ≤-+ℤ-pos}
 
 -- ---- intervals
@@ -36,19 +37,30 @@ pub hull-smallest : {K : Interval} (I J : Interval) → K .low ≤ℤ I .low →
     → (K .low ≤ℤ hull I J .low) × (hull I J .high ≤ℤ K .high)
 hull-smallest {K} I J p q p′ q′ = (least-cases (λ z. K .low ≤ℤ z) p q, greatest-cases (λ z. z ≤ℤ K .high) p′ q′)
 
-hull-cond : (c : Bool) (I J : Interval) {x y : ℤ} → Within I x → Within J y → Within (hull I J) (cond c x y)
-hull-cond true I J h k = hull-left I J h
-hull-cond false I J h k = hull-right I J k
+-- The same for values, which are named, since what AnyWithin says does not show them.
+pub any-left : (I J : Interval) (x : Value) → AnyWithin I x → AnyWithin (hull I J) x
+any-left I J absent h = tt
+any-left I J (number x) h = hull-left I J h
 
-pub hull-chosen : (c : Value) (I J : Interval) {x y : Value} → Within I x → Within J y → Within (hull I J) (chosen c x y)
-hull-chosen c I J h k = hull-cond (truth c) I J h k
+pub any-right : (I J : Interval) (x : Value) → AnyWithin J x → AnyWithin (hull I J) x
+any-right I J absent h = tt
+any-right I J (number x) h = hull-right I J h
+
+pub hull-chosen : (c : Value) (I J : Interval) (x y : Value) → AnyWithin I x → AnyWithin J y → AnyWithin (hull I J) (chosen c x y)
+hull-chosen absent I J x y h k = tt
+hull-chosen (number z) I J x y h k = by (nonzero z)
+  where
+    by : (t : Bool) → AnyWithin (hull I J) (cond t x y)
+    by true = any-left I J x h
+    by false = any-right I J y k
 
 pub bit-within : (b : Bool) → Within truthInterval (bit b)
 bit-within true = record { above = leZ-yes tt; below = leZ-yes tt }
 bit-within false = record { above = leZ-yes tt; below = leZ-yes tt }
 
-pub negated-within : (v : Value) → Within truthInterval (negated v)
-negated-within v = bit-within (not (truth v))
+pub negated-within : (v : Value) → AnyWithin truthInterval (negated v)
+negated-within absent = tt
+negated-within (number z) = bit-within (not (nonzero z))
 
 -- ---- `+ - *`: the least and greatest over the ends
 
@@ -135,7 +147,7 @@ Monotone-cong e (falling r) = falling (record { step = λ m. subst₂ (λ y z. y
 *ℤ-monotone-right : (k : ℤ) → Monotone (λ m. k *ℤ m)
 *ℤ-monotone-right k = Monotone-cong (λ m. *ℤ-comm m k) (*ℤ-monotone-left k)
 
--- ---- `/` and `%`: a magnitude of at most M
+-- ---- `/`: a magnitude of at most M
 
 natAbs-negℤ : (n : ℕ) → natAbs (negℤ (pos n)) ≡ n
 natAbs-negℤ zero = refl
@@ -146,10 +158,6 @@ natAbs-quotZ (pos a) (pos b) = refl
 natAbs-quotZ (pos a) (negsuc b) = natAbs-negℤ (a / suc b)
 natAbs-quotZ (negsuc a) (pos b) = natAbs-negℤ (suc a / b)
 natAbs-quotZ (negsuc a) (negsuc b) = refl
-
-pub natAbs-remZ : (a b : ℤ) → natAbs (remZ a b) ≡ natAbs a % natAbs b
-natAbs-remZ (pos a) b = refl
-natAbs-remZ (negsuc a) b = natAbs-negℤ (suc a % natAbs b)
 
 -- "M the larger magnitude of the dividend's ends" bounds the magnitude of every number between them.
 pub magnitude-bounds : (I : Interval) (x : ℤ) → Within I x → natAbs x ≤ magnitude I
@@ -167,12 +175,17 @@ around-within (suc m) (pos x) h = record { above = leZ-yes tt; below = leZ-yes (
 around-within zero (negsuc x) h = absurd (not-suc-le-zero h)
 around-within (suc m) (negsuc x) h = record { above = leZ-yes (le→leb x m (le-of-suc-le-suc h)); below = leZ-yes tt }
 
--- A number of no larger magnitude than one in I lies around 0 within I's magnitude, and so does the 0 that stands for it with divisor 0.
-guarded-within : (I : Interval) (c : Bool) {a : ℤ} (z : ℤ) → Within I a → natAbs z ≤ natAbs a → Within (around (magnitude I)) (cond c z (pos 0))
-guarded-within I true {a} z h l = around-within (magnitude I) z (le-trans l (magnitude-bounds I a h))
-guarded-within I false z h l = around-within (magnitude I) (pos 0) zero-le
+-- A quotient is of no larger magnitude than its dividend.
+quotient-within : (I : Interval) (a b : ℤ) → Within I a → Within (around (magnitude I)) (quotZ a b)
+quotient-within I a b h =
+    let l : natAbs (quotZ a b) ≤ natAbs a = rw natAbs-quotZ (div-le-self (natAbs a) (natAbs b)) in
+    around-within (magnitude I) (quotZ a b) (le-trans l (magnitude-bounds I a h))
 
 -- ---- `%`: the dividend's sign, and a magnitude below the divisor's
+
+pub natAbs-remZ : (a b : ℤ) → natAbs (remZ a b) ≡ natAbs a % natAbs b
+natAbs-remZ (pos a) b = refl
+natAbs-remZ (negsuc a) b = natAbs-negℤ (suc a % natAbs b)
 
 negℤ-below : (n : ℕ) → negℤ (pos n) ≤ℤ pos 0
 negℤ-below zero = leZ-yes tt
@@ -209,25 +222,33 @@ remainder-small a (pos zero) t = absurd t
 remainder-small a (pos (suc b)) t = rw natAbs-remZ (mod-lt (natAbs a) (omega arith))
 remainder-small a (negsuc b) t = rw natAbs-remZ (mod-lt (natAbs a) (omega arith))
 
-remainder-within : (I J : Interval) (a b : ℤ) → Within I a → Within J b → (t : Bool) → nonzero b ≡ t → Within (remainderInterval I J) (cond t (remZ a b) (pos 0))
-remainder-within I J a b h k true e =
-    let s = remainder-small a b (subst T (sym e) tt) in
+remainder-within : (I J : Interval) (a b : ℤ) → Within I a → Within J b → T (nonzero b) → Within (remainderInterval I J) (remZ a b)
+remainder-within I J a b h k t =
+    let s = remainder-small a b t in
     let m : natAbs (remZ a b) ≤ natAbs a = rw natAbs-remZ (mod-le (natAbs a) (natAbs b)) in
     sided-within I (remainderBound I J) a (remZ a b) h (omega (arith, magnitude-bounds I a h, magnitude-bounds J b k)) (remZ-above a b) (remZ-below a b)
-remainder-within I J a b h k false e = sided-within I (remainderBound I J) a (pos 0) h zero-le (λ p. ≤ℤ-refl (pos 0)) (λ q. ≤ℤ-refl (pos 0))
 
 -- ---- every operator
 
-pub operator-within : (o : Operator) (I J : Interval) {x y : ℤ}
-    → Within I x → Within J y → Within (operatorInterval o I J) (apply o x y)
-operator-within add I J h k = overEnds-within _+ℤ_ (λ y. rising (+ℤ-rising-left y)) (λ x. rising (+ℤ-rising-right x)) I J h k
-operator-within subtract I J h k = overEnds-within _-ℤ_ (λ y. rising (+ℤ-rising-left (negℤ y))) (λ x. falling (-ℤ-falling-right x)) I J h k
-operator-within multiply I J h k = overEnds-within _*ℤ_ *ℤ-monotone-left *ℤ-monotone-right I J h k
-operator-within divide I J {x} {y} h k = guarded-within I (nonzero y) (quotZ x y) h (rw natAbs-quotZ (div-le-self (natAbs x) (natAbs y)))
-operator-within remainder I J {x} {y} h k = remainder-within I J x y h k (nonzero y) refl
-operator-within (compare c) I J {x} {y} h k = bit-within (compares c x y)
-operator-within and I J {x} {y} h k = bit-within (truth x && truth y)
-operator-within or I J {x} {y} h k = bit-within (truth x || truth y)
+-- With divisor 0 there is no value.
+divided-within : (I : Interval) (t : Bool) (z : ℤ) → (T t → Within I z) → AnyWithin I (cond t (number z) absent)
+divided-within I true z h = h tt
+divided-within I false z h = tt
+
+numbers-within : (o : Operator) (I J : Interval) {x y : ℤ} → Within I x → Within J y → AnyWithin (operatorInterval o I J) (applyNumbers o x y)
+numbers-within add I J h k = overEnds-within _+ℤ_ (λ y. rising (+ℤ-rising-left y)) (λ x. rising (+ℤ-rising-right x)) I J h k
+numbers-within subtract I J h k = overEnds-within _-ℤ_ (λ y. rising (+ℤ-rising-left (negℤ y))) (λ x. falling (-ℤ-falling-right x)) I J h k
+numbers-within multiply I J h k = overEnds-within _*ℤ_ *ℤ-monotone-left *ℤ-monotone-right I J h k
+numbers-within divide I J {x} {y} h k = divided-within (around (magnitude I)) (nonzero y) (quotZ x y) (λ t. quotient-within I x y h)
+numbers-within remainder I J {x} {y} h k = divided-within (remainderInterval I J) (nonzero y) (remZ x y) (remainder-within I J x y h k)
+numbers-within (compare c) I J {x} {y} h k = bit-within (compares c x y)
+numbers-within and I J {x} {y} h k = bit-within (nonzero x && nonzero y)
+numbers-within or I J {x} {y} h k = bit-within (nonzero x || nonzero y)
+
+pub operator-within : (o : Operator) (I J : Interval) (x y : Value) → AnyWithin I x → AnyWithin J y → AnyWithin (operatorInterval o I J) (apply o x y)
+operator-within o I J absent y h k = tt
+operator-within o I J (number x) absent h k = tt
+operator-within o I J (number x) (number y) h k = numbers-within o I J h k
 
 -- ---- no operator's interval is empty
 

@@ -12,7 +12,7 @@ use lib.ListN.{length, getD, drop, length-append}
 use lib.Seq.{append-snoc, drop-append-le, getD-drop, drop-drop}
 use lib.IntN.{pos}
 use Rattle.basics.proofs.Tests.{true-of-T}
-use Rattle.meaning.specs.Value.{Value, truth, Streams}
+use Rattle.meaning.specs.Value.{Value, absent, truth, Streams}
 use Rattle.meaning.specs.Expression.{Expression, Constraint, always, until, holds, value}
 use Rattle.meaning.specs.Letter.{Letter, Record, streamsOf}
 use Rattle.meaning.specs.Window.{reach, back, firsts, B, D, allFirsts, allUntils}
@@ -27,7 +27,7 @@ use Rattle.meaning.proofs.Lawful.{append-begins, lawful-beginning, lawf
 -- Constraints judged at the place b of the window v, which shows w from time p on, are judged as at the time p + b of w.
 module _ (w v : Streams) (stored : List Value) (marks : List Bool) (p b d : ℕ) (same : (k t : ℕ) → v k t ≡ w k (p + t)) where
   abbrev FirstsFrom : ℕ → List Expression → Type 0
-  FirstsFrom n es = Stored (λ f. value w f 0) (pos 0) stored n es
+  FirstsFrom n es = Stored (λ f. value w f 0) absent stored n es
 
   abbrev MarksFrom : ℕ → List Constraint → Type 0
   MarksFrom u cs = Stored (λ c. done w c (p + b)) false marks u cs
@@ -38,18 +38,18 @@ module _ (w v : Streams) (stored : List Value) (marks : List Bool) (p b d : ℕ)
   -- The firsts of a constraint's sides x and y, and those of the constraints l after it.
   module _ (n : ℕ) (x y : Expression) (l : List Constraint) (f : FirstsFrom n ((firsts x ++ firsts y) ++ allFirsts l)) where
     both-firsts : FirstsFrom n (firsts x ++ firsts y)
-    both-firsts = Stored-left _ (pos 0) stored n (firsts x ++ firsts y) (allFirsts l) f
+    both-firsts = Stored-left _ absent stored n (firsts x ++ firsts y) (allFirsts l) f
 
     left-value : back x ≤ b → reach x ≤ d → windowValue v stored n x b ≡ value w x (p + b)
-    left-value hb hr = side n x hb hr (Stored-left _ (pos 0) stored n (firsts x) (firsts y) both-firsts)
+    left-value hb hr = side n x hb hr (Stored-left _ absent stored n (firsts x) (firsts y) both-firsts)
 
     right-value : back y ≤ b → reach y ≤ d → windowValue v stored (n + length (firsts x)) y b ≡ value w y (p + b)
-    right-value hb hr = side (n + length (firsts x)) y hb hr (Stored-right _ (pos 0) stored n (firsts x) (firsts y) both-firsts)
+    right-value hb hr = side (n + length (firsts x)) y hb hr (Stored-right _ absent stored n (firsts x) (firsts y) both-firsts)
 
     later-firsts : FirstsFrom (n + length (firsts x) + length (firsts y)) (allFirsts l)
     later-firsts =
         let e : n + length (firsts x) + length (firsts y) ≡ n + length (firsts x ++ firsts y) = omega (arith, length-append (firsts x) (firsts y)) in
-        rw e (Stored-right _ (pos 0) stored n (firsts x ++ firsts y) (allFirsts l) f)
+        rw e (Stored-right _ absent stored n (firsts x ++ firsts y) (allFirsts l) f)
 
   windowPermits-permits : (n u : ℕ) (l : List Constraint) → ((c : Constraint) → List·Memᴰ c l → SidesWithin b d c) → FirstsFrom n (allFirsts l) → MarksFrom u (allUntils l)
       → windowPermits v stored marks b n u l ≡ all (λ c. permits w c (p + b)) l
@@ -96,11 +96,11 @@ module _ (cs : List Constraint) where
     window-shows : (k t : ℕ) → streamsOf window k t ≡ streamsOf longer k (dropped + t)
     window-shows k t = ap (λ x. getD x k (pos 0)) (ap (λ x. getD x t []) (sym last-letters) ∙ getD-drop dropped longer t [])
 
-    firsts-stored : Stored (λ f. value (streamsOf longer) f 0) (pos 0) (firstValues cs r) 0 (allFirsts cs)
+    firsts-stored : Stored (λ f. value (streamsOf longer) f 0) absent (firstValues cs r) 0 (allFirsts cs)
     firsts-stored =
-        subst (λ x. Stored (λ f. value (streamsOf longer) f 0) (pos 0) x 0 (allFirsts cs))
+        subst (λ x. Stored (λ f. value (streamsOf longer) f 0) absent x 0 (allFirsts cs))
         (sym (firstValues-begins cs (streamsOf longer) r (append-begins r (l ∷ [])) (omega arith)))
-        (Stored-map (λ f. value (streamsOf longer) f 0) (pos 0) (allFirsts cs))
+        (Stored-map (λ f. value (streamsOf longer) f 0) absent (allFirsts cs))
 
     marks-stored : Stored (λ c. done (streamsOf longer) c (dropped + B cs)) false (untilMarks cs r) 0 (allUntils cs)
     marks-stored =

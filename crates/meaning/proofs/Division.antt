@@ -1,17 +1,16 @@
 -- Quotient and remainder of the arithmetic that cuts toward zero, for all numbers (document 01, "Meaning at time i"): the dividend is quotient
--- times divisor plus remainder, the remainder is smaller in magnitude than the divisor and has the dividend's sign; with divisor 0 both are 0.
-use Prim.Native.Nat.{ℕ, zero, suc, _*_, _/_, _%_, _<_, zero-le}
+-- times divisor plus remainder, the remainder is smaller in magnitude than the divisor and has the dividend's sign; with divisor 0 there is neither.
+use Prim.Native.Nat.{ℕ, zero, suc, _*_, _/_, _%_, _<_}
 use native.Mathlib.Omega.{arith}
-use native.Mathlib.Nat.{le-trans, mod-le, mod-lt, div-add-mod', zero-mul}
-use mathlib.Core.Path.{_≡_, refl, sym, _∙_, ap, subst₂}
+use native.Mathlib.Nat.{mod-lt, div-add-mod', zero-mul}
+use mathlib.Core.Path.{_≡_, refl, sym, _∙_, ap}
 use mathlib.Core.Logic.{_≢_}
-use lib.Dec.{leb→le, le→leb}
 use lib.IntN.{ℤ, pos, negsuc, negℤ, natAbs, _+ℤ_, _*ℤ_, negℤ-+ℤ}
-use lib.Signed.{quotZ, remZ, _≤ℤ_, leZ-yes}
+use lib.Signed.{quotZ, remZ, _≤ℤ_}
 use Rattle.basics.proofs.Tests.{cond-true}
-use Rattle.meaning.specs.Value.{truth}
+use Rattle.meaning.specs.Value.{Value, absent, number, nonzero}
 use Rattle.meaning.specs.Arithmetic.{divide, remainder, apply}
-use Rattle.meaning.proofs.Value.{truth-not-zero}
+use Rattle.meaning.proofs.Value.{nonzero-means}
 use Rattle.meaning.proofs.Arithmetic.{natAbs-remZ, remZ-above, remZ-below}
 
 -- q and r are quotient, cut toward zero, and remainder of a by b.
@@ -44,16 +43,23 @@ natAbs-positive (pos (suc b)) h = omega arith
 natAbs-positive (negsuc b) h = omega arith
 
 -- "A quotient is cut toward zero and the remainder has the dividend's sign".
-pub division : (a b : ℤ) → b ≢ pos 0 → Division a b (apply divide a b) (apply remainder a b)
+pub division : (a b : ℤ) → b ≢ pos 0
+    → (q : ℤ) × (r : ℤ) × (apply divide (number a) (number b) ≡ number q) × (apply remainder (number a) (number b) ≡ number r) × Division a b q r
 division a b h =
-    let t = truth-not-zero b .1 h in
-    subst₂ (Division a b) (sym (cond-true (truth b) (quotZ a b) (pos 0) t)) (sym (cond-true (truth b) (remZ a b) (pos 0) t))
-    record { whole = quotZ-remZ a b; small = rw natAbs-remZ (mod-lt (natAbs a) (natAbs-positive b h)); above = remZ-above a b; below = remZ-below a b }
+    let t = nonzero-means b .1 h in (
+      quotZ a b,
+      remZ a b,
+      cond-true (nonzero b) (number (quotZ a b)) absent t,
+      cond-true (nonzero b) (number (remZ a b)) absent t,
+      record { whole = quotZ-remZ a b; small = rw natAbs-remZ (mod-lt (natAbs a) (natAbs-positive b h)); above = remZ-above a b; below = remZ-below a b },
+    )
 
--- "With divisor 0 both are 0."
-pub division-by-zero : (a : ℤ) → (apply divide a (pos 0) ≡ pos 0) × (apply remainder a (pos 0) ≡ pos 0)
-division-by-zero a = (refl, refl)
+-- "such a quotient or remainder has no value" (document 02, S-5)
+pub division-by-zero : (a : Value) → (apply divide a (number (pos 0)) ≡ absent) × (apply remainder a (number (pos 0)) ≡ absent)
+division-by-zero absent = (refl, refl)
+division-by-zero (number a) = (refl, refl)
 
 -- "−7 / 2 is −3, −7 % 2 is −1."
-division-example : (apply divide (negℤ (pos 7)) (pos 2) ≡ negℤ (pos 3)) × (apply remainder (negℤ (pos 7)) (pos 2) ≡ negℤ (pos 1))
+division-example : (apply divide (number (negℤ (pos 7))) (number (pos 2)) ≡ number (negℤ (pos 3)))
+    × (apply remainder (number (negℤ (pos 7))) (number (pos 2)) ≡ number (negℤ (pos 1)))
 division-example = (refl, refl)

@@ -3,8 +3,8 @@ use mathlib.Core.Path.{_≡_, refl}
 use mathlib.Core.Bool.{true}
 use mathlib.Core.List.{[], _∷_}
 use lib.IntN.{pos, negsuc}
-use Rattle.meaning.specs.Value.{truth, equal}
-use Rattle.meaning.specs.Expression.{Expression, integer, name, first, next, fby, Constraint, always, until, comparison, value}
+use Rattle.meaning.specs.Value.{nonzero, equal}
+use Rattle.meaning.specs.Expression.{Expression, integer, name, first, next, fby, Constraint, always, until, comparison, valueFrom, value}
 use Rattle.meaning.specs.Situation.{done}
 use Rattle.meaning.specs.Window.{reach, back, firsts, B, D}
 
@@ -57,13 +57,13 @@ unfolding B back
 B-first = refl
 
 -- "any value but 0 is true"
-truth-two : truth (pos 2) ≡ true
-truth-two = refl
+nonzero-two : nonzero (pos 2) ≡ true
+nonzero-two = refl
 
-truth-minus-one : truth (negsuc 0) ≡ true
-truth-minus-one = refl
+nonzero-minus-one : nonzero (negsuc 0) ≡ true
+nonzero-minus-one = refl
 
 -- An until is done where its right side is 2: any value but 0 counts.
 done-two : done (λ k i. pos 2) (until (integer (pos 1)) x) 1 ≡ true
-unfolding done value
+unfolding done value valueFrom
 done-two = refl

@@ -19,6 +19,7 @@ use Rattle.meaning.specs.Expression.{Constraint, Stream, Sheet}
 use Rattle.meaning.specs.Letter.{Letter, Record, IsLetter, OfLetters, letterCount, letterNumber, letterOf}
 use Rattle.meaning.specs.Situation.{Situation, whole, cut, lawful, situation, IsSituation, SituationCount, MoreSituations}
 use Rattle.meaning.specs.Evaluation.{successor}
+use Rattle.meaning.proofs.Value.{Value-discrete}
 use Rattle.meaning.proofs.Letter.{letterOf-letter, letterNumber-bound, letterOf-letterNumber}
 use Rattle.meaning.proofs.Search.{search-list, search-below, member-decided}
 use Rattle.meaning.proofs.Lawful.{whole-injective, cut-injective, whole≢cut, lawful-short, lawful-beginning}
@@ -32,7 +33,7 @@ Situation-discrete (whole r) (whole s) = go (List-discrete (List-discrete ℤ-di
     go (no n) = no (λ e. n (whole-injective e))
 Situation-discrete (whole r) (cut s y n) = no whole≢cut
 Situation-discrete (cut r x m) (whole s) = no (λ e. whole≢cut (sym e))
-Situation-discrete (cut r x m) (cut s y n) = go (List-discrete (List-discrete ℤ-discrete) r s) (List-discrete ℤ-discrete x y) (List-discrete Bool-discrete m n)
+Situation-discrete (cut r x m) (cut s y n) = go (List-discrete (List-discrete ℤ-discrete) r s) (List-discrete Value-discrete x y) (List-discrete Bool-discrete m n)
   where
     go : Dec (r ≡ s) → Dec (x ≡ y) → Dec (m ≡ n) → Dec (cut r x m ≡ cut s y n)
     go (yes e) (yes f) (yes g) = yes (λ i. cut (e i) (f i) (g i))

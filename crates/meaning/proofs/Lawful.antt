@@ -90,7 +90,7 @@ module _ (cs : List Constraint) where
   unfolding firstValues
   firstValues-append r u h = sym (firstValues-begins cs (streamsOf (r ++ u)) r (append-begins r u) h)
 
-  -- One more letter marks also the untils whose right side is not 0 at the time newly judged.
+  -- One more letter marks also the untils whose right side is true at the time newly judged.
   pub untilMarks-snoc : (r : Record) (l : Letter) → D cs ≤ length r
       → untilMarks cs (r ++ (l ∷ []))
       ≡ map (λ c. done (streamsOf r) c (length r - D cs) || truth (value (streamsOf (r ++ (l ∷ []))) (rightSide c) (length r - D cs))) (allUntils cs)

@@ -10,7 +10,6 @@ use lib.Arith.{digits-lt, digits-div, digits-mod}
 use lib.IntN.{ℤ, pos, natAbs, _+ℤ_, _-ℤ_}
 use lib.Signed.{leZ, leZ-yes, _≤ℤ_, _<ℤ_}
 use Rattle.basics.proofs.Tests.{cond-true}
-use Rattle.meaning.specs.Value.{Value}
 use Rattle.meaning.specs.Arithmetic.{Interval, Within, truthInterval}
 use lib.ListN.{length, getD}
 use Rattle.meaning.specs.Expression.{Stream, rangeOf}
@@ -89,8 +88,8 @@ letter-letterOf s ss n (more w h) =
 
 -- A letter stands before another if, in the first stream in which they differ, its value is the lower one.
 pub data Before : Letter → Letter → Type 0 where
-  here : {a b : Value} {l m : Letter} → a <ℤ b → Before (a ∷ l) (b ∷ m)
-  there : {a b : Value} {l m : Letter} → a ≡ b → Before l m → Before (a ∷ l) (b ∷ m)
+  here : {a b : ℤ} {l m : Letter} → a <ℤ b → Before (a ∷ l) (b ∷ m)
+  there : {a b : ℤ} {l m : Letter} → a ≡ b → Before l m → Before (a ∷ l) (b ∷ m)
 
 -- "Its number counts with the last stream fastest, values rising from the lowest, from 0."
 -- As the numbers of the letters are those below their count, this settles every letter's number.

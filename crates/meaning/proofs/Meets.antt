@@ -1,5 +1,5 @@
 -- What a constraint asks of streams, judged at all times: it is met exactly if it permits every time and, if it is an until, is done at some
--- time. From the definitions; an until that is done is met at the first time at which its right side is not 0.
+-- time. From the definitions; an until that is done is met at the first time at which its right side is true.
 use Prim.Native.Nat.{ℕ, zero, suc, _≤_, _<_, max}
 use native.Mathlib.Omega.{arith}
 use native.Mathlib.Decide.{decLt}
@@ -10,7 +10,7 @@ use mathlib.Core.List.{List, [], _∷_, List·Memᴰ, List·Memᴰ·head, List·
 use lib.Dec.{T}
 use Rattle.basics.proofs.Tests.{T-dec, or-left, or-right, or-cases}
 use Rattle.meaning.specs.Value.{truth, Streams}
-use Rattle.meaning.specs.Expression.{Expression, Constraint, always, until, rightSide, Until, value, Meets}
+use Rattle.meaning.specs.Expression.{Expression, Constraint, always, until, rightSide, Until, value, MeetsFrom, Meets}
 use Rattle.meaning.specs.Window.{untilsOf}
 use Rattle.meaning.specs.Situation.{done, permits}
 use Rattle.meaning.proofs.Facts.{someBefore-of, someBefore-more}
@@ -34,7 +34,7 @@ module _ (w : Streams) where
   unfolding done
   until-done a b u = someBefore-of (λ i. truth (value w b i)) (suc (u .time)) (u .time) (le-refl (suc (u .time))) (u .right)
 
-  -- An until that is done and permits every time is met at the first time at which its right side is not 0.
+  -- An until that is done and permits every time is met at the first time at which its right side is true.
   until-met : (a b : Expression) → ((i : ℕ) → T (permits w (until a b) i)) → (n : ℕ) → T (done w (until a b) n) → Until (value w a) (value w b)
   unfolding permits done
   until-met a b h zero t = absurd t
@@ -50,7 +50,7 @@ module _ (w : Streams) where
 
   -- A constraint is met exactly if it permits every time and, if it is an until, is done at some time.
   pub meets-permits : (c : Constraint) → Meets w c ↔ (((i : ℕ) → T (permits w c i)) × (List·Memᴰ c (untilsOf c) → (n : ℕ) × T (done w c n)))
-  unfolding Meets permits
+  unfolding Meets MeetsFrom value permits
   meets-permits (always s a b) = (λ h. (h, λ m. absurd (List·Memᴰ·not-nil m)), λ h. h .0)
   meets-permits (until a b) = (
     λ u. (until-permits a b u, λ m. (suc (u .time), until-done a b u)),

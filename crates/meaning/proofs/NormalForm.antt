@@ -5,25 +5,24 @@
 use Prim.Native.Nat.{ℕ, zero, suc, _+_, _-_, _<_}
 use native.Mathlib.Omega.{arith}
 use native.Mathlib.Nat.{add-suc, suc-add, add-zero, le-of-suc-le-suc, not-suc-le-zero}
-use mathlib.Core.Path.{_≡_, sym, _∙_, ap, subst, subst₂}
+use mathlib.Core.Path.{_≡_, refl, sym, _∙_, ap, subst, subst₂}
 use mathlib.Core.Bool.{cond}
 use mathlib.Core.List.{List, [], _∷_}
-use mathlib.Core.Logic.{_↔_}
 use lib.Dec.{ltb, lt→ltb}
 use lib.Arith.{le→nltb}
-use lib.IntN.{pos}
+use lib.IntN.{ℤ, pos}
 use lib.ListN.{length, getD, List·getD-append}
 use lib.Seq.{getD-append-add}
-use Rattle.basics.proofs.Lists.{All-append, All-member, member-All, All-getD, below-sum, getD-map}
+use Rattle.basics.proofs.Lists.{All-member, member-All, All-getD, below-sum, getD-map}
 use Rattle.basics.specs.Lists.{All}
 use Rattle.basics.proofs.Tests.{cond-true, cond-false}
-use Rattle.meaning.specs.Value.{Streams}
-use Rattle.meaning.specs.Arithmetic.{Within}
-use Rattle.meaning.specs.Expression.{Expression, integer, Sheet, noStream, rangeOf, value, Meets, Solution}
+use Rattle.meaning.specs.Value.{Value, absent, number, Streams, ValueStreams, numbers}
+use Rattle.meaning.specs.Arithmetic.{Interval, NumberWithin, AnyWithin}
+use Rattle.meaning.specs.Expression.{Expression, integer, Sheet, noStream, rangeOf, valueFrom, value, MeetsFrom, Meets, Solution}
 use Rattle.meaning.specs.Interval.{interval, NamesBelow}
-use Rattle.meaning.specs.NormalForm.{allAdded, allRewritten, allEntries, normalForm, NormalSolution, ExtendsUniquely}
+use Rattle.meaning.specs.NormalForm.{allAdded, normalForm, MeetsEntry, NormalSolution, ExtendsUniquely, CutsBack}
 use Rattle.meaning.specs.Scope.{AgreeBelow, NamesKnown}
-use Rattle.meaning.proofs.Scope.{AgreeBelow-sym, value-agree, Solution-agree}
+use Rattle.meaning.proofs.Scope.{AgreeBelow-sym, valueFrom-agree, MeetsFrom-agree}
 use Rattle.meaning.proofs.Interval.{interval-sound}
 pub mod Standing
 pub mod Names
@@ -35,13 +34,13 @@ use Names.{allAdded-below, sides-All, streams-length}
 
 -- ---- streams that stand for expressions, by number
 
-module _ (w : Streams) (d : Expression) where
-  StandFor-getD : (n : ℕ) (es : List Expression) → StandFor w n es → (j : ℕ) → j < length es → (i : ℕ) → w (n + j) i ≡ value w (getD es j d) i
+module _ (v : ValueStreams) (d : Expression) where
+  StandFor-getD : (n : ℕ) (es : List Expression) → StandFor v n es → (j : ℕ) → j < length es → (i : ℕ) → v (n + j) i ≡ valueFrom v (getD es j d) i
   StandFor-getD n [] h j l i = absurd (not-suc-le-zero l)
   StandFor-getD n (e ∷ es) h zero l i = rw add-zero (h .0 i)
   StandFor-getD n (e ∷ es) h (suc j) l i = rw (add-suc, ← suc-add) (StandFor-getD (suc n) es (h .1) j (le-of-suc-le-suc l) i)
 
-  getD-StandFor : (n : ℕ) (es : List Expression) → ((j : ℕ) → j < length es → (i : ℕ) → w (n + j) i ≡ value w (getD es j d) i) → StandFor w n es
+  getD-StandFor : (n : ℕ) (es : List Expression) → ((j : ℕ) → j < length es → (i : ℕ) → v (n + j) i ≡ valueFrom v (getD es j d) i) → StandFor v n es
   getD-StandFor n [] f = tt
   getD-StandFor n (e ∷ es) f =
       (λ i. rw add-zero at (f zero (omega arith) i), getD-StandFor (suc n) es (λ j l i. rw (add-suc, ← suc-add) at (f (suc j) (omega arith) i)))
@@ -50,25 +49,40 @@ module _ (w : Streams) (d : Expression) where
 abbrev pub nothing : Expression
 nothing = integer (pos 0)
 
--- The streams w below number n, and from there on the streams that stand for the expressions.
-extend : ℕ → List Expression → Streams → Streams
-extend n es w k i = cond (ltb k n) (w k i) (value w (getD es (k - n) nothing) i)
+-- The streams v below number n, and from there on those that stand for the expressions.
+extend : ℕ → List Expression → ValueStreams → ValueStreams
+extend n es v k i = cond (ltb k n) (v k i) (valueFrom v (getD es (k - n) nothing) i)
 
-module _ (n : ℕ) (es : List Expression) (w : Streams) where
-  extend-agrees : AgreeBelow n (extend n es w) w
+module _ (n : ℕ) (es : List Expression) (v : ValueStreams) where
+  extend-agrees : AgreeBelow n (extend n es v) v
   unfolding extend
   extend-agrees = record { same = λ k i l. cond-true (ltb k n) _ _ (lt→ltb k n l) }
 
-  extend-beyond : (j i : ℕ) → extend n es w (n + j) i ≡ value w (getD es j nothing) i
+  extend-beyond : (j i : ℕ) → extend n es v (n + j) i ≡ valueFrom v (getD es j nothing) i
   unfolding extend
   extend-beyond j i =
       let e : n + j - n ≡ j = omega arith in
-      cond-false (ltb (n + j) n) _ _ (le→nltb (n + j) n (omega arith)) ∙ ap (λ k. value w (getD es k nothing) i) e
+      cond-false (ltb (n + j) n) _ _ (le→nltb (n + j) n (omega arith)) ∙ ap (λ k. valueFrom v (getD es k nothing) i) e
 
-  extend-stands : All (NamesBelow n) es → StandFor (extend n es w) n es
+  extend-stands : All (NamesBelow n) es → StandFor (extend n es v) n es
   extend-stands h =
-      getD-StandFor (extend n es w) nothing n es
-      (λ j l i. extend-beyond j i ∙ sym (value-agree extend-agrees (getD es j nothing) (All-getD (NamesBelow n) es h j nothing l) i))
+      getD-StandFor (extend n es v) nothing n es
+      (λ j l i. extend-beyond j i ∙ sym (valueFrom-agree extend-agrees (getD es j nothing) (All-getD (NamesBelow n) es h j nothing l) i))
+
+-- ---- the numbers of streams
+
+-- The number of a value; 0 where there is none.
+numberOrZero : Value → ℤ
+numberOrZero absent = pos 0
+numberOrZero (number z) = z
+
+abbrev numbersOf : ValueStreams → Streams
+numbersOf v k i = numberOrZero (v k i)
+
+is-number : (I : Interval) (x : Value) → NumberWithin I x → x ≡ number (numberOrZero x)
+unfolding numberOrZero
+is-number I absent h = absurd h
+is-number I (number z) h = refl
 
 -- ---- the added streams of a sheet
 
@@ -85,20 +99,6 @@ addedExpression-below {s} known j l =
     All-getD (NamesBelow n) (allAdded (s .constraints)) (allAdded-below n (s .constraints) (sides-All known)) j nothing l
 
 module _ (s : Sheet) where
-  -- A solution of the normal form solves it as a sheet, and the other way round.
-  pub normal-solution↔ : {w : Streams} → NormalSolution s w ↔ Solution (normalForm s) w
-  unfolding normalForm
-  normal-solution↔ {w} =
-      let n = length (s .streams) in
-      let parts = All-append (Meets w) (allRewritten n (s .constraints)) (allEntries n (s .constraints)) in (
-        λ h. record {
-          ranged = h .ranged;
-          meets = λ c m. All-member (Meets w) (parts .1 (member-All (Meets w) _ (h .lines), member-All (Meets w) _ (h .entries))) m;
-        },
-        λ h. let m = parts .0 (member-All (Meets w) _ (h .meets)) in
-            record { ranged = h .ranged; lines = λ c p. All-member (Meets w) (m .0) p; entries = λ c p. All-member (Meets w) (m .1) p },
-      )
-
   -- The sheet's streams keep their ranges.
   pub range-kept : (k : ℕ) → k < length (s .streams) → rangeOf (normalForm s .streams) k ≡ rangeOf (s .streams) k
   unfolding normalForm
@@ -116,54 +116,65 @@ module _ (s : Sheet) where
 
   -- ---- from the normal form to the sheet
 
-  normalForm-stands : {w : Streams} → NormalSolution s w → All (Meets w) (s .constraints) × StandFor w (length (s .streams)) (allAdded (s .constraints))
-  normalForm-stands {w} h =
+  normalForm-stands : {v : ValueStreams} → NormalSolution s v → All (MeetsFrom v) (s .constraints) × StandFor v (length (s .streams)) (allAdded (s .constraints))
+  normalForm-stands {v} h =
       let n = length (s .streams) in
-      let stands = allEntries-stand w n (s .constraints) .0 (member-All (Meets w) _ (h .entries)) in
-      (allRewritten-meets w n (s .constraints) stands .0 (member-All (Meets w) _ (h .lines)), stands)
+      let stands = allEntries-stand v n (s .constraints) .0 (member-All (MeetsEntry v) _ (h .entries)) in
+      (allRewritten-meets v n (s .constraints) stands .0 (member-All (MeetsFrom v) _ (h .lines)), stands)
 
   -- In a solution of the normal form each added stream has the values of the expression that it stands for.
-  pub added-value : {w : Streams} → NormalSolution s w
-      → (j : ℕ) → j < addedStreams s → (i : ℕ) → w (length (s .streams) + j) i ≡ value w (addedExpression s j) i
-  added-value {w} h j l i = StandFor-getD w nothing (length (s .streams)) (allAdded (s .constraints)) (normalForm-stands h .1) j l i
+  pub added-value : {v : ValueStreams} → NormalSolution s v
+      → (j : ℕ) → j < addedStreams s → (i : ℕ) → v (length (s .streams) + j) i ≡ valueFrom v (addedExpression s j) i
+  added-value {v} h j l i = StandFor-getD v nothing (length (s .streams)) (allAdded (s .constraints)) (normalForm-stands h .1) j l i
 
-  -- Each solution of the normal form, cut back to the sheet's streams, is a solution of the sheet, whatever stands beyond them.
-  pub cut-back : NamesKnown s → {v w : Streams} → NormalSolution s v → AgreeBelow (length (s .streams)) v w → Solution s w
-  cut-back known {v} h g =
-      Solution-agree known g
+  -- Streams of numbers that agree with a solution of the normal form on the sheet's streams are a solution of the sheet, whatever stands beyond them.
+  cut-solves : NamesKnown s → {v : ValueStreams} {w : Streams} → NormalSolution s v → AgreeBelow (length (s .streams)) v (numbers w) → Solution s w
+  unfolding Meets
+  cut-solves known {v} {w} h g =
       record {
-        ranged = λ k i l. subst (λ I. Within I (v k i)) (range-kept k l) (h .ranged k i (omega (arith, streams-length s)));
-        meets = λ c m. All-member (Meets v) (normalForm-stands h .0) m;
+        ranged = λ k i l. subst₂ AnyWithin (range-kept k l) (g .same k i l) (h .ranged k i (omega (arith, streams-length s)));
+        meets = λ c m. MeetsFrom-agree g c (known .sides c m) (All-member (MeetsFrom v) (normalForm-stands h .0) m);
       }
 
+  -- Each solution of the normal form, cut back to the sheet's streams, is a solution of the sheet.
+  pub cut-back : NamesKnown s → {v : ValueStreams} → NormalSolution s v → CutsBack s v
+  cut-back known {v} h =
+      let g : AgreeBelow (length (s .streams)) v (numbers (numbersOf v)) = record { same = λ k i l. is-number (rangeOf (s .streams) k) (v k i) (h .numbered k i l) } in
+      record { cut = numbersOf v; agrees = g; solves = cut-solves known h g }
+
   -- Two solutions of the normal form that agree on the sheet's streams agree on the added streams too.
-  pub added-determined : NamesKnown s → {v w : Streams} → NormalSolution s v → NormalSolution s w
+  pub added-determined : NamesKnown s → {v w : ValueStreams} → NormalSolution s v → NormalSolution s w
       → AgreeBelow (length (s .streams)) v w → AgreeBelow (length (normalForm s .streams)) v w
   added-determined known {v} {w} h h′ g =
       record {
         same = λ k i l.
             every-stream (λ k. v k i ≡ w k i) (λ k l. g .same k i l)
-            (λ j l. added-value h j l i ∙ value-agree g (addedExpression s j) (addedExpression-below known j l) i ∙ sym (added-value h′ j l i)) k l;
+            (λ j l. added-value h j l i ∙ valueFrom-agree g (addedExpression s j) (addedExpression-below known j l) i ∙ sym (added-value h′ j l i)) k l;
       }
 
   -- ---- from the sheet to the normal form
 
   -- A solution of the sheet whose further streams are what they stand for is a solution of the normal form.
-  stands-normalForm : NamesKnown s → {w : Streams}
-      → Solution s w → StandFor w (length (s .streams)) (allAdded (s .constraints)) → NormalSolution s w
-  stands-normalForm known {w} h stands =
+  stands-normalForm : NamesKnown s → {w : Streams} {v : ValueStreams} → Solution s w
+      → AgreeBelow (length (s .streams)) v (numbers w) → StandFor v (length (s .streams)) (allAdded (s .constraints)) → NormalSolution s v
+  unfolding value Meets
+  stands-normalForm known {w} {v} h g stands =
       let n = length (s .streams) in
       let es = allAdded (s .constraints) in
       let sound = interval-sound (s .streams) w (h .ranged) in
-      let m = allRewritten-meets w n (s .constraints) stands .1 (member-All (Meets w) (s .constraints) (h .meets)) in
-      let m′ = allEntries-stand w n (s .constraints) .1 stands in
+      let back = AgreeBelow-sym g in
+      let met = member-All (MeetsFrom v) (s .constraints) (λ c m. MeetsFrom-agree back c (known .sides c m) (h .meets c m)) in
       record {
+        numbered = λ k i l. subst (NumberWithin (rangeOf (s .streams) k)) (back .same k i l) (h .ranged k i l);
         ranged = λ k i l.
-            every-stream (λ k. Within (rangeOf (normalForm s .streams) k) (w k i))
-            (λ k l. subst (λ I. Within I (w k i)) (sym (range-kept k l)) (h .ranged k i l))
-            (λ j l. subst₂ Within (sym (range-added j l)) (sym (StandFor-getD w nothing n es stands j l i)) (sound (addedExpression s j) (addedExpression-below known j l) i)) k l;
-        lines = λ c p. All-member (Meets w) m p;
-        entries = λ c p. All-member (Meets w) m′ p;
+            every-stream (λ k. AnyWithin (rangeOf (normalForm s .streams) k) (v k i))
+            (λ k l. subst₂ AnyWithin (sym (range-kept k l)) (back .same k i l) (h .ranged k i l))
+            (λ j l.
+            subst₂ AnyWithin (sym (range-added j l))
+            (sym (StandFor-getD v nothing n es stands j l i ∙ valueFrom-agree g (addedExpression s j) (addedExpression-below known j l) i))
+            (sound (addedExpression s j) (addedExpression-below known j l) i)) k l;
+        lines = λ c m. All-member (MeetsFrom v) (allRewritten-meets v n (s .constraints) stands .1 met) m;
+        entries = λ c m. All-member (MeetsEntry v) (allEntries-stand v n (s .constraints) .1 stands) m;
       }
 
   -- Each solution of the sheet extends to the added streams, and in one way only.
@@ -171,11 +182,11 @@ module _ (s : Sheet) where
   extends-uniquely known {w} h =
       let n = length (s .streams) in
       let es = allAdded (s .constraints) in
-      let agrees = extend-agrees n es w in
-      let stands = extend-stands n es w (allAdded-below n (s .constraints) (sides-All known)) in
-      let solves = stands-normalForm known (Solution-agree known (AgreeBelow-sym agrees) h) stands in
+      let agrees = extend-agrees n es (numbers w) in
+      let stands = extend-stands n es (numbers w) (allAdded-below n (s .constraints) (sides-All known)) in
+      let solves = stands-normalForm known h agrees stands in
       record {
-        extension = extend n es w;
+        extension = extend n es (numbers w);
         agrees = agrees;
         solves = solves;
         only = λ v g k. added-determined known k solves (record { same = λ k i l. g .same k i l ∙ sym (agrees .same k i l) });

@@ -4,13 +4,13 @@ use Prim.Native.Nat.{ℕ, zero, suc}
 use mathlib.Core.Path.{_≡_, refl, sym, ap, ap₂, subst}
 use lib.Dec.{T}
 use lib.ListN.{length}
-use Rattle.meaning.specs.Value.{Value, truth, Streams}
+use Rattle.meaning.specs.Value.{Value, number, truth, Streams, ValueStreams, numbers}
 use Rattle.meaning.specs.Arithmetic.{Within, apply}
-use Rattle.meaning.specs.Expression.{Expression, integer, name, first, next, negation, binary, conditional, fby, Sign, holds, Constraint, always, until, Sheet, rangeOf, Until, value, Meets, Solution, chosen, negated}
+use Rattle.meaning.specs.Expression.{Expression, integer, name, first, next, negation, binary, conditional, fby, Sign, holds, Constraint, always, until, Sheet, rangeOf, Until, negated, chosen, valueFrom, value, MeetsFrom, Meets, Solution}
 use Rattle.meaning.specs.Interval.{NamesBelow, SidesBelow}
 use Rattle.meaning.specs.Scope.{AgreeBelow, NamesKnown}
 
-pub AgreeBelow-sym : {n : ℕ} {w v : Streams} → AgreeBelow n w v → AgreeBelow n v w
+pub AgreeBelow-sym : {X : Type 0} {n : ℕ} {w v : ℕ → ℕ → X} → AgreeBelow n w v → AgreeBelow n v w
 AgreeBelow-sym g = record { same = λ k i l. sym (g .same k i l) }
 
 -- The value of an `if`, and what a sign and an `until` ask, depend only on the values of their parts.
@@ -29,22 +29,34 @@ Until-cong p q u =
       left = λ j l. subst (λ x. T (truth x)) (p j) (u .left j l);
     }
 
+pub valueFrom-agree : {n : ℕ} {w v : ValueStreams} → AgreeBelow n w v → (e : Expression) → NamesBelow n e → (i : ℕ) → valueFrom w e i ≡ valueFrom v e i
+unfolding valueFrom
+valueFrom-agree g (integer z) h i = refl
+valueFrom-agree g (name k) h i = g .same k i h
+valueFrom-agree g (first e) h i = valueFrom-agree g e h zero
+valueFrom-agree g (next e) h i = valueFrom-agree g e h (suc i)
+valueFrom-agree g (negation e) h i = ap negated (valueFrom-agree g e h i)
+valueFrom-agree g (binary o a b) h i = ap₂ (apply o) (valueFrom-agree g a (h .0) i) (valueFrom-agree g b (h .1) i)
+valueFrom-agree g (conditional c a b) h i = chosen-cong (valueFrom-agree g c (h .0) i) (valueFrom-agree g a (h .1) i) (valueFrom-agree g b (h .2) i)
+valueFrom-agree g (fby a b) h zero = valueFrom-agree g a (h .0) zero
+valueFrom-agree g (fby a b) h (suc i) = valueFrom-agree g b (h .1) i
+
+pub MeetsFrom-agree : {n : ℕ} {w v : ValueStreams} → AgreeBelow n w v → (c : Constraint) → SidesBelow n c → MeetsFrom w c → MeetsFrom v c
+unfolding MeetsFrom
+MeetsFrom-agree g (always s a b) h m = always-cong s (valueFrom-agree g a (h .left)) (valueFrom-agree g b (h .right)) m
+MeetsFrom-agree g (until a b) h m = Until-cong (valueFrom-agree g a (h .left)) (valueFrom-agree g b (h .right)) m
+
+-- The same for streams of numbers.
+numbers-agree : {n : ℕ} {w v : Streams} → AgreeBelow n w v → AgreeBelow n (numbers w) (numbers v)
+numbers-agree g = record { same = λ k i l. ap number (g .same k i l) }
+
 pub value-agree : {n : ℕ} {w v : Streams} → AgreeBelow n w v → (e : Expression) → NamesBelow n e → (i : ℕ) → value w e i ≡ value v e i
 unfolding value
-value-agree g (integer z) h i = refl
-value-agree g (name k) h i = g .same k i h
-value-agree g (first e) h i = value-agree g e h zero
-value-agree g (next e) h i = value-agree g e h (suc i)
-value-agree g (negation e) h i = ap negated (value-agree g e h i)
-value-agree g (binary o a b) h i = ap₂ (apply o) (value-agree g a (h .0) i) (value-agree g b (h .1) i)
-value-agree g (conditional c a b) h i = chosen-cong (value-agree g c (h .0) i) (value-agree g a (h .1) i) (value-agree g b (h .2) i)
-value-agree g (fby a b) h zero = value-agree g a (h .0) zero
-value-agree g (fby a b) h (suc i) = value-agree g b (h .1) i
+value-agree g e h i = valueFrom-agree (numbers-agree g) e h i
 
 pub Meets-agree : {n : ℕ} {w v : Streams} → AgreeBelow n w v → (c : Constraint) → SidesBelow n c → Meets w c → Meets v c
 unfolding Meets
-Meets-agree g (always s a b) h m = always-cong s (value-agree g a (h .left)) (value-agree g b (h .right)) m
-Meets-agree g (until a b) h m = Until-cong (value-agree g a (h .left)) (value-agree g b (h .right)) m
+Meets-agree g c h m = MeetsFrom-agree (numbers-agree g) c h m
 
 pub Solution-agree : {s : Sheet} {w v : Streams} → NamesKnown s → AgreeBelow (length (s .streams)) w v → Solution s w → Solution s v
 Solution-agree {s} known g h =

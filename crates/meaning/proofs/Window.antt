@@ -6,10 +6,9 @@ use native.Mathlib.Nat.{add-suc, not-suc-le-zero}
 use mathlib.Core.Path.{_≡_, refl, sym, _∙_, ap, ap₂}
 use mathlib.Core.List.{List, _++_, map, List·Memᴰ}
 use lib.ListN.{length}
-use lib.IntN.{pos}
-use Rattle.meaning.specs.Value.{Value, Streams}
+use Rattle.meaning.specs.Value.{Value, absent, number, Streams}
 use Rattle.meaning.specs.Arithmetic.{apply}
-use Rattle.meaning.specs.Expression.{Expression, integer, name, first, next, negation, binary, conditional, fby, value, negated}
+use Rattle.meaning.specs.Expression.{Expression, integer, name, first, next, negation, binary, conditional, fby, negated, valueFrom, value}
 use Rattle.meaning.specs.Window.{reach, back, firsts}
 use Rattle.meaning.specs.Evaluation.{windowValue}
 use Rattle.meaning.proofs.Scope.{chosen-cong}
@@ -18,9 +17,9 @@ use Rattle.meaning.proofs.Stored.{Stored, Stored-left, Stored-right, St
 -- The value at time i reads only letters at times up to i + reach.
 module _ (w v : Streams) (N : ℕ) (same : (k t : ℕ) → t < N → w k t ≡ v k t) where
   pub value-near : (e : Expression) (i : ℕ) → i + reach e < N → value w e i ≡ value v e i
-  unfolding value reach
+  unfolding value valueFrom reach
   value-near (integer z) i h = refl
-  value-near (name k) i h = same k i (omega arith)
+  value-near (name k) i h = ap number (same k i (omega arith))
   value-near (first e) i h = value-near e 0 (omega arith)
   value-near (next e) i h = value-near e (suc i) (omega arith)
   value-near (negation e) i h = ap negated (value-near e i h)
@@ -31,36 +30,36 @@ module _ (w v : Streams) (N : ℕ) (same : (k t : ℕ) → t < N → w k t ≡ v
 
 -- From the time `back` on, the window v of the letters of w from time p on, and the stored values of the firsts, give the value.
 module _ (w v : Streams) (stored : List Value) (p L : ℕ) (same : (k t : ℕ) → t ≤ L → v k t ≡ w k (p + t)) where
-  pub windowValue-value : (e : Expression) (n b : ℕ) → back e ≤ b → b + reach e ≤ L → Stored (λ f. value w f 0) (pos 0) stored n (firsts e)
+  pub windowValue-value : (e : Expression) (n b : ℕ) → back e ≤ b → b + reach e ≤ L → Stored (λ f. value w f 0) absent stored n (firsts e)
       → windowValue v stored n e b ≡ value w e (p + b)
-  unfolding windowValue value back reach firsts
+  unfolding windowValue value valueFrom back reach firsts
   windowValue-value (integer z) n b hb hr f = refl
-  windowValue-value (name k) n b hb hr f = same k b (omega arith)
+  windowValue-value (name k) n b hb hr f = ap number (same k b (omega arith))
   windowValue-value (first e) n b hb hr f = f .0
   windowValue-value (next e) n b hb hr f = rw (← add-suc) (windowValue-value e n (suc b) (omega arith) (omega arith) f)
   windowValue-value (negation e) n b hb hr f = ap negated (windowValue-value e n b hb hr f)
   windowValue-value (binary o x y) n b hb hr f =
       ap₂ (apply o)
-      (windowValue-value x n b (omega arith) (omega arith) (Stored-left _ (pos 0) stored n (firsts x) (firsts y) f))
-      (windowValue-value y (n + length (firsts x)) b (omega arith) (omega arith) (Stored-right _ (pos 0) stored n (firsts x) (firsts y) f))
+      (windowValue-value x n b (omega arith) (omega arith) (Stored-left _ absent stored n (firsts x) (firsts y) f))
+      (windowValue-value y (n + length (firsts x)) b (omega arith) (omega arith) (Stored-right _ absent stored n (firsts x) (firsts y) f))
   windowValue-value (conditional c x y) n b hb hr f =
       let m = n + length (firsts c) in
-      let g = Stored-right (λ f. value w f 0) (pos 0) stored n (firsts c) (firsts x ++ firsts y) f in
-      chosen-cong (windowValue-value c n b (omega arith) (omega arith) (Stored-left _ (pos 0) stored n (firsts c) (firsts x ++ firsts y) f))
-      (windowValue-value x m b (omega arith) (omega arith) (Stored-left _ (pos 0) stored m (firsts x) (firsts y) g))
-      (windowValue-value y (m + length (firsts x)) b (omega arith) (omega arith) (Stored-right _ (pos 0) stored m (firsts x) (firsts y) g))
+      let g = Stored-right (λ f. value w f 0) absent stored n (firsts c) (firsts x ++ firsts y) f in
+      chosen-cong (windowValue-value c n b (omega arith) (omega arith) (Stored-left _ absent stored n (firsts c) (firsts x ++ firsts y) f))
+      (windowValue-value x m b (omega arith) (omega arith) (Stored-left _ absent stored m (firsts x) (firsts y) g))
+      (windowValue-value y (m + length (firsts x)) b (omega arith) (omega arith) (Stored-right _ absent stored m (firsts x) (firsts y) g))
   windowValue-value (fby x y) n zero hb hr f = absurd (not-suc-le-zero hb)
   windowValue-value (fby x y) n (suc b) hb hr f =
-      rw add-suc (windowValue-value y (n + length (firsts x)) b (omega arith) (omega arith) (Stored-right _ (pos 0) stored n (firsts x) (firsts y) f))
+      rw add-suc (windowValue-value y (n + length (firsts x)) b (omega arith) (omega arith) (Stored-right _ absent stored n (firsts x) (firsts y) f))
 
 -- Where the letters of w from time p on and those of v from time q on agree up to L, and the firsts have the same values, so has the expression.
 pub value-window : (w v : Streams) (p q L : ℕ) → ((k t : ℕ) → t ≤ L → w k (p + t) ≡ v k (q + t)) → (e : Expression) (b : ℕ) → back e ≤ b → b + reach e ≤ L
     → ((f : Expression) → List·Memᴰ f (firsts e) → value w f 0 ≡ value v f 0) → value w e (p + b) ≡ value v e (q + b)
 value-window w v p q L same e b hb hr firstsSame =
     let stored = map (λ f. value w f 0) (firsts e) in
-    let s = Stored-map (λ f. value w f 0) (pos 0) (firsts e) in
+    let s = Stored-map (λ f. value w f 0) absent (firsts e) in
     sym (windowValue-value w (λ k t. w k (p + t)) stored p L (λ k t h. refl) e 0 b hb hr s)
-    ∙ windowValue-value v (λ k t. w k (p + t)) stored q L same e 0 b hb hr (Stored-cong _ _ (pos 0) stored 0 (firsts e) firstsSame s)
+    ∙ windowValue-value v (λ k t. w k (p + t)) stored q L same e 0 b hb hr (Stored-cong _ _ absent stored 0 (firsts e) firstsSame s)
 
 -- The expression with z for the left of each `fby` that stands under no `first`.
 unfoldable pub replaceLefts : Expression → Expression → Expression
@@ -75,7 +74,7 @@ replaceLefts z (fby a b) = fby z (replaceLefts z b)
 
 -- From the time `back` on the left of `fby` is not read.
 pub value-replaceLefts : (w : Streams) (z e : Expression) (i : ℕ) → back e ≤ i → value w (replaceLefts z e) i ≡ value w e i
-unfolding value back replaceLefts
+unfolding value valueFrom back replaceLefts
 value-replaceLefts w z (integer x) i h = refl
 value-replaceLefts w z (name k) i h = refl
 value-replaceLefts w z (first e) i h = refl

@@ -6,10 +6,10 @@ use native.Mathlib.Nat.{le-of-suc-le-suc, not-suc-le-zero}
 use mathlib.Core.Path.{_≡_, refl, sym, _∙_, ap}
 use mathlib.Core.Logic.{_↔_}
 use mathlib.Core.List.{List, [], _∷_}
-use lib.IntN.{pos}
+use lib.IntN.{ℤ, pos}
 use lib.ListN.{length, getD}
 use lib.Seq.{ext-getD}
-use Rattle.meaning.specs.Value.{Value, Streams}
+use Rattle.meaning.specs.Value.{Streams}
 use Rattle.meaning.specs.Arithmetic.{Within}
 use Rattle.meaning.specs.Expression.{Stream, Sheet, rangeOf, Solution}
 use Rattle.meaning.specs.Letter.{Letter, IsLetter, none, more, letterCount, letterNumber, letterOf, spell, letterWith, wordOf, SolutionWord}
@@ -42,11 +42,11 @@ within-letter [] (v ∷ l) e h = absurd (omega arith)
 within-letter (s ∷ ss) [] e h = absurd (omega arith)
 within-letter (s ∷ ss) (v ∷ l) e h = more (h zero (omega arith)) (within-letter ss l (omega arith) (λ k b. h (suc k) (omega arith)))
 
-letterWith-letter : (ss : List Stream) (f : ℕ → Value) → ((k : ℕ) → k < length ss → Within (rangeOf ss k) (f k)) → IsLetter ss (letterWith ss f)
+letterWith-letter : (ss : List Stream) (f : ℕ → ℤ) → ((k : ℕ) → k < length ss → Within (rangeOf ss k) (f k)) → IsLetter ss (letterWith ss f)
 letterWith-letter [] f h = none
 letterWith-letter (s ∷ ss) f h = more (h zero (omega arith)) (letterWith-letter ss (λ k. f (suc k)) (λ k l. h (suc k) (omega arith)))
 
-letterWith-getD : (ss : List Stream) (f : ℕ → Value) (d : Value) (k : ℕ) → k < length ss → getD (letterWith ss f) k d ≡ f k
+letterWith-getD : (ss : List Stream) (f : ℕ → ℤ) (d : ℤ) (k : ℕ) → k < length ss → getD (letterWith ss f) k d ≡ f k
 letterWith-getD [] f d k l = absurd (not-suc-le-zero l)
 letterWith-getD (s ∷ ss) f d zero l = refl
 letterWith-getD (s ∷ ss) f d (suc k) l = letterWith-getD ss (λ k. f (suc k)) d k (le-of-suc-le-suc l)

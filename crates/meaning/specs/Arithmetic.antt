@@ -1,9 +1,10 @@
--- The operators, what they give, and the intervals of what they give (document 01, "Meaning at time i", "Intervals and the normal form").
+-- The operators, what they give, and the intervals of what they give (document 01, "Meaning at time i", "Intervals and the normal form";
+-- document 02, S-5).
 use Prim.Native.Nat.{ℕ, _-_, min, max}
 use mathlib.Core.Bool.{cond, _&&_, _||_}
 use lib.IntN.{ℤ, pos, negℤ, natAbs, _+ℤ_, _-ℤ_, _*ℤ_}
 use lib.Signed.{leZ, quotZ, remZ, _≤ℤ_}
-use Rattle.meaning.specs.Value.{Value, nonzero, truth, bit, Comparison, compares}
+use Rattle.meaning.specs.Value.{Value, absent, number, nonzero, bit, Comparison, compares}
 
 -- "Operators: `+ - * / % lt le eq ge gt ne and or fby`", but for `fby`, which looks at another time.
 pub data Operator : Type 0 where
@@ -19,6 +20,16 @@ pub record Interval : Type 0 where
 pub record Within (I : Interval) (x : ℤ) : Type 0 where
   pub above : I .low ≤ℤ x
   pub below : x ≤ℤ I .high
+
+-- A value that is there lies in the interval.
+abbrev pub AnyWithin : Interval → Value → Type 0
+AnyWithin I absent = Unit
+AnyWithin I (number z) = Within I z
+
+-- The value is there and lies in the interval.
+abbrev pub NumberWithin : Interval → Value → Type 0
+NumberWithin I absent = ⊥
+NumberWithin I (number z) = Within I z
 
 abbrev pub least : ℤ → ℤ → ℤ
 least a b = cond (leZ a b) a b
@@ -62,17 +73,24 @@ remainderInterval I J =
 abbrev pub truthInterval : Interval
 truthInterval = record { low = pos 0; high = pos 1 }
 
--- "`+ - *` are exact." "A quotient is cut toward zero and the remainder has the dividend's sign: −7 / 2 is −3, −7 % 2 is −1. With divisor 0
--- both are 0." "The word comparisons, `and`, `or`, `not` give 0 or 1; any value but 0 is true."
+-- What an operator gives of two numbers. "`+ - *` are exact." "A quotient is cut toward zero and the remainder has the dividend's sign: −7 / 2 is
+-- −3, −7 % 2 is −1." With divisor 0 "such a quotient or remainder has no value" (document 02, S-5). "The word comparisons, `and`, `or`, `not` give
+-- 0 or 1; any value but 0 is true."
+abbrev pub applyNumbers : Operator → ℤ → ℤ → Value
+applyNumbers add a b = number (a +ℤ b)
+applyNumbers subtract a b = number (a -ℤ b)
+applyNumbers multiply a b = number (a *ℤ b)
+applyNumbers divide a b = cond (nonzero b) (number (quotZ a b)) absent
+applyNumbers remainder a b = cond (nonzero b) (number (remZ a b)) absent
+applyNumbers (compare c) a b = number (bit (compares c a b))
+applyNumbers and a b = number (bit (nonzero a && nonzero b))
+applyNumbers or a b = number (bit (nonzero a || nonzero b))
+
+-- "Any operator with a part that has none at the time it is read gives none" (document 02, S-5).
 abbrev pub apply : Operator → Value → Value → Value
-apply add a b = a +ℤ b
-apply subtract a b = a -ℤ b
-apply multiply a b = a *ℤ b
-apply divide a b = cond (nonzero b) (quotZ a b) (pos 0)
-apply remainder a b = cond (nonzero b) (remZ a b) (pos 0)
-apply (compare c) a b = bit (compares c a b)
-apply and a b = bit (truth a && truth b)
-apply or a b = bit (truth a || truth b)
+apply o absent b = absent
+apply o (number a) absent = absent
+apply o (number a) (number b) = applyNumbers o a b
 
 -- The interval of what an operator gives, from the intervals of both operands.
 abbrev pub operatorInterval : Operator → Interval → Interval → Interval

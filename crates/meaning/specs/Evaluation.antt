@@ -7,7 +7,7 @@ use mathlib.Core.List.{List, [], _∷_, _++_}
 use mathlib.Core.Option.{Option, none, some}
 use lib.IntN.{pos}
 use lib.ListN.{length, getD, drop}
-use Rattle.meaning.specs.Value.{Value, truth, Streams}
+use Rattle.meaning.specs.Value.{Value, absent, number, truth, Streams}
 use Rattle.meaning.specs.Arithmetic.{apply}
 use Rattle.meaning.specs.Expression.{Expression, integer, name, first, next, negation, binary, conditional, fby, Constraint, always, until, holds, negated, chosen}
 use Rattle.meaning.specs.Letter.{Letter, streamsOf}
@@ -18,9 +18,9 @@ use Rattle.meaning.specs.Situation.{all, Situation, whole, cut, lawful, 
 -- text; their values are `stored`, and what they stand before is not read. The left of `fby` is not read: from the place `back` on no value
 -- needs it.
 unfoldable pub windowValue : Streams → List Value → ℕ → Expression → ℕ → Value
-windowValue w stored n (integer z) i = z
-windowValue w stored n (name k) i = w k i
-windowValue w stored n (first e) i = getD stored n (pos 0)
+windowValue w stored n (integer z) i = number z
+windowValue w stored n (name k) i = number (w k i)
+windowValue w stored n (first e) i = getD stored n absent
 windowValue w stored n (next e) i = windowValue w stored n e (suc i)
 windowValue w stored n (negation e) i = negated (windowValue w stored n e i)
 windowValue w stored n (binary o a b) i = apply o (windowValue w stored n a i) (windowValue w stored (n + length (firsts a)) b i)
@@ -28,7 +28,7 @@ windowValue w stored n (conditional c a b) i =
     chosen (windowValue w stored n c i)
     (windowValue w stored (n + length (firsts c)) a i)
     (windowValue w stored (n + length (firsts c) + length (firsts a)) b i)
-windowValue w stored n (fby a b) zero = pos 0
+windowValue w stored n (fby a b) zero = number (pos 0)
 windowValue w stored n (fby a b) (suc i) = windowValue w stored (n + length (firsts a)) b i
 
 -- Constraints judged at the place i of a window. Their firsts are numbered from n on and their untils from u on; `marks` says which untils

@@ -1,11 +1,11 @@
--- Expressions, constraints and sheets, and what they mean (document 01, "The sheet", "Meaning at time i"; 004, table 1).
+-- Expressions, constraints and sheets, and what they mean (document 01, "The sheet", "Meaning at time i"; document 02, S-5; 004, table 1).
 use Prim.Native.Nat.{ℕ, zero, suc, _<_}
-use mathlib.Core.Bool.{Bool, not, cond, _||_}
+use mathlib.Core.Bool.{Bool, false, not, cond, _||_}
 use mathlib.Core.List.{List, List·Memᴰ}
 use lib.Dec.{T}
 use lib.IntN.{ℤ, pos}
 use lib.ListN.{length, getD}
-use Rattle.meaning.specs.Value.{Value, truth, bit, Comparison, compares, Streams}
+use Rattle.meaning.specs.Value.{Value, absent, number, nonzero, truth, bit, Comparison, compares, Streams, ValueStreams, numbers}
 use Rattle.meaning.specs.Arithmetic.{Operator, Interval, Within, apply}
 
 -- "An expression is a part, or two parts with an operator between them, or `if` part `then` part `else` part. A part is an integer,
@@ -38,18 +38,27 @@ abbrev pub rightSide : Constraint → Expression
 rightSide (always s a b) = b
 rightSide (until a b) = b
 
--- What a sign asks at one time. "`a -> b`: at every time, a not 0 implies b not 0."
+-- What a sign asks of two numbers. "`a -> b`: at every time, a not 0 implies b not 0."
+abbrev pub holdsNumbers : Sign → ℤ → ℤ → Bool
+holdsNumbers (comparison c) a b = compares c a b
+holdsNumbers implies a b = not (nonzero a) || nonzero b
+
+-- "A comparison or implication with none on either side fails at that time" (document 02, S-5).
 abbrev pub holds : Sign → Value → Value → Bool
-holds (comparison c) a b = compares c a b
-holds implies a b = not (truth a) || truth b
+holds s absent b = false
+holds s (number a) absent = false
+holds s (number a) (number b) = holdsNumbers s a b
 
--- "`not` gives 0 or 1"
+-- "The word comparisons, `and`, `or`, `not` give 0 or 1; any value but 0 is true." "Any operator with a part that has none at the time it is read
+-- gives none" (document 02, S-5).
 abbrev pub negated : Value → Value
-negated v = bit (not (truth v))
+negated absent = absent
+negated (number z) = number (bit (not (nonzero z)))
 
--- "`if` takes its first branch where the condition is not 0."
+-- "`if` takes its first branch where the condition is not 0." "`if` needs only its condition and chosen branch" (document 02, S-5).
 abbrev pub chosen : Value → Value → Value → Value
-chosen c a b = cond (truth c) a b
+chosen absent a b = absent
+chosen (number z) a b = cond (nonzero z) a b
 
 -- One description of a stream: "Line 1: stream names. Line 2: the lowest value of each, in that order. Line 3: the highest."
 -- A stream that the normal form adds has the empty name.
@@ -75,21 +84,29 @@ pub record Until (a b : ℕ → Value) : Type 0 where
   pub left : (j : ℕ) → j < time → T (truth (a j))
 
 -- "An integer is itself at all times. `first e` is e at 0. `next e` is e at i+1. `a fby b` is a at 0, and b at i−1 later."
+-- "The `first` of none is none" (document 02, S-5).
+unfoldable pub valueFrom : ValueStreams → Expression → ℕ → Value
+valueFrom v (integer z) i = number z
+valueFrom v (name k) i = v k i
+valueFrom v (first e) i = valueFrom v e zero
+valueFrom v (next e) i = valueFrom v e (suc i)
+valueFrom v (negation e) i = negated (valueFrom v e i)
+valueFrom v (binary o a b) i = apply o (valueFrom v a i) (valueFrom v b i)
+valueFrom v (conditional c a b) i = chosen (valueFrom v c i) (valueFrom v a i) (valueFrom v b i)
+valueFrom v (fby a b) zero = valueFrom v a zero
+valueFrom v (fby a b) (suc i) = valueFrom v b i
+
+-- The value over a sheet's own streams, which have a number at every time.
 unfoldable pub value : Streams → Expression → ℕ → Value
-value w (integer z) i = z
-value w (name k) i = w k i
-value w (first e) i = value w e zero
-value w (next e) i = value w e (suc i)
-value w (negation e) i = negated (value w e i)
-value w (binary o a b) i = apply o (value w a i) (value w b i)
-value w (conditional c a b) i = chosen (value w c i) (value w a i) (value w b i)
-value w (fby a b) zero = value w a zero
-value w (fby a b) (suc i) = value w b i
+value w e i = valueFrom (numbers w) e i
 
 -- "The six comparison signs must hold at every time."
+unfoldable pub MeetsFrom : ValueStreams → Constraint → Type 0
+MeetsFrom v (always s a b) = (i : ℕ) → T (holds s (valueFrom v a i) (valueFrom v b i))
+MeetsFrom v (until a b) = Until (valueFrom v a) (valueFrom v b)
+
 unfoldable pub Meets : Streams → Constraint → Type 0
-Meets w (always s a b) = (i : ℕ) → T (holds s (value w a i) (value w b i))
-Meets w (until a b) = Until (value w a) (value w b)
+Meets w c = MeetsFrom (numbers w) c
 
 -- "A solution gives each stream an endless course in its range that meets every constraint." Streams beyond the sheet's play no part.
 pub record Solution (s : Sheet) (w : Streams) : Type 0 where

@@ -1,10 +1,11 @@
 -- The normal form (000, section 3.1; document 01, "Intervals and the normal form").
 use Prim.Native.Nat.{ℕ, suc, _+_, _<_}
 use mathlib.Core.List.{List, [], _∷_, _++_, map, List·Memᴰ}
+use lib.Dec.{T}
 use lib.ListN.{length}
-use Rattle.meaning.specs.Value.{equal, Streams}
-use Rattle.meaning.specs.Arithmetic.{Within}
-use Rattle.meaning.specs.Expression.{Expression, integer, name, first, next, negation, binary, conditional, fby, comparison, Constraint, always, until, Sheet, rangeOf, Meets}
+use Rattle.meaning.specs.Value.{equal, sameValue, Streams, ValueStreams, numbers}
+use Rattle.meaning.specs.Arithmetic.{NumberWithin, AnyWithin}
+use Rattle.meaning.specs.Expression.{Expression, integer, name, first, next, negation, binary, conditional, fby, comparison, Constraint, always, until, leftSide, rightSide, Sheet, rangeOf, valueFrom, MeetsFrom, Solution}
 use Rattle.meaning.specs.Interval.{interval}
 use Rattle.meaning.specs.Scope.{AgreeBelow}
 
@@ -115,16 +116,29 @@ fbysIn (binary o a b) = fbysIn a + fbysIn b
 fbysIn (conditional c a b) = fbysIn c + fbysIn a + fbysIn b
 fbysIn (fby a b) = suc (fbysIn a + fbysIn b)
 
--- A solution of the normal form: every stream, the added ones too, stays in its range; the rewritten lines and the added entries are met.
-pub record NormalSolution (s : Sheet) (v : Streams) : Type 0 where
-  pub ranged : (k i : ℕ) → k < length (normalForm s .streams) → Within (rangeOf (normalForm s .streams) k) (v k i)
-  pub lines : (c : Constraint) → List·Memᴰ c (allRewritten (length (s .streams)) (s .constraints)) → Meets v c
-  pub entries : (c : Constraint) → List·Memᴰ c (allEntries (length (s .streams)) (s .constraints)) → Meets v c
+-- What an added entry, an `==` over the added streams, asks: "in the added entries none equals none and no number" (document 02, S-5).
+unfoldable pub MeetsEntry : ValueStreams → Constraint → Type 0
+MeetsEntry v c = (i : ℕ) → T (sameValue (valueFrom v (leftSide c) i) (valueFrom v (rightSide c) i))
+
+-- A solution of the normal form: the sheet's streams have numbers, every stream stays in its range, where "added streams may carry none"
+-- (document 02, S-5), the rewritten lines are met by the sheet's own rule, and the added entries by theirs.
+pub record NormalSolution (s : Sheet) (v : ValueStreams) : Type 0 where
+  pub numbered : (k i : ℕ) → k < length (s .streams) → NumberWithin (rangeOf (s .streams) k) (v k i)
+  pub ranged : (k i : ℕ) → k < length (normalForm s .streams) → AnyWithin (rangeOf (normalForm s .streams) k) (v k i)
+  pub lines : (c : Constraint) → List·Memᴰ c (allRewritten (length (s .streams)) (s .constraints)) → MeetsFrom v c
+  pub entries : (c : Constraint) → List·Memᴰ c (allEntries (length (s .streams)) (s .constraints)) → MeetsEntry v c
 
 -- "Each solution extends to the normal form in one way only" (demand 2): exactly one solution of the normal form agrees with w on the
 -- sheet's streams.
 pub record ExtendsUniquely (s : Sheet) (w : Streams) : Type 0 where
-  pub extension : Streams
-  pub agrees : AgreeBelow (length (s .streams)) extension w
+  pub extension : ValueStreams
+  pub agrees : AgreeBelow (length (s .streams)) extension (numbers w)
   pub solves : NormalSolution s extension
-  pub only : (v : Streams) → AgreeBelow (length (s .streams)) v w → NormalSolution s v → AgreeBelow (length (normalForm s .streams)) v extension
+  pub only : (v : ValueStreams) → AgreeBelow (length (s .streams)) v (numbers w) → NormalSolution s v → AgreeBelow (length (normalForm s .streams)) v extension
+
+-- Each solution of the normal form, cut back to the sheet's streams, solves the sheet (demand 2): v has a number at every time on each of the
+-- sheet's streams, and these numbers are a solution.
+pub record CutsBack (s : Sheet) (v : ValueStreams) : Type 0 where
+  pub cut : Streams
+  pub agrees : AgreeBelow (length (s .streams)) v (numbers cut)
+  pub solves : Solution s cut

@@ -31,7 +31,7 @@ pub data Situation : Type 0 where
   whole : Record → Situation
   cut : Record → List Value → List Bool → Situation
 
--- The until is done: its right side was not 0 at one of the judged times, those before n.
+-- The until is done: its right side was true at one of the judged times, those before n; none counts as 0.
 unfoldable pub done : Streams → Constraint → ℕ → Bool
 done w c n = someBefore (λ i. truth (value w (rightSide c) i)) n
 

@@ -1,23 +1,24 @@
--- On the nodes of an accepted sheet every value is there: the intervals of all subexpressions are within the bound, and values lie in intervals.
+-- The nodes of an accepted sheet have the values of the sheet's sides: the intervals of all subexpressions are within the bound, and every number lies
+-- in its interval.
 use Prim.Native.Nat.{ℕ, zero, suc, _+_, _-_, _≤_, _<_, min}
 use native.Mathlib.Omega.{arith}
 use native.Mathlib.Nat.{not-suc-le-zero}
 use mathlib.Core.Path.{_≡_, sym, _∙_, ap, subst}
 use mathlib.Core.Bool.{true, false}
-use mathlib.Core.List.{List, [], _∷_, _++_}
+use mathlib.Core.List.{List, [], _∷_, _++_, map}
 use lib.Dec.{leb→le}
 use lib.IntN.{ℤ, pos, negsuc, negℤ}
 use lib.ListN.{length, getD, length-append}
 use lib.Signed.{_≤ℤ_, ≤ℤ-refl}
 use Rattle.basics.proofs.Lists.{All-append, member-All}
 use Rattle.basics.specs.Lists.{All}
-use Rattle.meaning.specs.Value.{Value, Streams}
-use Rattle.meaning.specs.Arithmetic.{Interval, Within}
+use Rattle.meaning.specs.Value.{Value, absent, number, Streams}
+use Rattle.meaning.specs.Arithmetic.{Interval, Within, AnyWithin}
 use Rattle.meaning.specs.Expression.{Expression, integer, name, first, next, negation, binary, conditional, fby, Constraint, leftSide, rightSide, Stream, Sheet, rangeOf, value}
 use Rattle.meaning.specs.Interval.{interval, subexpressions, NamesBelow}
 use Rattle.meaning.specs.Window.{reach, back, firsts}
 use Rattle.meaning.specs.Evaluation.{windowValue}
-use Rattle.meaning.proofs.Arithmetic.{negated-within, hull-right, hull-chosen, operator-within}
+use Rattle.meaning.proofs.Arithmetic.{negated-within, any-right, hull-chosen, operator-within}
 use Rattle.meaning.proofs.Order.{≤ℤ-trans}
 use Rattle.meaning.proofs.Interval.{interval-sound}
 use Rattle.meaning.proofs.Facts.{getD-member}
@@ -25,7 +26,7 @@ use Rattle.meaning.proofs.Window.{value-near}
 use Rattle.sheet.specs.Refusal.{magnitudeBound, onLeft, onRight, InBounds}
 use Rattle.sheet.specs.Accepted.{Accepted}
 use Rattle.nodes.specs.Postfix.{Node, StoredConstraint, allNodes, storedConstraints}
-use Rattle.nodes.specs.Bounded.{Small, someValue}
+use Rattle.nodes.specs.Bounded.{Small, SmallValue, valueIn, storedValue}
 use Rattle.nodes.specs.Evaluate.{nodesOf, View, places, nodeValue}
 use Rattle.nodes.proofs.Postfix.{StoredAt, firstsBefore, allNodes-stored, sides-inside}
 use Rattle.nodes.proofs.Meaning.{Shows, Met, WindowMet, nodeValue-value, nodeValue-windowValue}
@@ -39,6 +40,10 @@ between-small (negsuc n) h k = let l = leb→le n 999999999 (h .le) in omega ari
 -- A value in an interval within the bound is within the bound.
 pub inBounds-small : {I : Interval} {x : ℤ} → InBounds I → Within I x → Small x
 inBounds-small {I} {x} b h = between-small x (≤ℤ-trans (b .above) (h .above)) (≤ℤ-trans (h .below) (b .below))
+
+pub any-small : {I : Interval} (x : Value) → InBounds I → AnyWithin I x → SmallValue x
+any-small absent b h = tt
+any-small {I} (number z) b h = inBounds-small {I = I} b h
 
 -- ---- a course of values within the streams' ranges
 
@@ -57,7 +62,8 @@ module _ (ss : List Stream) where
     whole-met (negation e) i n b = whole-met e i n (b .1)
     whole-met (binary o x y) i n b =
         let p = All-append (λ f. InBounds (interval ss f)) (subexpressions x) (subexpressions y) .0 (b .1) in
-        (whole-met x i (n .0) (p .0), whole-met y i (n .1) (p .1), inBounds-small {I = interval ss (binary o x y)} (b .0) (interval-sound ss w ranged (binary o x y) n i))
+        let met = any-small {I = interval ss (binary o x y)} (value w (binary o x y) i) (b .0) (interval-sound ss w ranged (binary o x y) n i) in
+        (whole-met x i (n .0) (p .0), whole-met y i (n .1) (p .1), met)
     whole-met (conditional c x y) i n b =
         let p = All-append (λ f. InBounds (interval ss f)) (subexpressions c) (subexpressions x ++ subexpressions y) .0 (b .1) in
         let q = All-append (λ f. InBounds (interval ss f)) (subexpressions x) (subexpressions y) .0 (p .1) in
@@ -65,10 +71,10 @@ module _ (ss : List Stream) where
     whole-met (fby x y) zero n b = whole-met x 0 (n .0) (All-append (λ f. InBounds (interval ss f)) (subexpressions x) (subexpressions y) .0 (b .1) .0)
     whole-met (fby x y) (suc i) n b = whole-met y i (n .1) (All-append (λ f. InBounds (interval ss f)) (subexpressions x) (subexpressions y) .0 (b .1) .1)
 
-  -- The stored values from the number f on lie in the intervals of what the firsts stand before.
+  -- The stored values from the number f on, where they are numbers, lie in the intervals of what the firsts stand before.
   abbrev pub FirstsWithin : List Value → ℕ → List Expression → Type 0
   FirstsWithin stored f [] = Unit
-  FirstsWithin stored f (e ∷ es) = Within (interval ss e) (getD stored f (pos 0)) × FirstsWithin stored (suc f) es
+  FirstsWithin stored f (e ∷ es) = AnyWithin (interval ss e) (getD stored f absent) × FirstsWithin stored (suc f) es
 
   firstsWithin-append : (stored : List Value) (f : ℕ) (xs ys : List Expression) → FirstsWithin stored f (xs ++ ys) → FirstsWithin stored f xs × FirstsWithin stored (f + length xs) ys
   firstsWithin-append stored f [] ys h = (tt, subst (λ k. FirstsWithin stored k ys) (omega arith) h)
@@ -78,7 +84,7 @@ module _ (ss : List Stream) where
 
   -- In a window whose first `count` letters are within the ranges, from the place `back` on.
   module _ (w : Streams) (stored : List Value) (count : ℕ) (ranged : (k i : ℕ) → k < length ss → i < count → Within (rangeOf ss k) (w k i)) where
-    window-within : (e : Expression) (f i : ℕ) → NamesBelow (length ss) e → back e ≤ i → i + reach e < count → FirstsWithin stored f (firsts e) → Within (interval ss e) (windowValue w stored f e i)
+    window-within : (e : Expression) (f i : ℕ) → NamesBelow (length ss) e → back e ≤ i → i + reach e < count → FirstsWithin stored f (firsts e) → AnyWithin (interval ss e) (windowValue w stored f e i)
     unfolding interval windowValue back reach firsts
     window-within (integer z) f i n b r s = record { above = ≤ℤ-refl z; below = ≤ℤ-refl z }
     window-within (name k) f i n b r s = ranged k i n (omega arith)
@@ -87,24 +93,27 @@ module _ (ss : List Stream) where
     window-within (negation e) f i n b r s = negated-within (windowValue w stored f e i)
     window-within (binary o x y) f i n b r s =
         let p = firstsWithin-append stored f (firsts x) (firsts y) s in
-        operator-within o (interval ss x) (interval ss y) (window-within x f i (n .0) (omega arith) (omega arith) (p .0))
+        operator-within o (interval ss x) (interval ss y) (windowValue w stored f x i) (windowValue w stored (f + length (firsts x)) y i)
+        (window-within x f i (n .0) (omega arith) (omega arith) (p .0))
         (window-within y (f + length (firsts x)) i (n .1) (omega arith) (omega arith) (p .1))
     window-within (conditional c x y) f i n b r s =
         let p = firstsWithin-append stored f (firsts c) (firsts x ++ firsts y) s in
         let q = firstsWithin-append stored (f + length (firsts c)) (firsts x) (firsts y) (p .1) in
-        hull-chosen (windowValue w stored f c i) (interval ss x) (interval ss y)
+        hull-chosen (windowValue w stored f c i) (interval ss x) (interval ss y) (windowValue w stored (f + length (firsts c)) x i)
+        (windowValue w stored (f + length (firsts c) + length (firsts x)) y i)
         (window-within x (f + length (firsts c)) i (n .1) (omega arith) (omega arith) (q .0))
         (window-within y (f + length (firsts c) + length (firsts x)) i (n .2) (omega arith) (omega arith) (q .1))
     window-within (fby x y) f zero n b r s = absurd (not-suc-le-zero b)
     window-within (fby x y) f (suc i) n b r s =
         let p = firstsWithin-append stored f (firsts x) (firsts y) s in
-        hull-right (interval ss x) (interval ss y) (window-within y (f + length (firsts x)) i (n .1) (omega arith) (omega arith) (p .1))
+        any-right (interval ss x) (interval ss y) (windowValue w stored (f + length (firsts x)) y i)
+        (window-within y (f + length (firsts x)) i (n .1) (omega arith) (omega arith) (p .1))
 
     window-met : (e : Expression) (f i : ℕ) → NamesBelow (length ss) e → AllInBounds e → back e ≤ i → i + reach e < count → FirstsWithin stored f (firsts e) → WindowMet w stored f e i
     unfolding subexpressions interval back reach firsts
     window-met (integer z) f i n b k r s = inBounds-small {I = record { low = z; high = z }} (b .0) (record { above = ≤ℤ-refl z; below = ≤ℤ-refl z })
     window-met (name k) f i n b l r s = inBounds-small {I = rangeOf ss k} (b .0) (ranged k i n (omega arith))
-    window-met (first e) f i n b k r s = inBounds-small {I = interval ss e} (b .0) (s .0)
+    window-met (first e) f i n b k r s = any-small {I = interval ss e} (getD stored f absent) (b .0) (s .0)
     window-met (next e) f i n b k r s = window-met e f (suc i) n (b .1) (omega arith) (omega arith) s
     window-met (negation e) f i n b k r s = window-met e f i n (b .1) k r s
     window-met (binary o x y) f i n b k r s =
@@ -112,7 +121,7 @@ module _ (ss : List Stream) where
         let q = firstsWithin-append stored f (firsts x) (firsts y) s in (
           window-met x f i (n .0) (p .0) (omega arith) (omega arith) (q .0),
           window-met y (f + length (firsts x)) i (n .1) (p .1) (omega arith) (omega arith) (q .1),
-          inBounds-small {I = interval ss (binary o x y)} (b .0) (window-within (binary o x y) f i n k r s),
+          any-small {I = interval ss (binary o x y)} (windowValue w stored f (binary o x y) i) (b .0) (window-within (binary o x y) f i n k r s),
         )
     window-met (conditional c x y) f i n b k r s =
         let p = All-append (λ f. InBounds (interval ss f)) (subexpressions c) (subexpressions x ++ subexpressions y) .0 (b .1) in
@@ -189,20 +198,20 @@ pub record Letters (ss : List Stream) (W : View) (w : Streams) : Type 0 where
 module _ (s : Sheet) (accepted : Accepted s) (W : View) (w : Streams) (letters : Letters (s .streams) W w) (behind : List Node) (c₀ : Constraint) (t₀ : StoredConstraint) where
   -- In a whole record a side has its value, wherever the record has the letters that the side looks at.
   pub accepted-value : {e : Expression} {i f : ℕ} → IsSide (s .constraints) c₀ t₀ e i f → W .whole ≡ true → (p : ℕ) → p + reach e < places W
-      → nodeValue (nodesOf (allNodes 0 0 (s .constraints) ++ behind)) W i p ≡ someValue (value w e p)
+      → valueIn (nodeValue (nodesOf (allNodes 0 0 (s .constraints) ++ behind)) W i p) ≡ value w e p
   accepted-value {e} {i} {f} side whole p r =
       let k = known behind c₀ t₀ accepted side in
       let n = subst (λ m. NamesBelow m e) (sym (letters .count)) (k .names) in
       nodeValue-value (allNodes 0 0 (s .constraints) ++ behind) W (lasting w (places W)) (λ k q b h. letters .shows k q b h ∙ sym (lasting-same w (places W) k q h)) p e (k .stored) (k .inside) whole n r
       (whole-met (s .streams) (lasting w (places W)) (lasting-ranged w (places W) (s .streams) (letters .ranged) (omega arith)) e p (k .names) (k .bounds))
-      ∙ ap someValue (value-near (lasting w (places W)) w (places W) (lasting-same w (places W)) e p r)
+      ∙ value-near (lasting w (places W)) w (places W) (lasting-same w (places W)) e p r
 
   -- In a window with stored first values a side has its value there, from the place `back` on.
   pub accepted-windowValue : {e : Expression} {i f : ℕ} → IsSide (s .constraints) c₀ t₀ e i f → W .whole ≡ false → (p : ℕ) → back e ≤ p → p + reach e < places W
-      → f + length (firsts e) ≤ length (W .firsts) → FirstsWithin (s .streams) (W .firsts) f (firsts e)
-      → nodeValue (nodesOf (allNodes 0 0 (s .constraints) ++ behind)) W i p ≡ someValue (windowValue w (W .firsts) f e p)
+      → f + length (firsts e) ≤ length (W .firsts) → FirstsWithin (s .streams) (map storedValue (W .firsts)) f (firsts e)
+      → valueIn (nodeValue (nodesOf (allNodes 0 0 (s .constraints) ++ behind)) W i p) ≡ windowValue w (map storedValue (W .firsts)) f e p
   accepted-windowValue {e} {i} {f} side whole p b r l h =
       let k = known behind c₀ t₀ accepted side in
       let n = subst (λ m. NamesBelow m e) (sym (letters .count)) (k .names) in
       nodeValue-windowValue (allNodes 0 0 (s .constraints) ++ behind) W w (letters .shows) p e (k .stored) (k .inside) whole n r l
-      (window-met (s .streams) w (W .firsts) (places W) (letters .ranged) e f p (k .names) (k .bounds) b r h)
+      (window-met (s .streams) w (map storedValue (W .firsts)) (places W) (letters .ranged) e f p (k .names) (k .bounds) b r h)

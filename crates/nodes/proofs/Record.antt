@@ -5,12 +5,11 @@ use native.Mathlib.Nat.{zero-mul, zero-add, suc-mul, mul-div-cancel}
 use mathlib.Core.Path.{_≡_, refl, sym, _∙_, ap}
 use mathlib.Core.Bool.{Bool}
 use mathlib.Core.List.{List, [], _∷_, _++_}
-use lib.IntN.{pos}
+use lib.IntN.{ℤ, pos}
 use lib.ListN.{length, getD, length-append, List·getD-append}
 use lib.Seq.{getD-append-add}
 use Rattle.basics.proofs.Lists.{member-All}
 use Rattle.basics.specs.Lists.{All}
-use Rattle.meaning.specs.Value.{Value}
 use Rattle.meaning.specs.Expression.{Stream}
 use Rattle.meaning.specs.Letter.{Letter, Record, IsLetter, none, more, OfLetters, streamsOf}
 use Rattle.meaning.specs.Window.{joinOver}
@@ -20,7 +19,7 @@ use Rattle.nodes.specs.Evaluate.{view, places}
 use Rattle.nodes.proofs.Accepted.{Letters}
 
 -- The letters' values, letter after letter.
-abbrev pub flat : Record → List Value
+abbrev pub flat : Record → List ℤ
 flat r = joinOver (λ l. l) r
 
 module _ (n : ℕ) where
@@ -48,7 +47,7 @@ pub letter-length : {ss : List Stream} {l : Letter} → IsLetter ss l → length
 letter-length none = refl
 letter-length (more w h) = ap suc (letter-length h)
 
-module _ (ss : List Stream) (some : 0 < length ss) (r : Record) (letters : OfLetters ss r) (firsts : List Value) (whole : Bool) where
+module _ (ss : List Stream) (some : 0 < length ss) (r : Record) (letters : OfLetters ss r) (firsts : List ℤ) (whole : Bool) where
   even : Even (length ss) r
   even = member-All _ r (λ l m. letter-length (letters l m))
 

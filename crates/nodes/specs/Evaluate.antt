@@ -61,7 +61,7 @@ pub record View : Type 0 where
   -- The values of the streams, letter after letter: at the place p of the window, stream k has p * streams + k.
   pub window : List ℤ
   pub streams : ℕ
-  -- The stored values of the firsts, by their numbers.
+  -- The stored values of the firsts, by their numbers; one beyond the magnitude bound stands for none.
   pub firsts : List ℤ
   -- The window is a whole record from time 0: then `first` and the left of `fby` are evaluated at the place 0.
   -- Otherwise `first` has its stored value and the left of `fby` is not read.
@@ -90,7 +90,7 @@ streamEvaluated window streams p z = lookup streams (λ k. getD window (p * stre
 abbrev pub negatedResult : Evaluated → Evaluated
 negatedResult a = cond (a .ok) (someValue (bit (not (nonzero (a .value))))) noValue
 
--- "`if` takes its first branch where the condition is not 0." The other branch may have no value.
+-- "`if` takes its first branch where the condition is not 0." "`if` needs only its condition and chosen branch" (document 02, S-5).
 abbrev pub chosenResult : Evaluated → Evaluated → Evaluated → Evaluated
 chosenResult c a b = cond (c .ok) (cond (nonzero (c .value)) a b) noValue
 
@@ -122,7 +122,7 @@ module _ (N : Nodes) (W : View) where
   unfoldable pub valueBefore : ℕ → ℕ → Evaluated
   valueBefore e = answerUpTo (λ p. noValue) valueStep e e
 
-  -- The value of the node with the place `root`, at the place p of the window. No value where a value that it is made of is beyond the
-  -- magnitude bound, or a place, a stream or a part is not there.
+  -- The value of the node with the place `root`, at the place p of the window. No value where an operator gives none, a value that it is made of is
+  -- beyond the magnitude bound, or a place, a stream or a part is not there.
   unfoldable pub nodeValue : ℕ → ℕ → Evaluated
   nodeValue root p = cond (hasNode N root && ltb p (places W)) (valueBefore (suc root) p) noValue

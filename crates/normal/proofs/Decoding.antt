@@ -151,7 +151,7 @@ module _ (s : Sheet) where
   pub line-count : (p : ℕ) (c : Constraint) → Stand L p (inPostfix (leftSide c)) → Stand L (p + nodeCount (leftSide c)) (inPostfix (rightSide c)) → lineAt p c .adds .added ≡ length (addedBy c)
   line-count p c ha hb = line-says p c ha hb .count
 
-  own-say : (p n : ℕ) (cs : List Constraint) → Stand L p (nodeExpressions cs) → map says (ownRows n (rewritingLines p cs)) ≡ allRewritten n cs
+  pub own-say : (p n : ℕ) (cs : List Constraint) → Stand L p (nodeExpressions cs) → map says (ownRows n (rewritingLines p cs)) ≡ allRewritten n cs
   unfolding rewritingLines ownRows allRewritten
   own-say p n [] h = refl
   own-say p n (c ∷ cs) h =
@@ -159,7 +159,7 @@ module _ (s : Sheet) where
       let w = line-says p c (g .0) (g .1) in
       ap₂ _∷_ (w .own n) (own-say _ _ cs (g .2) ∙ ap (λ k. allRewritten (n + k) cs) (w .count))
 
-  added-say : (p n : ℕ) (cs : List Constraint) → Stand L p (nodeExpressions cs) → map says (addedRows n (rewritingLines p cs)) ≡ allEntries n cs
+  pub added-say : (p n : ℕ) (cs : List Constraint) → Stand L p (nodeExpressions cs) → map says (addedRows n (rewritingLines p cs)) ≡ allEntries n cs
   unfolding rewritingLines addedRows allEntries
   added-say p n [] h = refl
   added-say p n (c ∷ cs) h =

@@ -14,5 +14,6 @@ pub mod Saying
 pub mod Ranges
 pub mod Standing
 pub mod Replacing
+pub mod RowKinds
 pub mod Solutions
 pub mod Sizes

@@ -13,7 +13,6 @@ use lib.ListN.{length, getD, length-append, length-map}
 use lib.Seq.{getD-append-add}
 use Rattle.basics.proofs.Lists.{All-append, All-map, All-mapped, Some-left, Some-mapped, Some-right}
 use Rattle.basics.specs.Lists.{All, Some}
-use Rattle.meaning.specs.Arithmetic.{Interval}
 use Rattle.meaning.specs.Expression.{Expression, integer, name, first, next, negation, binary, conditional, fby, Constraint, always, until, leftSide, rightSide, Stream, Sheet, rangeOf}
 use Rattle.meaning.specs.Interval.{interval}
 use Rattle.meaning.specs.NormalForm.{added, addedCount, addedBy, allAdded, normalForm}
@@ -24,6 +23,7 @@ use Rattle.normal.specs.Rows.{Row, rewriting, Line, lineAt, rewritingLin
 use Rattle.normal.specs.Encoded.{expressionAt, sourceInterval, normalRows, entryRecord, normalEntries}
 use Rattle.normal.specs.Fields.{leftIsNode}
 use Rattle.normal.specs.Says.{standsFor}
+use Rattle.normal.specs.Solved.{rangeIn}
 use Rattle.normal.specs.declared.Entry.{Entry}
 use Rattle.normal.proofs.Decoding.{added-counted, always-line, line-count, streams-counted}
 use Rattle.normal.proofs.Places.{Stand, Stand-append, stand-self, some-node, root-at, sides-stand}
@@ -314,20 +314,28 @@ module _ (s : Sheet) where
       let at : r .left ≡ length pad + j = omega arith in
       (h .source k, sym (h .stands k) ∙ ap streamed at ∙ getD-append-add pad (allAdded (s .constraints)) j (integer (pos 0)))
 
--- What the streams at the left of the rows stand for.
-pub rows-stand : (s : Sheet) → All (λ r. 2 ≤ r .kind → (0 < r .source) × (expressionAt s (r .source - 1) ≡ standsFor s (r .left))) (normalRows s)
-rows-stand s =
+all-ranged : (s : Sheet) → All (Ranged s) (normalRows s)
+all-ranged s =
     let n = length (s .streams) in
     let h = lines-ranged s 0 n (s .constraints) (stand-self (nodeExpressions (s .constraints))) (streamed-added s) (omega arith) (omega arith) in
-    All-map (normalRows s) (λ r k. row-stands s r k) (All-append (Ranged s) (ownRows n (rewritingLines 0 (s .constraints))) (addedRows n (rewritingLines 0 (s .constraints))) .1 h)
+    All-append (Ranged s) (ownRows n (rewritingLines 0 (s .constraints))) (addedRows n (rewritingLines 0 (s .constraints))) .1 h
+
+-- What the streams at the left of the rows stand for.
+pub rows-stand : (s : Sheet) → All (λ r. 2 ≤ r .kind → (0 < r .source) × (expressionAt s (r .source - 1) ≡ standsFor s (r .left))) (normalRows s)
+rows-stand s = All-map (normalRows s) (λ r k. row-stands s r k) (all-ranged s)
 
 -- The entry names a stream only with that stream's range.
 abbrev pub HasRange : Sheet → Entry → Type 0
-HasRange s e = 2 ≤ e .kind → _≡_ {A = Interval} (record { low = e .low; high = e .high }) (rangeOf (normalForm s .streams) (e .left))
+HasRange s e = 2 ≤ e .kind → rangeIn e ≡ rangeOf (normalForm s .streams) (e .left)
 
 pub entries-ranged : (text : List ℕ) (s : Sheet) → All (HasRange s) (normalEntries text s)
 entries-ranged text s =
-    let n = length (s .streams) in
-    let h = lines-ranged s 0 n (s .constraints) (stand-self (nodeExpressions (s .constraints))) (streamed-added s) (omega arith) (omega arith) in
-    All-mapped (HasRange s) (entryRecord text s) (λ r h k. row-range s r h k ∙ ap (rangeOf (normalForm s .streams)) (sym (stream-left r k))) (normalRows s)
-    (All-append (Ranged s) (ownRows n (rewritingLines 0 (s .constraints))) (addedRows n (rewritingLines 0 (s .constraints))) .1 h)
+    All-mapped (HasRange s) (entryRecord text s) (λ r h k. row-range s r h k ∙ ap (rangeOf (normalForm s .streams)) (sym (stream-left r k))) (normalRows s) (all-ranged s)
+
+-- The stream that an entry names is one of the normal form's.
+abbrev pub LeftBelow : Sheet → Entry → Type 0
+LeftBelow s e = 2 ≤ e .kind → e .left < length (normalForm s .streams)
+
+pub entries-below : (text : List ℕ) (s : Sheet) → All (LeftBelow s) (normalEntries text s)
+entries-below text s =
+    All-mapped (LeftBelow s) (entryRecord text s) (λ r h k. let high = h .high k in let left = stream-left r k in omega (arith, streams-length s)) (normalRows s) (all-ranged s)

@@ -7,6 +7,7 @@ use mathlib.Core.List.{List, [], _∷_, map}
 use lib.IntN.{pos}
 use lib.ListN.{length, getD}
 use Rattle.basics.specs.Lists.{All}
+use Rattle.basics.proofs.Lists.{All-map}
 use Rattle.meaning.specs.Expression.{Expression, integer, Constraint, always, Sheet}
 use Rattle.meaning.specs.NormalForm.{rewritten, equation, normalForm}
 use Rattle.nodes.specs.Code.{signAt}
@@ -27,7 +28,7 @@ use Rattle.normal.specs.Says.{SideSays, side, EntrySays, constraint, str
 use Rattle.normal.specs.declared.Entry.{Entry}
 use Rattle.normal.proofs.Decoding.{decoded, rows-decoded}
 use Rattle.normal.proofs.TextSpans.{text-spans, nodes-spanned}
-use Rattle.normal.proofs.Sources.{RowForm, isConstraint, isUntil, isEquation, isNext, isFirst, Sound, sheet-sound}
+use Rattle.normal.proofs.Sources.{RowForm, isConstraint, isUntil, isEquation, isNext, isFirst, sheet-sound}
 
 module _ (text : List ℕ) (s : Sheet) (spans : EachReads (lineTokens text (layoutIn text .namesLine)) text (spansIn text) (nodeExpressions (s .constraints))) where
   abbrev spanOf : ℕ → Span
@@ -45,13 +46,17 @@ module _ (text : List ℕ) (s : Sheet) (spans : EachReads (lineTokens text (layo
   row-says isNext = streamIsNext refl
   row-says isFirst = firstsEqual refl
 
-  rows-say : (rows : List Row) → All (Sound s) rows → EachSays text (map (entryRecord text s) rows) (map (decoded s) rows)
-  rows-say [] h = EachSays.none
-  rows-say (r ∷ rows) h = EachSays.more (row-says (h .0 .form)) (rows-say rows (h .1))
+-- The record of each row of an accepted sheet says the row's constraint.
+pub rows-say : {text : List ℕ} {s : Sheet} → AnswerTo text (sheet s) → All (λ r. EntrySays text (entryRecord text s r) (decoded s r)) (normalRows s)
+rows-say {text} {s} r = All-map (normalRows s) (λ x h. row-says text s (text-spans r) (h .form)) (sheet-sound s (accepted-facts r))
+
+each-say : (text : List ℕ) (s : Sheet) (rows : List Row) → All (λ r. EntrySays text (entryRecord text s r) (decoded s r)) rows → EachSays text (map (entryRecord text s) rows) (map (decoded s) rows)
+each-say text s [] h = EachSays.none
+each-say text s (r ∷ rows) h = EachSays.more (h .0) (each-say text s rows (h .1))
 
 -- The records of an accepted sheet say the constraints of its normal form, one by one and in order.
 pub entries-say : {text : List ℕ} {s : Sheet} → AnswerTo text (sheet s) → EachSays text (normalEntries text s) (normalForm s .constraints)
-entries-say {text} {s} r = subst (EachSays text (normalEntries text s)) (rows-decoded s) (rows-say text s (text-spans r) (normalRows s) (sheet-sound s (accepted-facts r)))
+entries-say {text} {s} r = subst (EachSays text (normalEntries text s)) (rows-decoded s) (each-say text s (normalRows s) (rows-say r))
 
 -- ---- a text and a record say at most one constraint
 

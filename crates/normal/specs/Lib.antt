@@ -5,3 +5,4 @@ pub mod Table
 pub mod Encoded
 pub mod Outcome
 pub mod Says
+pub mod Solved

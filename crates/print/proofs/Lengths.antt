@@ -12,6 +12,7 @@ use lib.ListN.{length, getD, drop, length-append, length-take}
 use borrow.Author.Tests.{ltb-true, ltb-false}
 use mir.Syntax.{w64}
 use mir.Val.{SFits}
+use Rattle.basics.proofs.Reflects.{from-true}
 use Rattle.text.specs.Bytes.{Token}
 use Rattle.meaning.specs.Letter.{Letter, IsLetter, none, more, letterCount, letterOf}
 use Rattle.meaning.proofs.Letter.{letterOf-letter}
@@ -19,11 +20,12 @@ use Rattle.nodes.proofs.Record.{letter-length}
 use Rattle.automaton.specs.Table.{noState}
 use Rattle.letters.specs.Described.{described}
 use Rattle.letters.proofs.Above.{between-fits}
+use Rattle.letters.proofs.Streams.{letter-reflects}
 use Rattle.print.specs.Text.{digits, decimal, spaced, line, tokensLine, headingLine, entryLine, refusalLine}
 use Rattle.print.specs.Table.{placeText, storedName, storedNames, AllFit}
 use Rattle.print.proofs.Decimal.{digits-one, digits-more}
 use Rattle.print.proofs.Lines.{spaced-more}
-use Rattle.print.proofs.Places.{found, place-cases}
+use Rattle.print.proofs.Places.{place-cases}
 
 -- ---- digits
 
@@ -149,8 +151,8 @@ place-length lows highs entries finals place f g e b p =
     let n = place % letterCount ss in
     place-cases lows highs entries finals place (λ l. length l ≤ 256) (omega arith) λ h.
     let d = div-le-self place (letterCount ss) in
-    let m = letterOf-letter ss n (found ss n h .1 .0) in
+    let t = from-true (letter-reflects ss n 8) h in
+    let m = letterOf-letter ss n (t .known) in
     let k = letter-length m in
-    let q = found ss n h .1 .1 in
     entry-length (place / letterCount ss) (getD finals (place / letterCount ss) 0) (letterOf ss n) (getD entries place noState) (omega arith) (b (place / letterCount ss))
     (letter-fits lows highs (letterOf ss n) f g m) (omega arith) e

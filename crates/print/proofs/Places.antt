@@ -3,21 +3,22 @@ use Prim.Native.Nat.{ℕ, zero, suc, _+_, _/_, _%_, _≤_, _<_, min}
 use native.Mathlib.Omega.{arith}
 use native.Mathlib.Nat.{div-add-mod'}
 use mathlib.Core.Path.{_≡_, refl, sym, _∙_, ap, ap₂, subst}
-use mathlib.Core.Bool.{Bool, true, false, cond, _&&_}
+use mathlib.Core.Bool.{Bool, true, false, cond}
 use mathlib.Core.List.{List, [], _∷_, _++_}
-use lib.Dec.{leb, ltb, eqb}
+use lib.Dec.{eqb}
 use lib.IntN.{ℤ}
 use lib.ListN.{length, getD, take, drop, List·getD-eq-default}
 use lib.Seq.{take-at}
-use borrow.Author.Tests.{leb-true, ltb-true, eq-eqb, ne-eqb, le-leb, le-ltb}
+use borrow.Author.Tests.{eq-eqb, ne-eqb}
+use Rattle.basics.proofs.Reflects.{from-true, from-false, to-false}
 use Rattle.meaning.specs.Expression.{Stream}
 use Rattle.meaning.specs.Letter.{letterCount, letterOf}
 use Rattle.meaning.proofs.Letter.{letterOf-letter}
 use Rattle.nodes.proofs.Record.{letter-length}
-use Rattle.sheet.specs.Refusal.{letterBound}
 use Rattle.automaton.specs.Table.{noState}
 use Rattle.letters.specs.Described.{described, cutCount, hasLetter, withLetter}
 use Rattle.letters.proofs.Counts.{length-described}
+use Rattle.letters.proofs.Streams.{LetterThere, letter-reflects}
 use Rattle.print.specs.Text.{entryLine}
 use Rattle.print.specs.Table.{entryText, placeText}
 
@@ -31,25 +32,13 @@ getD-inside [] i d e h = absurd (omega arith)
 getD-inside (x ∷ l) zero d e h = refl
 getD-inside (x ∷ l) (suc i) d e h = getD-inside l i d e (omega arith)
 
-and-true : (a b : Bool) → a && b ≡ true → (a ≡ true) × (b ≡ true)
-and-true true b e = (refl, e)
-and-true false b e = let y : _≡_ {A = ℕ} 0 1 = cc in absurd (omega arith)
-
--- A letter that is found: the streams have no more letters than a sheet can have, the number is a letter's, and the streams are at most eight.
-pub found : (ss : List Stream) (n : ℕ) → hasLetter ss n 8 ≡ true → (letterCount ss ≤ letterBound) × ((n < letterCount ss) × (length ss ≤ 8))
-unfolding hasLetter
-found ss n h =
-    let p = and-true (leb (letterCount ss) letterBound) (ltb n (letterCount ss) && leb (length ss) 8) h in
-    let q = and-true (ltb n (letterCount ss)) (leb (length ss) 8) (p .1) in
-    (leb-true (letterCount ss) letterBound (p .0), (ltb-true n (letterCount ss) (q .0), leb-true (length ss) 8 (q .1)))
-
--- Its values stand at the front of the list that they are written to.
+-- The values of a letter stand at the front of the list that they are written to.
 pub letter-front : (ss : List Stream) (n : ℕ) → hasLetter ss n 8 ≡ true → (out : List ℤ) → length out ≡ 8 → {values : List ℤ} → values ≡ withLetter ss n out → {k : ℕ} → k ≡ length ss
     → take k values ≡ letterOf ss n
 unfolding withLetter
 letter-front ss n h out l {values} w {k} d =
     ap (take k) (w ∙ ap (λ t. cond t (letterOf ss n ++ drop (length ss) out) out) (ap (hasLetter ss n) l ∙ h))
-    ∙ take-at (letterOf ss n) (drop (length ss) out) k (letter-length (letterOf-letter ss n (found ss n h .1 .0)) ∙ sym d)
+    ∙ take-at (letterOf ss n) (drop (length ss) out) k (letter-length (letterOf-letter ss n (from-true (letter-reflects ss n 8) h .known)) ∙ sym d)
 
 module _ (lows highs : List ℤ) (entries finals : List ℕ) (place : ℕ) where
   abbrev streams : List Stream
@@ -99,17 +88,15 @@ module _ (lows highs : List ℤ) (entries finals : List ℕ) (place : ℕ) where
 
   module _ {n : ℕ} (e : n ≡ cutCount count) where
     pub no-letters : n ≡ 0 → placeText lows highs entries finals place ≡ []
-    unfolding hasLetter
-    no-letters z =
-        no-letter (ap₂ (λ s t. s && (t && leb (length streams) 8)) (le-leb count letterBound (omega arith)) (le-ltb (place % count) count (omega arith)))
+    no-letters z = no-letter (to-false (letter-reflects streams (place % count) 8) (λ t. omega arith))
 
     -- Where a letter with the number is found, the count is exact.
     module _ (h : hasLetter streams (place % n) 8 ≡ true) where
       exact : n ≡ count
-      exact = let b = found streams (place % n) h .0 in omega arith
+      exact = let b = from-true (letter-reflects streams (place % n) 8) h .few in omega arith
 
       pub few-streams : length streams ≤ 8
-      few-streams = found streams (place % n) h .1 .1
+      few-streams = from-true (letter-reflects streams (place % n) 8) h .fits
 
       pub line-there : place < length entries → (getD entries place 0 ≡ 65535 → ⊥) → {k : ℕ} → k ≡ min (length lows) (length highs)
           → (out : List ℤ) → length out ≡ 8 → {values : List ℤ} → values ≡ withLetter streams (place % n) out → {byte : ℕ} → byte ≡ getD finals (place / n) 0
@@ -128,12 +115,7 @@ module _ (lows highs : List ℤ) (entries finals : List ℕ) (place : ℕ) where
           ∙ sym (ap (λ u. cond u (entryText streams entries finals (place / count) (place % count)) []) t)
 
     pub no-values : hasLetter streams (place % n) 8 ≡ false → placeText lows highs entries finals place ≡ []
-    unfolding hasLetter
-    no-values h = no-letter (by (leb count letterBound) refl)
-      where
-        by : (t : Bool) → leb count letterBound ≡ t → hasLetter streams (place % count) 8 ≡ false
-        by true x =
-            let b = leb-true count letterBound x in
-            let y : n ≡ count = omega arith in
-            ap (λ c. hasLetter streams (place % c) 8) (sym y) ∙ h
-        by false x = ap (λ t. t && (ltb (place % count) count && leb (length streams) 8)) x
+    no-values h =
+        no-letter (to-false (letter-reflects streams (place % count) 8) (λ t.
+        let y : count ≡ n = omega arith in
+        from-false (letter-reflects streams (place % n) 8) h (subst (λ c. LetterThere streams (place % c) 8) y t)))

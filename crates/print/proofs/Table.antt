@@ -4,13 +4,13 @@ use Prim.Native.Nat.{ℕ, zero, suc, _+_, _*_, _/_, _%_, _≤_, _<_, min}
 use native.Mathlib.Omega.{arith}
 use native.Mathlib.Nat.{lt-of-lt-of-le}
 use mathlib.Core.Path.{_≡_, refl, sym, _∙_, ap, ap₂}
-use mathlib.Core.Bool.{true, cond, _&&_}
+use mathlib.Core.Bool.{true, cond}
 use mathlib.Core.List.{List, [], _++_, map, append-assoc, append-nil}
 use lib.Arith.{digits-lt, digits-div, digits-mod}
 use lib.Dec.{eqb}
 use lib.ListN.{length, getD, take}
 use lib.Seq.{getD-take}
-use borrow.Author.Tests.{le-leb, lt-ltb}
+use Rattle.basics.proofs.Reflects.{to-true}
 use Rattle.meaning.specs.Expression.{Stream}
 use Rattle.meaning.specs.Letter.{letterCount, letterOf}
 use Rattle.meaning.specs.Window.{joinOver}
@@ -18,18 +18,17 @@ use Rattle.sheet.specs.Refusal.{letterBound}
 use Rattle.nodes.specs.Bounds.{lowsOf, highsOf}
 use Rattle.automaton.specs.Table.{noState}
 use Rattle.letters.specs.Described.{hasLetter}
-use Rattle.letters.proofs.Streams.{unnamed, length-unnamed, letterCount-unnamed, letterOf-unnamed}
+use Rattle.letters.proofs.Streams.{unnamed, length-unnamed, letterCount-unnamed, letterOf-unnamed, letter-reflects}
 use Rattle.print.specs.Text.{headingLine, entryLine}
 use Rattle.print.specs.Table.{entryText, rowText, tableText, printed, placeText, linesFrom, storedNames}
 use Rattle.print.proofs.Names.{eightBytes, Short, stored-names}
 
 -- A number below the count of a sheet's letters is that of a letter.
 pub has-letter : (ss : List Stream) → length ss ≤ 8 → letterCount ss ≤ letterBound → (letter : ℕ) → letter < letterCount ss → hasLetter (unnamed ss) letter 8 ≡ true
-unfolding hasLetter
 has-letter ss few bounded letter h =
     let c = letterCount-unnamed ss in
     let n = length-unnamed ss in
-    ap₂ _&&_ (le-leb (letterCount (unnamed ss)) letterBound (omega arith)) (ap₂ _&&_ (lt-ltb letter (letterCount (unnamed ss)) (omega arith)) (le-leb (length (unnamed ss)) 8 (omega arith)))
+    to-true (letter-reflects (unnamed ss) letter 8) (record { few = omega arith; known = omega arith; fits = omega arith })
 
 module _ (ss : List Stream) (entries finals : List ℕ) (few : length ss ≤ 8) (bounded : letterCount ss ≤ letterBound) where
   -- The streams' names have no part in an entry's text.

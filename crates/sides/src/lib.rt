@@ -1,26 +1,39 @@
 // The sides of one constraint, judged at one time.
 use arithmetic::at_most;
+use arithmetic::in_bound;
 use arithmetic::less;
+use arithmetic::no_value_coded;
 use arithmetic::nonzero;
 use arithmetic::same;
 use evaluate::evaluate;
 ghost use mathlib.Core.Path.{_≡_};
 ghost use mathlib.Core.Bool.{_||_};
 ghost use Rattle.meaning.specs.Value.{truth};
-ghost use Rattle.meaning.specs.Expression.{holds, implies};
+ghost use Rattle.meaning.specs.Expression.{holds, holdsNumbers, implies};
+ghost use Rattle.nodes.specs.Bounded.{valueIn, storedValue};
 ghost use Rattle.nodes.specs.Code.{signAt};
 ghost use Rattle.nodes.specs.Evaluate.{stored, view, nodeValue};
+ghost use Rattle.arithmetic.specs.Coded.{coded};
 ghost use Rattle.sides.specs.Mark.{odd};
 
+// Here a value is given as one number, which is beyond the magnitude bound where there is none.
+
+// "`until` treats none as 0"
+fn truth(a: i64) -> bool
+    ensures { λ r. ⌜ r ≡ truth (storedValue a) ⌝ }
+{
+    if in_bound(a) { nonzero(a) } else { false }
+}
+
 fn implied(a: i64, b: i64) -> bool
-    ensures { λ r. ⌜ r ≡ holds implies a b ⌝ }
+    ensures { λ r. ⌜ r ≡ holdsNumbers implies a b ⌝ }
 {
     if nonzero(a) { nonzero(b) } else { true }
 }
 
-// What a sign asks at one time, by its number.
-fn sign_holds(relation: u8, a: i64, b: i64) -> bool
-    ensures { λ r. ⌜ r ≡ holds (signAt relation) a b ⌝ }
+// What a sign asks of two numbers, by its own number.
+fn numbers_hold(relation: u8, a: i64, b: i64) -> bool
+    ensures { λ r. ⌜ r ≡ holdsNumbers (signAt relation) a b ⌝ }
 {
     match relation {
         nodes::LESS_RELATION => less(a, b),
@@ -31,6 +44,18 @@ fn sign_holds(relation: u8, a: i64, b: i64) -> bool
         nodes::DIFFERENT_RELATION => !same(a, b),
         _ => implied(a, b),
     }
+}
+
+// What a sign asks of two values: "A comparison or implication with none on either side fails at that time".
+fn sign_holds(relation: u8, a: i64, b: i64) -> bool
+    ensures { λ r. ⌜ r ≡ holds (signAt relation) (storedValue a) (storedValue b) ⌝ }
+{
+    if in_bound(a) {
+        if in_bound(b) {
+            return numbers_hold(relation, a, b);
+        }
+    }
+    false
 }
 
 // The value of a node at a place of the window.
@@ -45,7 +70,7 @@ pub fn value_of(
     place: usize,
     whole: bool,
 ) -> i64
-    ensures { λ r. ⌜ r ≡ nodeValue (stored (now (kinds .entry)) (now (values .entry)) (now (starts .entry))) (view (now (window .entry)) streams (now (firsts .entry)) whole) root place .value ⌝ }
+    ensures { λ r. ⌜ r ≡ coded (nodeValue (stored (now (kinds .entry)) (now (values .entry)) (now (starts .entry))) (view (now (window .entry)) streams (now (firsts .entry)) whole) root place) ⌝ }
 {
     let found = evaluate(
         kinds,
@@ -58,10 +83,14 @@ pub fn value_of(
         place,
         whole,
     );
-    found.value
+    if found.ok {
+        found.value
+    } else {
+        no_value_coded()
+    }
 }
 
-// Whether an until is done: it was, or its right side is not 0.
+// Whether an until is done: it was, or its right side is true; none counts as 0.
 pub fn is_done(
     kinds: &[u8; 1024],
     values: &[i64; 1024],
@@ -74,7 +103,7 @@ pub fn is_done(
     whole: bool,
     marks: u32,
 ) -> bool
-    ensures { λ r. ⌜ r ≡ (odd marks || truth (nodeValue (stored (now (kinds .entry)) (now (values .entry)) (now (starts .entry))) (view (now (window .entry)) streams (now (firsts .entry)) whole) right place .value)) ⌝ }
+    ensures { λ r. ⌜ r ≡ (odd marks || truth (valueIn (nodeValue (stored (now (kinds .entry)) (now (values .entry)) (now (starts .entry))) (view (now (window .entry)) streams (now (firsts .entry)) whole) right place))) ⌝ }
 {
     if marks % 2 == 1 {
         return true;
@@ -90,7 +119,7 @@ pub fn is_done(
         place,
         whole,
     );
-    awaited != 0
+    truth(awaited)
 }
 
 // Whether an until that is done or not is permitted: its left side matters only where it is not done.
@@ -106,12 +135,12 @@ pub fn is_permitted(
     whole: bool,
     done: bool,
 ) -> bool
-    ensures { λ r. ⌜ r ≡ (done || truth (nodeValue (stored (now (kinds .entry)) (now (values .entry)) (now (starts .entry))) (view (now (window .entry)) streams (now (firsts .entry)) whole) left place .value)) ⌝ }
+    ensures { λ r. ⌜ r ≡ (done || truth (valueIn (nodeValue (stored (now (kinds .entry)) (now (values .entry)) (now (starts .entry))) (view (now (window .entry)) streams (now (firsts .entry)) whole) left place))) ⌝ }
 {
     if done {
         return true;
     }
-    nonzero(value_of(
+    truth(value_of(
         kinds,
         values,
         starts,
@@ -138,7 +167,7 @@ pub fn sides_hold(
     place: usize,
     whole: bool,
 ) -> bool
-    ensures { λ r. ⌜ r ≡ holds (signAt relation) (nodeValue (stored (now (kinds .entry)) (now (values .entry)) (now (starts .entry))) (view (now (window .entry)) streams (now (firsts .entry)) whole) left place .value) (nodeValue (stored (now (kinds .entry)) (now (values .entry)) (now (starts .entry))) (view (now (window .entry)) streams (now (firsts .entry)) whole) right place .value) ⌝ }
+    ensures { λ r. ⌜ r ≡ holds (signAt relation) (valueIn (nodeValue (stored (now (kinds .entry)) (now (values .entry)) (now (starts .entry))) (view (now (window .entry)) streams (now (firsts .entry)) whole) left place)) (valueIn (nodeValue (stored (now (kinds .entry)) (now (values .entry)) (now (starts .entry))) (view (now (window .entry)) streams (now (firsts .entry)) whole) right place)) ⌝ }
 {
     let a = value_of(
         kinds,

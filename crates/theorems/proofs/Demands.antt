@@ -1,10 +1,11 @@
 -- What a call of the compile gives: the file to open first. A call has the sheet's bytes `text`, the room lent, the answer and the contents of the
--- tables afterwards; `CompileCall` (crate outcome) is what the public function `compile` (crate compile) ensures. Demand 1: an answer has no
--- refusal or one with a number; after a refusal every table is zero, and work tables are zero after every call; after a refused step the running
--- place is unchanged. Demand 2: the streams along which the table can be followed are the solutions, and each solution extends to the normal form
--- in one way only. Demand 3: each refusal is given exactly if its condition holds and that of none before it; where none of 1 to 8 and 10 applies,
--- 9 exactly if there is no solution, else the table, which is settled; paths are the records that begin a solution, and so are the records that
--- can be followed by steps; equal used rows are equal solutions, whatever room was lent. From the laws of the layers below.
+-- tables afterwards; `CompileCall` (crate outcome) is what the public function `compile` (crate compile) ensures. Demand 1: an answer has no refusal
+-- or one with a number; after a refusal every table is zero, and work tables are zero after every call; after a refused step the running place is
+-- unchanged. Demand 2: the streams along which the table can be followed are the solutions, each solution extends to the normal form in one way
+-- only, and each solution of the normal form, cut back, is a solution. Demand 3: each refusal is given exactly if its condition holds and that of
+-- none before it; where none of 1 to 8 and 10 applies, 9 exactly if there is no solution, else the table, which is settled; paths are the records
+-- that begin a solution, and so are the records that can be followed by steps; equal used rows are equal solutions, whatever room was lent. From the
+-- laws of the layers below.
 use Prim.Native.Nat.{ℕ, _≤_, _<_}
 use native.Mathlib.Omega.{arith}
 use mathlib.Core.Path.{_≡_, refl, sym, subst}
@@ -16,12 +17,12 @@ use lib.ListN.{length, replicate}
 use Rattle.automaton.specs.Table.{IsPath}
 use Rattle.automaton.specs.Stored.{StoredTable, SameUsedRows, entryAt}
 use Rattle.automaton.proofs.Paths.{has-solution}
-use Rattle.meaning.specs.Value.{Streams}
+use Rattle.meaning.specs.Value.{Streams, ValueStreams}
 use Rattle.meaning.specs.Expression.{Sheet, Solution}
 use Rattle.meaning.specs.Letter.{Record, OfLetters, letterCount, letterNumber, SolutionWord}
 use Rattle.meaning.specs.Situation.{SituationCount}
-use Rattle.meaning.specs.NormalForm.{NormalSolution, ExtendsUniquely}
-use Rattle.meaning.specs.Scope.{AgreeBelow, NamesKnown}
+use Rattle.meaning.specs.NormalForm.{NormalSolution, ExtendsUniquely, CutsBack}
+use Rattle.meaning.specs.Scope.{NamesKnown}
 use Rattle.meaning.proofs.NormalForm.{extends-uniquely, cut-back}
 use Rattle.sheet.specs.Form.{HasForm}
 use Rattle.sheet.specs.Refusal.{sheet, AnswerTo, accepted}
@@ -219,13 +220,13 @@ module _ {table : List ℕ} {letters letter : ℕ} {before after : Place} {r : �
 -- ---- demand 2, the normal form
 
 module _ {text : List ℕ} {s : Sheet} (read : ReadAs text s) where
-  -- Each solution extends to the normal form in one way only;
+  -- Each solution extends to the normal form in one way only, where the added streams may carry none;
   pub extends-in-one-way : {w : Streams} → Solves s w → ExtendsUniquely s w
   extends-in-one-way h = extends-uniquely s (read-known read) h
 
   -- each solution of the normal form, cut back, solves the sheet.
-  pub cut-back-solves : {v w : Streams} → NormalSolution s v → AgreeBelow (length (s .streams)) v w → Solves s w
-  cut-back-solves h g = cut-back s (read-known read) h g
+  pub cut-back-solves : {v : ValueStreams} → NormalSolution s v → CutsBack s v
+  cut-back-solves h = cut-back s (read-known read) h
 
 -- ---- demand 3, two accepted sheets over the same streams, whatever room was lent
 

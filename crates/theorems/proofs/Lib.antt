@@ -8,3 +8,4 @@ pub mod Replaying
 pub mod WorkedRecords
 pub mod Courses
 pub mod LetterNumbers
+pub mod Divisions

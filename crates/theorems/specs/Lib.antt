@@ -5,3 +5,4 @@ pub mod Replaying
 pub mod WorkedRecords
 pub mod Courses
 pub mod LetterNumbers
+pub mod Divisions

@@ -1,19 +1,14 @@
--- Tests that two values, letters or situations are equal, that compute, and that decide equality. The library's own decisions do not compute outside.
+-- Tests that two letters or situations are equal, that compute, and that decide equality. The library's own decisions do not compute outside.
 use mathlib.Core.Path.{_≡_, refl, ap, ap₂, subst, sym}
 use mathlib.Core.Bool.{Bool, true, false, not, _&&_, _||_}
 use mathlib.Core.HLevel.{Discrete}
 use mathlib.Core.List.{List, [], _∷_, List·Memᴰ, List·Memᴰ·head, List·Memᴰ·tail}
-use lib.Dec.{T, eqb, eqb→eq, eqb-refl, T-not}
-use lib.IntN.{ℤ, pos, negsuc}
+use lib.Dec.{T, T-not}
 use Rattle.basics.proofs.Tests.{T-and, and-both, or-left, or-right}
 use Rattle.basics.specs.Count.{NoRepeats}
+use Rattle.meaning.specs.Value.{equal, compares, sameValue}
 use Rattle.meaning.specs.Situation.{Situation, whole, cut}
-
-abbrev pub sameInteger : ℤ → ℤ → Bool
-sameInteger (pos m) (pos n) = eqb m n
-sameInteger (pos m) (negsuc n) = false
-sameInteger (negsuc m) (pos n) = false
-sameInteger (negsuc m) (negsuc n) = eqb m n
+use Rattle.meaning.proofs.Value.{compares-equal, same-means}
 
 abbrev pub sameMark : Bool → Bool → Bool
 sameMark true b = b
@@ -26,28 +21,21 @@ sameList f (x ∷ xs) [] = false
 sameList f (x ∷ xs) (y ∷ ys) = f x y && sameList f xs ys
 
 abbrev pub sameSituation : Situation → Situation → Bool
-sameSituation (whole r) (whole t) = sameList (sameList sameInteger) r t
+sameSituation (whole r) (whole t) = sameList (sameList (compares equal)) r t
 sameSituation (whole r) (cut t y n) = false
 sameSituation (cut r x m) (whole t) = false
-sameSituation (cut r x m) (cut t y n) = sameList (sameList sameInteger) r t && (sameList sameInteger x y && sameList sameMark m n)
+sameSituation (cut r x m) (cut t y n) = sameList (sameList (compares equal)) r t && (sameList sameValue x y && sameList sameMark m n)
 
 -- A test that decides equality.
 pub record Decides {X : Type 0} (f : X → X → Bool) : Type 0 where
   pub sound : (x y : X) → T (f x y) → x ≡ y
   pub reflexive : (x : X) → T (f x x)
 
-integers : Decides sameInteger
-integers = record { sound = sound; reflexive = reflexive }
-  where
-    sound : (x y : ℤ) → T (sameInteger x y) → x ≡ y
-    sound (pos m) (pos n) t = ap pos (eqb→eq m n t)
-    sound (pos m) (negsuc n) t = absurd t
-    sound (negsuc m) (pos n) t = absurd t
-    sound (negsuc m) (negsuc n) t = ap negsuc (eqb→eq m n t)
+integers : Decides (compares equal)
+integers = record { sound = λ x y. compares-equal x y .0; reflexive = λ x. compares-equal x x .1 refl }
 
-    reflexive : (x : ℤ) → T (sameInteger x x)
-    reflexive (pos m) = eqb-refl m
-    reflexive (negsuc m) = eqb-refl m
+values : Decides sameValue
+values = record { sound = λ x y. same-means x y .0; reflexive = λ x. same-means x x .1 refl }
 
 marks : Decides sameMark
 marks = record { sound = sound; reflexive = reflexive }
@@ -83,15 +71,15 @@ situations = record { sound = sound; reflexive = reflexive }
     sound (whole r) (cut t y n) h = absurd h
     sound (cut r x m) (whole t) h = absurd h
     sound (cut r x m) (cut t y n) h =
-        let p = T-and (sameList (sameList sameInteger) r t) (sameList sameInteger x y && sameList sameMark m n) .0 h in
-        let q = T-and (sameList sameInteger x y) (sameList sameMark m n) .0 (p .1) in
-        λ i. cut (lists (lists integers) .sound r t (p .0) i) (lists integers .sound x y (q .0) i) (lists marks .sound m n (q .1) i)
+        let p = T-and (sameList (sameList (compares equal)) r t) (sameList sameValue x y && sameList sameMark m n) .0 h in
+        let q = T-and (sameList sameValue x y) (sameList sameMark m n) .0 (p .1) in
+        λ i. cut (lists (lists integers) .sound r t (p .0) i) (lists values .sound x y (q .0) i) (lists marks .sound m n (q .1) i)
 
     reflexive : (x : Situation) → T (sameSituation x x)
     reflexive (whole r) = lists (lists integers) .reflexive r
     reflexive (cut r x m) =
-        and-both (sameList (sameList sameInteger) r r) (sameList sameInteger x x && sameList sameMark m m) (lists (lists integers) .reflexive r)
-        (and-both (sameList sameInteger x x) (sameList sameMark m m) (lists integers .reflexive x) (lists marks .reflexive m))
+        and-both (sameList (sameList (compares equal)) r r) (sameList sameValue x x && sameList sameMark m m) (lists (lists integers) .reflexive r)
+        (and-both (sameList sameValue x x) (sameList sameMark m m) (lists values .reflexive x) (lists marks .reflexive m))
 
 pub sameSituation-sound : (x y : Situation) → T (sameSituation x y) → x ≡ y
 sameSituation-sound x y t = situations .sound x y t

@@ -15,7 +15,7 @@ use Rattle.automaton.proofs.Construction.{answer-is}
 use Rattle.automaton.proofs.Equality.{stored-transfer}
 use Rattle.text.specs.Bytes.{bytesOf, lines, tokens}
 use Rattle.text.specs.Token.{isName, isNatural, isInteger, naturalFrom, integerValue, reservedWords, isReserved}
-use Rattle.meaning.specs.Expression.{Sheet, value}
+use Rattle.meaning.specs.Expression.{Sheet, valueFrom, value}
 use Rattle.meaning.specs.Interval.{interval, subexpressions}
 use Rattle.meaning.specs.Letter.{letterCount, letterOf}
 use Rattle.meaning.specs.Window.{reach, back, firsts, B, D}
@@ -118,9 +118,9 @@ all-rows (x ∷ l) t r (List·Memᴰ.List·Memᴰ·head e) = subst Holds (sym e)
 all-rows (x ∷ l) t r (List·Memᴰ.List·Memᴰ·tail m) = all-rows l (T-and (rowTest x) (all rowTest l) .0 t .1) r m
 
 computed : T (all rowTest workedSheets)
-unfolding lines tokens isName isNatural isInteger naturalFrom integerValue reservedWords isReserved interval subexpressions letterCount letterOf reach back firsts B D operatorTokens operatorOf relationTokens relationOf prefixTokens prefixOf namePlace expressionBy openingOf partTo parseConstraint refuses1 tooDeepFrom refuses2 streamsFrom constraintsOf formOf refuses4 refuses5 refuses6 refuses7 answerToSheet answerTo value permits done lawful firstValues untilMarks situation windowValue windowPermits windowMarks allowsLetter situationAfter successor marksOf allDone placeIn nodeSuccessor situationGraph startNode workedSheets
+unfolding lines tokens isName isNatural isInteger naturalFrom integerValue reservedWords isReserved interval subexpressions letterCount letterOf reach back firsts B D operatorTokens operatorOf relationTokens relationOf prefixTokens prefixOf namePlace expressionBy openingOf partTo parseConstraint refuses1 tooDeepFrom refuses2 streamsFrom constraintsOf formOf refuses4 refuses5 refuses6 refuses7 answerToSheet answerTo valueFrom value permits done lawful firstValues untilMarks situation windowValue windowPermits windowMarks allowsLetter situationAfter successor marksOf allDone placeIn nodeSuccessor situationGraph startNode workedSheets
 computed = tt
 
--- Every row of document 01's worked sheets holds.
+-- Every row of the worked sheets holds.
 pub rows-hold : (r : WorkedSheet) → List·Memᴰ r workedSheets → Holds r
 rows-hold = all-rows workedSheets computed

@@ -1,10 +1,9 @@
--- `arithmetic::applied` meets its contract: each arm gives what the operator of its kind gives, tested or within the bound.
+-- `arithmetic::applied` meets its contract: each arm gives what the operator of its kind gives, tested, none, or within the bound.
 use mathlib.Core.Path.{_∙_, ap, ap₂}
 use mathlib.Core.Bool.{not, _&&_, _||_}
 use borrow.Author.Needs.{needs}
-use Rattle.meaning.specs.Value.{nonzero, bit, less, atMost, equal, atLeast, greater, different, compares}
-use Rattle.arithmetic.proofs.Operators.{later}
-use Rattle.arithmetic.proofs.Coded.{bit-within, quotient-within, remainder-within, tested-kind, within-kind, within-last}
+use Rattle.arithmetic.proofs.Operators.{applied-kind, applied-last, later}
+use Rattle.arithmetic.proofs.Coded.{bit-coded, tested-coded}
 use Rattle.arithmetic.proofs.applied.Statement.{statement}
 use Rattle.arithmetic.proofs.applied.Tie as tie
 
@@ -95,71 +94,72 @@ bit-requires-8 c κs = search needs
 returns : tie.Need-returns
 returns c =
     let s = c .before .before .before in
-    tested-kind {k = s .args .kind} (s .fits .a) (s .fits .b) (record { sfits = c .before .sum .ok }) 7 (c .before .before .match .keys1) (c .before .sum .ensures) (record { sfits = c .bounded-coded .ok }) (c .bounded-coded .ensures)
+    applied-kind {k = s .args .kind} (s .fits .a) (s .fits .b) (record { sfits = c .bounded-coded .ok }) 7 (c .before .before .match .keys1) (tested-coded (record { sfits = c .before .sum .ok }) (c .before .sum .ensures) (c .bounded-coded .ensures))
 
 returns-2 : tie.Need-returns-2
 returns-2 c =
     let s = c .before .before .before in
-    tested-kind {k = s .args .kind} (s .fits .a) (s .fits .b) (record { sfits = c .before .difference .ok }) 8 (c .before .before .match .keys2) (c .before .difference .ensures) (record { sfits = c .bounded-coded2 .ok }) (c .bounded-coded2 .ensures)
+    applied-kind {k = s .args .kind} (s .fits .a) (s .fits .b) (record { sfits = c .bounded-coded2 .ok }) 8 (c .before .before .match .keys2) (tested-coded (record { sfits = c .before .difference .ok }) (c .before .difference .ensures) (c .bounded-coded2 .ensures))
 
 returns-3 : tie.Need-returns-3
 returns-3 c =
     let s = c .before .before .before in
-    tested-kind {k = s .args .kind} (s .fits .a) (s .fits .b) (record { sfits = c .before .product .ok }) 9 (c .before .before .match .keys3) (c .before .product .ensures) (record { sfits = c .bounded-coded3 .ok }) (c .bounded-coded3 .ensures)
+    applied-kind {k = s .args .kind} (s .fits .a) (s .fits .b) (record { sfits = c .bounded-coded3 .ok }) 9 (c .before .before .match .keys3) (tested-coded (record { sfits = c .before .product .ok }) (c .before .product .ensures) (c .bounded-coded3 .ensures))
 
 returns-4 : tie.Need-returns-4
 returns-4 c =
     let s = c .before .before in
-    within-kind {k = s .args .kind} (s .fits .a) (s .fits .b) (record { sfits = c .quotient .ok }) 10 (c .before .match .keys4) (quotient-within (s .args .a) (s .args .b) (s .pre .1)) (c .quotient .ensures)
+    applied-kind {k = s .args .kind} (s .fits .a) (s .fits .b) (record { sfits = c .quotient .ok }) 10 (c .before .match .keys4) (c .quotient .ensures)
 
 returns-5 : tie.Need-returns-5
 returns-5 c =
     let s = c .before .before in
-    within-kind {k = s .args .kind} (s .fits .a) (s .fits .b) (record { sfits = c .remainder .ok }) 11 (c .before .match .keys5) (remainder-within (s .args .a) (s .args .b) (s .pre .1)) (c .remainder .ensures)
+    applied-kind {k = s .args .kind} (s .fits .a) (s .fits .b) (record { sfits = c .remainder .ok }) 11 (c .before .match .keys5) (c .remainder .ensures)
 
 returns-6 : tie.Need-returns-6
 returns-6 c =
     let s = c .before .before .before in
-    within-kind {k = s .args .kind} (s .fits .a) (s .fits .b) (record { sfits = c .bit .ok }) 12 (c .before .before .match .keys6) (bit-within (compares less (s .args .a) (s .args .b))) (c .bit .ensures ∙ ap bit (c .before .less .ensures))
+    applied-kind {k = s .args .kind} (s .fits .a) (s .fits .b) (record { sfits = c .bit .ok }) 12 (c .before .before .match .keys6) (bit-coded (c .bit .ensures) (c .before .less .ensures))
 
 returns-7 : tie.Need-returns-7
 returns-7 c =
     let s = c .before .before .before in
-    within-kind {k = s .args .kind} (s .fits .a) (s .fits .b) (record { sfits = c .bit2 .ok }) 13 (c .before .before .match .keys7) (bit-within (compares atMost (s .args .a) (s .args .b))) (c .bit2 .ensures ∙ ap bit (c .before .at-most .ensures))
+    applied-kind {k = s .args .kind} (s .fits .a) (s .fits .b) (record { sfits = c .bit2 .ok }) 13 (c .before .before .match .keys7) (bit-coded (c .bit2 .ensures) (c .before .at-most .ensures))
 
 returns-8 : tie.Need-returns-8
 returns-8 c =
     let s = c .before .before .before in
-    within-kind {k = s .args .kind} (s .fits .a) (s .fits .b) (record { sfits = c .bit3 .ok }) 14 (c .before .before .match .keys8) (bit-within (compares equal (s .args .a) (s .args .b))) (c .bit3 .ensures ∙ ap bit (c .before .same .ensures))
+    applied-kind {k = s .args .kind} (s .fits .a) (s .fits .b) (record { sfits = c .bit3 .ok }) 14 (c .before .before .match .keys8) (bit-coded (c .bit3 .ensures) (c .before .same .ensures))
 
 returns-9 : tie.Need-returns-9
 returns-9 c =
     let s = c .before .before .before in
-    within-kind {k = s .args .kind} (s .fits .a) (s .fits .b) (record { sfits = c .bit4 .ok }) 15 (c .before .before .match .keys9) (bit-within (compares atLeast (s .args .a) (s .args .b))) (c .bit4 .ensures ∙ ap bit (c .before .at-most2 .ensures))
+    applied-kind {k = s .args .kind} (s .fits .a) (s .fits .b) (record { sfits = c .bit4 .ok }) 15 (c .before .before .match .keys9) (bit-coded (c .bit4 .ensures) (c .before .at-most2 .ensures))
 
 returns-10 : tie.Need-returns-10
 returns-10 c =
     let s = c .before .before .before in
-    within-kind {k = s .args .kind} (s .fits .a) (s .fits .b) (record { sfits = c .bit5 .ok }) 16 (c .before .before .match .keys10) (bit-within (compares greater (s .args .a) (s .args .b))) (c .bit5 .ensures ∙ ap bit (c .before .less2 .ensures))
+    applied-kind {k = s .args .kind} (s .fits .a) (s .fits .b) (record { sfits = c .bit5 .ok }) 16 (c .before .before .match .keys10) (bit-coded (c .bit5 .ensures) (c .before .less2 .ensures))
 
 returns-11 : tie.Need-returns-11
 returns-11 c =
     let s = c .before .before .before in
-    within-kind {k = s .args .kind} (s .fits .a) (s .fits .b) (record { sfits = c .bit6 .ok }) 17 (c .before .before .match .keys11) (bit-within (compares different (s .args .a) (s .args .b))) (c .bit6 .ensures ∙ ap (λ t. bit (not t)) (c .before .same2 .ensures))
+    applied-kind {k = s .args .kind} (s .fits .a) (s .fits .b) (record { sfits = c .bit6 .ok }) 17 (c .before .before .match .keys11) (bit-coded (c .bit6 .ensures) (ap not (c .before .same2 .ensures)))
 
 returns-12 : tie.Need-returns-12
 returns-12 c =
     let s = c .before .before .before .before .before in
-    within-kind {k = s .args .kind} (s .fits .a) (s .fits .b) (record { sfits = c .bit7 .ok }) 18 (c .before .before .before .before .match .keys12) (bit-within (nonzero (s .args .a) && nonzero (s .args .b))) (c .bit7 .ensures ∙ ap bit (c .before .both .ensures ∙ ap₂ _&&_ (c .before .before .before .nonzero .ensures) (c .before .before .nonzero2 .ensures)))
+    applied-kind {k = s .args .kind} (s .fits .a) (s .fits .b) (record { sfits = c .bit7 .ok }) 18 (c .before .before .before .before .match .keys12)
+    (bit-coded (c .bit7 .ensures) (c .before .both .ensures ∙ ap₂ _&&_ (c .before .before .before .nonzero .ensures) (c .before .before .nonzero2 .ensures)))
 
 -- The kind is none of 7 to 18.
 returns-13 : tie.Need-returns-13
 returns-13 c =
     let rest = c .before .before .before .before .match .rest in
     let s = c .before .before .before .before .before in
-    within-last {k = s .args .kind} (s .fits .a) (s .fits .b) (record { sfits = c .bit8 .ok })
+    applied-last {k = s .args .kind} (s .fits .a) (s .fits .b) (record { sfits = c .bit8 .ok })
     (later (later (later (later (later (later (later (later (later (later (later (later (s .pre .0) (rest .0 .0 .0 .0 .0 .0 .0 .0 .0 .0 .0 .1)) (rest .0 .0 .0 .0 .0 .0 .0 .0 .0 .0 .1)) (rest .0 .0 .0 .0 .0 .0 .0 .0 .0 .1)) (rest .0 .0 .0 .0 .0 .0 .0 .0 .1)) (rest .0 .0 .0 .0 .0 .0 .0 .1)) (rest .0 .0 .0 .0 .0 .0 .1)) (rest .0 .0 .0 .0 .0 .1)) (rest .0 .0 .0 .0 .1)) (rest .0 .0 .0 .1)) (rest .0 .0 .1)) (rest .0 .1)) (rest .1))
-    (c .bit8 .ensures ∙ ap bit (c .before .either .ensures ∙ ap₂ _||_ (c .before .before .before .nonzero3 .ensures) (c .before .before .nonzero4 .ensures)))
+    (bit-coded (c .bit8 .ensures) (c .before .either .ensures ∙ ap₂ _||_ (c .before .before .before .nonzero3 .ensures) (c .before .before .nonzero4 .ensures)))
 
 pub applied-spec : {M : Type 1} → statement M
 applied-spec =

@@ -7,11 +7,11 @@ use Rattle.arithmetic.proofs.Operators.{held-test, held-Small, byKind-l
 use Rattle.arithmetic.proofs.apply_coded.Statement.{statement}
 use Rattle.arithmetic.proofs.apply_coded.Tie as tie
 
-absent-requires : tie.Need-absent-requires
-absent-requires c κs = search needs
+no-value-coded-requires : tie.Need-no-value-coded-requires
+no-value-coded-requires c κs = search needs
 
-absent-requires-2 : tie.Need-absent-requires-2
-absent-requires-2 c κs = search needs
+no-value-coded-requires-2 : tie.Need-no-value-coded-requires-2
+no-value-coded-requires-2 c κs = search needs
 
 in-bound-requires : tie.Need-in-bound-requires
 in-bound-requires c κs = search needs
@@ -19,11 +19,11 @@ in-bound-requires c κs = search needs
 in-bound-requires-2 : tie.Need-in-bound-requires-2
 in-bound-requires-2 c κs = search needs
 
-absent-requires-3 : tie.Need-absent-requires-3
-absent-requires-3 c κs = search needs
+no-value-coded-requires-3 : tie.Need-no-value-coded-requires-3
+no-value-coded-requires-3 c κs = search needs
 
-absent-requires-4 : tie.Need-absent-requires-4
-absent-requires-4 c κs = search needs
+no-value-coded-requires-4 : tie.Need-no-value-coded-requires-4
+no-value-coded-requires-4 c κs = search needs
 
 applied-requires : tie.Need-applied-requires
 applied-requires c κs =
@@ -35,12 +35,12 @@ applied-requires c κs =
 returns : tie.Need-returns
 returns c =
     let s = c .before .before in
-    held-result (record { sfits = c .absent .ok }) (c .absent .ensures ∙ ap coded (byKind-low (s .args .kind) (s .args .a) (s .args .b) (c .before .if1 .taken)))
+    held-result (record { sfits = c .no-value-coded .ok }) (c .no-value-coded .ensures ∙ ap coded (byKind-low (s .args .kind) (s .args .a) (s .args .b) (c .before .if1 .taken)))
 
 returns-2 : tie.Need-returns-2
 returns-2 c =
     let s = c .before .before .before in
-    held-result (record { sfits = c .absent2 .ok }) (c .absent2 .ensures ∙ ap coded (byKind-high (s .args .kind) (s .args .a) (s .args .b) (c .before .before .if1 .left) (c .before .if2 .taken)))
+    held-result (record { sfits = c .no-value-coded2 .ok }) (c .no-value-coded2 .ensures ∙ ap coded (byKind-high (s .args .kind) (s .args .a) (s .args .b) (c .before .before .if1 .left) (c .before .if2 .taken)))
 
 returns-3 : tie.Need-returns-3
 returns-3 c =
@@ -55,27 +55,27 @@ returns-4 c =
     let s = c .before .before .before .before .before .before .before in
     let left = held-test (s .args .a) (s .fits .a) (c .before .before .before .before .in-bound .ensures) (c .before .before .before .if3 .taken) in
     let right = held-test (s .args .b) (s .fits .b) (c .before .before .in-bound2 .ensures) (c .before .if4 .left) in
-    held-result (record { sfits = c .absent3 .ok }) (c .absent3 .ensures ∙ ap coded (byKind-right (s .args .kind) (s .args .a) (s .args .b) (c .before .before .before .before .before .before .if1 .left) (c .before .before .before .before .before .if2 .left) left right))
+    held-result (record { sfits = c .no-value-coded3 .ok }) (c .no-value-coded3 .ensures ∙ ap coded (byKind-right (s .args .kind) (s .args .a) (s .args .b) (c .before .before .before .before .before .before .if1 .left) (c .before .before .before .before .before .if2 .left) left right))
 
 returns-5 : tie.Need-returns-5
 returns-5 c =
     let s = c .before .before .before .before .before in
     let left = held-test (s .args .a) (s .fits .a) (c .before .before .in-bound .ensures) (c .before .if3 .left) in
-    held-result (record { sfits = c .absent4 .ok }) (c .absent4 .ensures ∙ ap coded (byKind-left (s .args .kind) (s .args .a) (s .args .b) (c .before .before .before .before .if1 .left) (c .before .before .before .if2 .left) left))
+    held-result (record { sfits = c .no-value-coded4 .ok }) (c .no-value-coded4 .ensures ∙ ap coded (byKind-left (s .args .kind) (s .args .a) (s .args .b) (c .before .before .before .before .if1 .left) (c .before .before .before .if2 .left) left))
 
 pub apply-coded-spec : {M : Type 1} → statement M
 apply-coded-spec =
     tie.close
     (tie.spec
-    absent-requires
+    no-value-coded-requires
     returns
-    absent-requires-2
+    no-value-coded-requires-2
     returns-2
     in-bound-requires
     in-bound-requires-2
     applied-requires
-    absent-requires-3
-    absent-requires-4
+    no-value-coded-requires-3
+    no-value-coded-requires-4
     returns-3
     returns-4
     returns-5)

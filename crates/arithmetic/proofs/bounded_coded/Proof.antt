@@ -10,8 +10,8 @@ use Rattle.arithmetic.proofs.bounded_coded.Tie as tie
 in-bound-requires : tie.Need-in-bound-requires
 in-bound-requires c κs = search needs
 
-absent-requires : tie.Need-absent-requires
-absent-requires c κs = search needs
+no-value-coded-requires : tie.Need-no-value-coded-requires
+no-value-coded-requires c κs = search needs
 
 returns : tie.Need-returns
 returns c =
@@ -21,8 +21,8 @@ returns c =
 returns-2 : tie.Need-returns-2
 returns-2 c =
     let s = c .before .before .before in
-    held-result (record { sfits = c .absent .ok })
-    (c .absent .ensures ∙ ap coded (bounded-no (s .args .z) (s .fits .z) (sym (c .before .before .in-bound .ensures) ∙ c .before .if1 .left)))
+    held-result (record { sfits = c .no-value-coded .ok })
+    (c .no-value-coded .ensures ∙ ap coded (bounded-no (s .args .z) (s .fits .z) (sym (c .before .before .in-bound .ensures) ∙ c .before .if1 .left)))
 
 pub bounded-coded-spec : {M : Type 1} → statement M
-bounded-coded-spec = tie.close (tie.spec in-bound-requires absent-requires returns returns-2)
+bounded-coded-spec = tie.close (tie.spec in-bound-requires no-value-coded-requires returns returns-2)

@@ -44,7 +44,7 @@ over-ends-requires c κs = (c .before .before .before .before .before .before .i
 returns-5 : tie.Need-returns-5
 returns-5 c =
     c .over-ends .ensures
-    ∙ kind-ends (c .before .before .before .before .before .before .before .before .args .kind) (c .before .before .before .before .before .before .before .before .args .a) (c .before .before .before .before .before .before .before .before .args .b) (c .before .before .before .before .before .before .before .if1 .left) (c .before .before .before .before .before .before .if2 .left) (sym (c .before .before .before .before .before .usable .ensures) ∙ not-false _ (c .before .before .before .before .if3 .left)) (sym (c .before .before .before .usable2 .ensures) ∙ not-false _ (c .before .before .if4 .left)) (c .before .if5 .taken)
+    ∙ kind-ends (c .before .before .before .before .before .before .before .before .args .kind) (c .before .before .before .before .before .before .before .before .args .a) (c .before .before .before .before .before .before .before .before .args .b) (c .before .before .before .before .before .before .before .if1 .left) (c .before .before .before .before .before .before .if2 .left) (sym (c .before .before .before .before .before .usable .ensures) ∙ not-false _ (c .before .before .before .before .if3 .left)) (sym (c .before .before .before .usable2 .ensures) ∙ not-false _ (c .before .before .if4 .left))
 
 around-requires : tie.Need-around-requires
 around-requires c κs = sym (c .before .before .before .before .before .usable .ensures) ∙ not-false _ (c .before .before .before .before .if3 .left)

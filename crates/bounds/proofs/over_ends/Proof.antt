@@ -1,6 +1,5 @@
 -- `bounds::over_ends` meets its contract: the four results span the interval.
 use mathlib.Core.Path.{_∙_}
-use native.Mathlib.Omega.{arith}
 use borrow.Author.Needs.{needs}
 use Rattle.bounds.proofs.Ranges.{over-ends}
 use Rattle.bounds.proofs.over_ends.Statement.{statement}
@@ -24,7 +23,7 @@ span-values-requires c κs = search needs
 returns : tie.Need-returns
 returns c =
     let s = c .before .before .before .before .before .before .before .before .before in
-    c .span-values .ensures ∙ over-ends (s .args .kind) (s .args .a) (s .args .b) (s .pre .0) (omega (arith, s .pre .1)) (s .pre .2) (s .pre .3) (c .before .before .before .before .apply .ensures) (c .before .before .before .apply2 .ensures) (c .before .before .apply3 .ensures) (c .before .apply4 .ensures)
+    c .span-values .ensures ∙ over-ends (s .args .a) (s .args .b) (s .pre .2) (s .pre .3) (s .args .kind) (s .pre .0) (s .pre .1) _ _ _ _ (c .before .before .before .before .apply .ensures) (c .before .before .before .apply2 .ensures) (c .before .before .apply3 .ensures) (c .before .apply4 .ensures)
 
 pub over-ends-spec : {M : Type 1} → statement M
 over-ends-spec =

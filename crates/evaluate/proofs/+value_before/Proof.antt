@@ -14,9 +14,9 @@ use Rattle.nodes.specs.Evaluate.{Nodes, View, stored, view, valueBefore}
 use Rattle.nodes.proofs.Parts.{left-before}
 use Rattle.nodes.proofs.left_end.Reads as left-end-reads
 use Rattle.arithmetic.specs.Coded.{coded}
-use Rattle.arithmetic.proofs.absent.Reads as absent-reads
 use Rattle.arithmetic.proofs.apply_coded.Reads as apply-coded-reads
 use Rattle.arithmetic.proofs.in_bound.Reads as in-bound-reads
+use Rattle.arithmetic.proofs.no_value_coded.Reads as no-value-coded-reads
 use Rattle.arithmetic.proofs.nonzero.Reads as nonzero-reads
 use Rattle.arithmetic.proofs.Operators.{later}
 use Rattle.arithmetic.proofs.Coded.{held-result}
@@ -27,7 +27,7 @@ use Rattle.evaluate.proofs.negated_by.Reads as negated-by-reads
 use Rattle.evaluate.proofs.negations.Reads as negations-reads
 use Rattle.evaluate.proofs.numbered.Reads as numbered-reads
 use Rattle.evaluate.proofs.shifted.Reads as shifted-reads
-use Rattle.evaluate.proofs.Decoding.{held-before, read-before, value-there, value-absent}
+use Rattle.evaluate.proofs.Decoding.{held-before, read-before, value-there, value-missing}
 use Rattle.evaluate.proofs.Leaves.{not-leaf}
 use Rattle.evaluate.proofs.Recursion.{ready-leaf, ready-part, leaf-before, part-operand, leaf-operand, stored-arm, first-arm, next-none-arm, negation-arm, then-arm, else-arm, untested-arm, fby-left-arm, fby-window-arm, operator-arm}
 use Rattle.evaluate.proofs.value_before.Reads as reads
@@ -59,8 +59,8 @@ claims t = (
   reads.Post,
   numbered-reads.Asked,
   numbered-reads.Learnt,
-  absent-reads.Asked,
-  absent-reads.Learnt,
+  no-value-coded-reads.Asked,
+  no-value-coded-reads.Learnt,
   negations-reads.Asked,
   negations-reads.Learnt,
   negated-by-reads.Asked,
@@ -184,8 +184,8 @@ element-copy-out-numbered t c =
 numbered-requires : Each lts.Need-numbered-requires
 numbered-requires t c κs = search needs
 
-absent-requires : Each lts.Need-absent-requires
-absent-requires t c κs = search needs
+no-value-coded-requires : Each lts.Need-no-value-coded-requires
+no-value-coded-requires t c κs = search needs
 
 negations-requires : Each lts.Need-negations-requires
 negations-requires t c κs =
@@ -287,8 +287,8 @@ value-before-requires-4 t c κs =
     (λ w. omega (arith, w .1)) (c .before .before .if6 .came) in
     (omega (arith, s .pre .0, n .0, m .moved .ends-within), ready-part (c .before .before .if6 .branch) (q) r (omega arith) (r .place-within))
 
-absent-requires-2 : Each lts.Need-absent-requires-2
-absent-requires-2 t c κs = search needs
+no-value-coded-requires-2 : Each lts.Need-no-value-coded-requires-2
+no-value-coded-requires-2 t c κs = search needs
 
 left-end-requires-3 : Each lts.Need-left-end-requires-3
 left-end-requires-3 t c κs = search needs
@@ -406,8 +406,8 @@ returns-5 t c =
     let d = c .before .before .before .before .before .shifted .result .end in
     let q = c .before .before .before .before .before .shifted .result .place in
     let n = not-leaf (s .args .kinds .now) d (sym (c .before .before .before .before .is-leaf .ensures) ∙ c .before .before .before .if1 .left) in
-    held-result (record { sfits = c .absent .ok })
-    (c .absent .ensures ∙ ap coded (next-none-arm (nodes t s) (seen t s) q d (n .0) (c .before .match .keys2) (s .pre .1 .count-places) (m .next-last (n .0) (c .before .match .keys2)) ∙ m .moved .same-value (nodes t s) (seen t s) refl (s .pre .1 .count-places)))
+    held-result (record { sfits = c .no-value-coded .ok })
+    (c .no-value-coded .ensures ∙ ap coded (next-none-arm (nodes t s) (seen t s) q d (n .0) (c .before .match .keys2) (s .pre .1 .count-places) (m .next-last (n .0) (c .before .match .keys2)) ∙ m .moved .same-value (nodes t s) (seen t s) refl (s .pre .1 .count-places)))
 
 returns-6 : Each lts.Need-returns-6
 returns-6 t c =
@@ -472,8 +472,8 @@ returns-9 t c =
     (⊎-elim
     (λ w. leaf-operand (nodes t s) (seen t s) q (c .before .before .before .before .before .left-end2 .result) (record { sfits = w .1 .ok }) (w .2) (c .before .before .before .before .is-leaf3 .ensures) (w .0 .taken) (w .1 .ensures))
     (λ w. part-operand (nodes t s) (seen t s) q (c .before .before .before .before .before .left-end2 .result) (record { sfits = w .1 .ok }) (w .2) (w .1 .ensures)) (c .before .before .before .if4 .came)) in
-    held-result (record { sfits = c .absent2 .ok })
-    (c .absent2 .ensures ∙ ap coded (untested-arm (nodes t s) (seen t s) q d (n .0) (c .before .before .before .before .before .before .before .before .before .match .keys4) (c .before .before .before .before .before .before .before .left-end .ensures) (c .before .before .before .before .before .left-end2 .ensures) (value-absent (toZ w64 (c .before .before .before .if4 .test)) test (sym (c .before .before .in-bound .ensures) ∙ c .before .if5 .left)) refl ∙ m .moved .same-value (nodes t s) (seen t s) refl (s .pre .1 .count-places)))
+    held-result (record { sfits = c .no-value-coded2 .ok })
+    (c .no-value-coded2 .ensures ∙ ap coded (untested-arm (nodes t s) (seen t s) q d (n .0) (c .before .before .before .before .before .before .before .before .before .match .keys4) (c .before .before .before .before .before .before .before .left-end .ensures) (c .before .before .before .before .before .left-end2 .ensures) (value-missing (toZ w64 (c .before .before .before .if4 .test)) test (sym (c .before .before .in-bound .ensures) ∙ c .before .if5 .left)) refl ∙ m .moved .same-value (nodes t s) (seen t s) refl (s .pre .1 .count-places)))
 
 returns-10 : Each lts.Need-returns-10
 returns-10 t c =
@@ -530,7 +530,7 @@ pub +value-before-spec : {M : Type 1} → statement M
     (mul-numbered t)
     (element-copy-out-numbered t)
     (numbered-requires t)
-    (absent-requires t)
+    (no-value-coded-requires t)
     (negations-requires t)
     (value-before-requires-2 t)
     (negated-by-requires t)
@@ -544,7 +544,7 @@ pub +value-before-spec : {M : Type 1} → statement M
     (is-leaf-requires-4 t)
     (leaf-requires-4 t)
     (value-before-requires-4 t)
-    (absent-requires-2 t)
+    (no-value-coded-requires-2 t)
     (left-end-requires-3 t)
     (value-before-requires-5 t)
     (left-end-requires-4 t)

@@ -8,14 +8,14 @@ use Rattle.evaluate.proofs.Leaves.{leaf-none, leaf-integer, leaf-name}
 use Rattle.evaluate.proofs.leaf.Statement.{statement}
 use Rattle.evaluate.proofs.leaf.Tie as tie
 
-absent-requires : tie.Need-absent-requires
-absent-requires c κs = search needs
+no-value-coded-requires : tie.Need-no-value-coded-requires
+no-value-coded-requires c κs = search needs
 
 returns : tie.Need-returns
 returns c =
     let a = c .before .before .args in
-    held-result (record { sfits = c .absent .ok })
-    (c .absent .ensures ∙ ap coded (leaf-none (a .kinds .now) (a .end) (a .values .now) (a .window .now) (a .streams) (a .place) (c .before .if1 .taken)))
+    held-result (record { sfits = c .no-value-coded .ok })
+    (c .no-value-coded .ensures ∙ ap coded (leaf-none (a .kinds .now) (a .end) (a .values .now) (a .window .now) (a .streams) (a .place) (c .before .if1 .taken)))
 
 sub-i : tie.Need-sub-i
 sub-i c = search needs
@@ -57,7 +57,7 @@ pub leaf-spec : {M : Type 1} → statement M
 leaf-spec =
     tie.close
     (tie.spec
-    absent-requires
+    no-value-coded-requires
     returns
     sub-i
     element-copy-out-if2

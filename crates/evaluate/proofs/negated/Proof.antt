@@ -3,7 +3,7 @@ use mathlib.Core.Path.{_∙_}
 use borrow.Author.Needs.{needs}
 use Rattle.arithmetic.proofs.Operators.{held-test}
 use Rattle.arithmetic.proofs.Coded.{held-result}
-use Rattle.evaluate.proofs.Leaves.{negated-there, negated-absent}
+use Rattle.evaluate.proofs.Leaves.{negated-there, negated-missing}
 use Rattle.evaluate.proofs.negated.Statement.{statement}
 use Rattle.evaluate.proofs.negated.Tie as tie
 
@@ -16,8 +16,8 @@ nonzero-requires c κs = search needs
 bit-requires : tie.Need-bit-requires
 bit-requires c κs = search needs
 
-absent-requires : tie.Need-absent-requires
-absent-requires c κs = search needs
+no-value-coded-requires : tie.Need-no-value-coded-requires
+no-value-coded-requires c κs = search needs
 
 returns : tie.Need-returns
 returns c =
@@ -28,8 +28,8 @@ returns c =
 returns-2 : tie.Need-returns-2
 returns-2 c =
     let s = c .before .before .before in
-    held-result (record { sfits = c .absent .ok })
-    (c .absent .ensures ∙ negated-absent (s .args .a) (s .fits .a) (held-test (s .args .a) (s .fits .a) (c .before .before .in-bound .ensures) (c .before .if1 .left)))
+    held-result (record { sfits = c .no-value-coded .ok })
+    (c .no-value-coded .ensures ∙ negated-missing (s .args .a) (s .fits .a) (held-test (s .args .a) (s .fits .a) (c .before .before .in-bound .ensures) (c .before .if1 .left)))
 
 pub negated-spec : {M : Type 1} → statement M
-negated-spec = tie.close (tie.spec in-bound-requires nonzero-requires bit-requires absent-requires returns returns-2)
+negated-spec = tie.close (tie.spec in-bound-requires nonzero-requires bit-requires no-value-coded-requires returns returns-2)

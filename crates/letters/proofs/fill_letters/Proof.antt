@@ -6,7 +6,7 @@ use native.Mathlib.Nat.{zero-mul, suc-mul}
 use native.Mathlib.Omega.{arith}
 use lib.ListN.{length}
 use borrow.Author.Needs.{needs}
-use Rattle.letters.proofs.AllLetters.{filled, too-many, no-letter, no-room, filled-start, filled-again, letter-fits, letter-there, all-filled}
+use Rattle.letters.proofs.AllLetters.{filled, too-many, no-letter, no-room, filled-start, filled-again, letter-fits, can-write-next, all-filled}
 use Rattle.letters.proofs.Widths.{count-fits}
 use Rattle.letters.proofs.fill_letters.Statement.{statement}
 use Rattle.letters.proofs.fill_letters.Tie as tie
@@ -69,7 +69,7 @@ write-letter-requires c κs =
     let loop = c .before .before .loop in
     let n = c .before .before .before .before .fewer .result in
     let wide : loop .at + n - loop .at ≡ n = omega arith in
-    letter-there (s .args .lows .now) (s .args .highs .now) (s .args .out .now) (c .before .before .before .before .before .before .before .letter-count .ensures) (c .before .before .before .before .before .before .if1 .left) (c .before .before .before .before .fewer .ensures) (c .before .before .before .before .before .if2 .left) (c .before .before .before .if3 .left) (loop .number) (c .before .loop-test .taken)
+    can-write-next (s .args .lows .now) (s .args .highs .now) (s .args .out .now) (c .before .before .before .before .before .before .before .letter-count .ensures) (c .before .before .before .before .before .before .if1 .left) (c .before .before .before .before .fewer .ensures) (c .before .before .before .before .before .if2 .left) (c .before .before .before .if3 .left) (loop .number) (c .before .loop-test .taken)
     (loop .out) (loop .inv .2) wide (loop .inv .0)
 
 add-number : tie.Need-add-number Inv-loop μ-loop

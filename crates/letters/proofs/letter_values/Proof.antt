@@ -24,20 +24,20 @@ returns-3 : tie.Need-returns-3
 returns-3 c = let s = c .before .before .before .before .before in no-room (s .args .lows .now) (s .args .highs .now) (s .args .number) (s .args .out .now) (c .before .before .before .before .letter-count .ensures) (c .before .before .before .if1 .left) (c .before .before .if2 .left) (c .before .fewer .ensures) (c .if3 .taken)
 
 -- The letter is there, with room.
-letter-there : (c : tie.Else3)
+can-write-here : (c : tie.Else3)
     → hasLetter (described (c .before .before .before .before .before .args .lows .now) (c .before .before .before .before .before .args .highs .now)) (c .before .before .before .before .before .args .number) (length (c .before .before .before .before .before .args .out .now)) ≡ true
-letter-there c =
+can-write-here c =
     let s = c .before .before .before .before .before in
     can-write (s .args .lows .now) (s .args .highs .now) (s .args .number) (s .args .out .now) (c .before .before .before .before .letter-count .ensures) (c .before .before .before .if1 .left) (c .before .before .if2 .left) (c .before .fewer .ensures) (c .if3 .left)
 
 write-letter-requires : tie.Need-write-letter-requires
-write-letter-requires c κs = letter-there (c .before)
+write-letter-requires c κs = can-write-here (c .before)
 
 same-length : tie.Need-same-length
 same-length c = c .before .write-letter .kept .1 .1 .1 .0
 
 returns-4 : tie.Need-returns-4
-returns-4 c = (sym (letter-there (c .before .before .before)), c .before .write-letter .ensures)
+returns-4 c = (sym (can-write-here (c .before .before .before)), c .before .write-letter .ensures)
 
 pub letter-values-spec : {M : Type 1} → statement M
 letter-values-spec =

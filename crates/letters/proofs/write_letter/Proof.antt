@@ -9,10 +9,12 @@ use borrow.Author.Needs.{needs}
 use mir.Syntax.{w64}
 use mir.Val.{SFits}
 use mir.ValLaws.{toZ-ofZ}
+use Rattle.basics.proofs.Reflects.{from-true}
 use Rattle.meaning.specs.Letter.{size}
-use Rattle.letters.specs.Described.{ranged}
-use Rattle.letters.proofs.Counts.{countFrom}
-use Rattle.letters.proofs.Numbers.{size-exact, written, written-start, written-again, rest-start, rest-again, digit-fits, letter-there, all-written}
+use Rattle.letters.specs.Described.{ranged, described}
+use Rattle.letters.proofs.Counts.{length-described, countFrom}
+use Rattle.letters.proofs.Numbers.{size-exact, written, written-start, written-again, rest-start, rest-again, digit-fits, all-written}
+use Rattle.letters.proofs.Streams.{LetterThere, letter-reflects}
 use Rattle.letters.proofs.write_letter.Statement.{statement}
 use Rattle.letters.proofs.write_letter.Tie as tie
 
@@ -24,13 +26,14 @@ abbrev μ-loop : tie.MeasureT-loop
 μ-loop lows highs number out₀ i₀ rest₀ out i rest = i
 
 -- In a turn there is a letter with room, and i - 1 is a stream's number.
-there : (s : tie.Start Inv-loop μ-loop) → (s .args .number < countFrom (s .args .lows .now) (s .args .highs .now) 0)
-    × (countFrom (s .args .lows .now) (s .args .highs .now) 0 ≤ 1024)
-    × (min (length (s .args .lows .now)) (length (s .args .highs .now)) ≤ length (s .args .out .now))
-there s = letter-there (s .args .lows .now) (s .args .highs .now) (s .args .number) (s .args .out .now) (s .pre)
+there : (s : tie.Start Inv-loop μ-loop) → LetterThere (described (s .args .lows .now) (s .args .highs .now)) (s .args .number) (length (s .args .out .now))
+there s = from-true (letter-reflects (described (s .args .lows .now) (s .args .highs .now)) (s .args .number) (length (s .args .out .now))) (s .pre)
 
 some-letter : (s : tie.Start Inv-loop μ-loop) → 0 < countFrom (s .args .lows .now) (s .args .highs .now) 0
-some-letter s = omega (arith, there s .0)
+some-letter s = omega (arith, there s .known)
+
+room-there : (s : tie.Start Inv-loop μ-loop) → min (length (s .args .lows .now)) (length (s .args .highs .now)) ≤ length (s .args .out .now)
+room-there s = omega (arith, there s .fits, length-described (s .args .lows .now) (s .args .highs .now))
 
 stream-there : (c : tie.In-loop Inv-loop μ-loop)
     → c .before .loop .i - 1 < min (length (c .before .before .before .args .lows .now)) (length (c .before .before .before .args .highs .now))
@@ -42,7 +45,7 @@ exact : (c : tie.After-values Inv-loop μ-loop)
 exact c =
     let s = c .before .before .before .before .before .before in
     let t = c .before .before .before in
-    size-exact (s .args .lows .now) (s .args .highs .now) (some-letter s) (there s .1) (c .before .before .before .before .loop .i - 1) (stream-there t) (record { sfits = c .before .before .values-arg .given })
+    size-exact (s .args .lows .now) (s .args .highs .now) (some-letter s) (there s .few) (c .before .before .before .before .loop .i - 1) (stream-there t) (record { sfits = c .before .before .values-arg .given })
     (record { sfits = c .before .values-arg2 .given }) (c .values .ensures)
 
 fewer-requires : tie.Need-fewer-requires Inv-loop μ-loop
@@ -94,7 +97,7 @@ mul-t14 : tie.Need-mul-t14 Inv-loop μ-loop
 mul-t14 c = omega (arith, c .before .before .before .before .before .before .loop .inv .0, c .before .before .before .before .before .before .before .before .good)
 
 slice-set-from-out : tie.Need-slice-set-from-out Inv-loop μ-loop
-slice-set-from-out c = omega (arith, c .before .before .before .before .before .before .loop .inv .0, c .before .before .before .before .before .before .loop .inv .1, there (c .before .before .before .before .before .before .before .before) .2)
+slice-set-from-out c = omega (arith, c .before .before .before .before .before .before .loop .inv .0, c .before .before .before .before .before .before .loop .inv .1, room-there (c .before .before .before .before .before .before .before .before))
 
 div-rest : tie.Need-div-rest Inv-loop μ-loop
 div-rest c = exact (c .before .before) .1
@@ -115,7 +118,7 @@ loop-again c =
       omega (arith, loop .inv .0),
       length-set (loop .out) i _ ∙ loop .inv .1,
       written-again (s .args .lows .now) (s .args .highs .now) (s .args .number) (s .args .out .now) (some-letter s) i (stream-there t)
-          (there s .2) (loop .inv .2 ∙ ap (written (s .args .lows .now) (s .args .highs .now) (s .args .number) (s .args .out .now)) n) rest size
+          (room-there s) (loop .inv .2 ∙ ap (written (s .args .lows .now) (s .args .highs .now) (s .args .number) (s .args .out .now)) n) rest size
           (toZ-ofZ w64 (c .raised .result) (record { sfits = c .raised .ok }) ∙ c .raised .ensures
           ∙ ap (λ z. z +ℤ pos (loop .rest % c .before .before .values .result)) (toZ-ofZ w64 low (record { sfits = c .before .before .before .before .values-arg .given }))),
       rest-again (s .args .lows .now) (s .args .highs .now) (s .args .number) i (stream-there t) rest size,

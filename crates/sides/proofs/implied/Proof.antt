@@ -1,4 +1,4 @@
--- `judge::implied` meets its contract, by its test.
+-- `sides::implied` meets its contract, by its test.
 use Rattle.sides.proofs.Signs.{implied-so, implied-else}
 use borrow.Author.Needs.{needs}
 use Rattle.sides.proofs.implied.Statement.{statement}

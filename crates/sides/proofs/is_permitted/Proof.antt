@@ -1,9 +1,9 @@
--- `judge::is_permitted` meets its contract, by its test.
+-- `sides::is_permitted` meets its contract, by its test and from the value of the left side.
 use mathlib.Core.Path.{_∙_, sym, ap}
-use mir.Syntax.{w64}
-use mir.ValLaws.{toZ-ofZ}
-use Rattle.meaning.specs.Value.{truth}
 use borrow.Author.Needs.{needs}
+use Rattle.meaning.specs.Value.{truth}
+use Rattle.nodes.specs.Evaluate.{stored, view}
+use Rattle.sides.proofs.Values.{value-given}
 use Rattle.sides.proofs.is_permitted.Statement.{statement}
 use Rattle.sides.proofs.is_permitted.Tie as tie
 
@@ -13,14 +13,16 @@ returns c = search needs
 value-of-requires : tie.Need-value-of-requires
 value-of-requires c κs = search needs
 
-nonzero-requires : tie.Need-nonzero-requires
-nonzero-requires c κs = search needs
+truth-requires : tie.Need-truth-requires
+truth-requires c κs = search needs
 
 returns-2 : tie.Need-returns-2
 returns-2 c =
     let value = c .before .value-of in
-    c .nonzero .ensures ∙ ap truth (toZ-ofZ w64 (value .result) (record { sfits = value .ok }) ∙ value .ensures)
+    let a = c .before .before .before .args in
+    c .truth .ensures
+    ∙ ap truth (value-given (stored (a .kinds .now) (a .values .now) (a .starts .now)) (view (a .window .now) (a .streams) (a .firsts .now) (a .whole)) (a .left) (a .place) (record { sfits = value .ok }) (value .ensures))
     ∙ sym (simp (c .before .before .if1 .left))
 
 pub is-permitted-spec : {M : Type 1} → statement M
-is-permitted-spec = tie.close (tie.spec returns value-of-requires nonzero-requires returns-2)
+is-permitted-spec = tie.close (tie.spec returns value-of-requires truth-requires returns-2)

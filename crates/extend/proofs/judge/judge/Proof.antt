@@ -7,6 +7,7 @@ use native.Mathlib.Omega.{arith}
 use borrow.Author.Needs.{needs}
 use borrow.Author.Tests.{not-true, not-false}
 use lib.ListN.{length}
+use Rattle.nodes.specs.Bounded.{valueIn}
 use Rattle.nodes.specs.Evaluate.{stored, view, nodeValue}
 use Rattle.extend.proofs.JudgeLaws.{Told, told-start, weight-small, told-until, until-unlawful, told-sign, sign-unlawful, told-fits, told-end}
 use Rattle.extend.proofs.judge.judge.Statement.{statement}
@@ -14,7 +15,7 @@ use Rattle.extend.proofs.judge.judge.Tie as tie
 
 abbrev Inv-loop : tie.InvT-loop
 Inv-loop kinds values starts relations lefts rights window streams firsts place whole marks marking₀ j₀ marking j =
-    Told relations lefts rights (λ node. nodeValue (stored kinds values starts) (view window streams firsts whole) node place .value) marks marking j
+    Told relations lefts rights (λ node. valueIn (nodeValue (stored kinds values starts) (view window streams firsts whole) node place)) marks marking j
 
 abbrev μ-loop : tie.MeasureT-loop
 μ-loop kinds values starts relations lefts rights window streams firsts place whole marks marking₀ j₀ marking j = length relations - j

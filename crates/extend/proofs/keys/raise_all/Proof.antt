@@ -1,12 +1,12 @@
 -- `keys::raise_all` meets its contract: before each turn the places passed hold the values of the nodes, raised.
-use mir.Syntax.{w64}
-use mir.ValLaws.{toZ-ofZ}
 use Prim.Native.Nat.{_≤_, _-_}
 use mathlib.Core.Path.{_≡_, refl, ap, _∙_}
 use native.Mathlib.Omega.{arith}
 use mathlib.Core.List.{map}
 use lib.ListN.{length, take, length-set}
+use Rattle.nodes.specs.Bounded.{valueIn}
 use Rattle.nodes.specs.Evaluate.{stored, view, nodeValue}
+use Rattle.sides.proofs.Values.{value-given}
 use Rattle.extend.specs.Key.{raised}
 use Rattle.extend.proofs.KeyLists.{mapped-more, mapped-all}
 use borrow.Author.Needs.{needs}
@@ -14,7 +14,7 @@ use Rattle.extend.proofs.keys.raise_all.Statement.{statement}
 use Rattle.extend.proofs.keys.raise_all.Tie as tie
 
 abbrev Inv-loop : tie.InvT-loop
-Inv-loop kinds values starts first-nodes window streams firsts whole numbers₀ i₀ numbers i = (i ≤ length first-nodes) × (take i numbers ≡ map (λ node. raised (nodeValue (stored kinds values starts) (view window streams firsts whole) node 0 .value)) (take i first-nodes)) × (length numbers ≡ length numbers₀)
+Inv-loop kinds values starts first-nodes window streams firsts whole numbers₀ i₀ numbers i = (i ≤ length first-nodes) × (take i numbers ≡ map (λ node. raised (valueIn (nodeValue (stored kinds values starts) (view window streams firsts whole) node 0))) (take i first-nodes)) × (length numbers ≡ length numbers₀)
 
 abbrev μ-loop : tie.MeasureT-loop
 μ-loop kinds values starts first-nodes window streams firsts whole numbers₀ i₀ numbers i = length first-nodes - i
@@ -56,7 +56,7 @@ loop-again c =
     let value = c .before .value-of in (
       omega arith,
       mapped-more _ (start .args .first-nodes .now) (at-loop .loop .numbers) (at-loop .loop .i) 0 _ (c .before .before .before .loop-test .taken) (omega arith)
-          (c .raised .ensures ∙ ap raised (toZ-ofZ w64 (value .result) (record { sfits = value .ok }) ∙ value .ensures)) (at-loop .loop .inv .1),
+          (c .raised .ensures ∙ ap raised (value-given _ _ _ 0 (record { sfits = value .ok }) (value .ensures))) (at-loop .loop .inv .1),
       simp length-set (at-loop .loop .inv .2),
     )
 

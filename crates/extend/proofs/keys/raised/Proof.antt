@@ -1,7 +1,6 @@
 -- `keys::raised` meets its contract, by its test.
-use mathlib.Core.Path.{sym}
 use Rattle.arithmetic.proofs.Operators.{held-test, inBound-Small}
-use Rattle.extend.proofs.KeyNumbers.{held-sum-fits, held-sum-casts, held-sum-raised}
+use Rattle.extend.proofs.KeyNumbers.{held-sum-fits, held-sum-casts, held-sum-raised, raised-absent}
 use borrow.Author.Needs.{needs}
 use Rattle.extend.proofs.keys.raised.Statement.{statement}
 use Rattle.extend.proofs.keys.raised.Tie as tie
@@ -28,7 +27,7 @@ returns c =
 returns-2 : tie.Need-returns-2
 returns-2 c =
     let start = c .before .before in
-    sym (simp (held-test (start .args .z) (start .fits .z) (c .before .in-bound .ensures) (c .if1 .left)))
+    raised-absent (start .args .z) (held-test (start .args .z) (start .fits .z) (c .before .in-bound .ensures) (c .if1 .left))
 
 pub raised-spec : {M : Type 1} → statement M
 raised-spec = tie.close (tie.spec in-bound-requires add-result cast-result returns returns-2)
