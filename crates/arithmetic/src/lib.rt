@@ -20,7 +20,7 @@ pub fn in_bound(z: i64) -> bool
     z <= 1000000000
 }
 
-pub fn no_value() -> Evaluated
+fn no_value() -> Evaluated
     ensures { λ r. ⌜ r ≡ noValue ⌝ }
 {
     Evaluated {
@@ -30,7 +30,7 @@ pub fn no_value() -> Evaluated
 }
 
 // The value itself, where it is within the bound.
-pub fn bounded(z: i64) -> Evaluated
+fn bounded(z: i64) -> Evaluated
     ensures { λ r. ⌜ r ≡ bounded z ⌝ }
 {
     if in_bound(z) {

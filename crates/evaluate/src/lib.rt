@@ -1,12 +1,9 @@
 use arithmetic::apply_coded;
 use arithmetic::bit;
-use arithmetic::bounded;
 use arithmetic::bounded_coded;
 use arithmetic::in_bound;
-use arithmetic::no_value;
 use arithmetic::no_value_coded;
 use arithmetic::nonzero;
-use nodes::Evaluated;
 use nodes::left_end;
 ghost use mathlib.Core.Path.{_≡_};
 ghost use Prim.Native.Nat.{_/_, _≤_, _<_};
@@ -19,7 +16,7 @@ ghost use Rattle.evaluate.specs.Negation.{negatedBy, Negates};
 ghost use Rattle.evaluate.specs.Ready.{Ready};
 ghost use Rattle.evaluate.specs.Shift.{Shifts};
 
-// The private functions answer a value or no value as one number, which comes back in a register.
+// A value or no value is answered as one number, which comes back in a register.
 
 // The stored value with a number.
 fn numbered(list: &[i64], number: i64) -> i64
@@ -367,8 +364,8 @@ pub fn evaluate(
     firsts: &[i64],
     place: usize,
     whole: bool,
-) -> Evaluated
-    ensures { λ r. ⌜ r ≡ nodeValue (stored (now (kinds .entry)) (now (values .entry)) (now (starts .entry))) (view (now (window .entry)) streams (now (firsts .entry)) whole) root place ⌝ }
+) -> i64
+    ensures { λ r. ⌜ r ≡ coded (nodeValue (stored (now (kinds .entry)) (now (values .entry)) (now (starts .entry))) (view (now (window .entry)) streams (now (firsts .entry)) whole) root place) ⌝ }
 {
     // The proof learns how many elements an array has where a slice is made of it. These three are only for that and take no time.
     let kind_list: &[u8] = kinds;
@@ -376,24 +373,24 @@ pub fn evaluate(
     let start_list: &[u16] = starts;
     let count = places(window.len(), streams);
     if 1024 <= root {
-        return no_value();
+        return no_value_coded();
     }
     if count <= place {
-        return no_value();
+        return no_value_coded();
     }
     let inner = shifted(kinds, count, root + 1, place);
     let end = inner.end;
     let at = inner.place;
     if is_leaf(kinds, end) {
-        return bounded(leaf(kinds, values, window, streams, end, at));
+        return leaf(kinds, values, window, streams, end, at);
     }
     let i = end - 1;
     if kinds[i] == nodes::FIRST_NODE {
         if !whole {
-            return bounded(numbered(firsts, values[i]));
+            return numbered(firsts, values[i]);
         }
     }
-    bounded(value_before(
+    value_before(
         kinds,
         values,
         starts,
@@ -404,5 +401,5 @@ pub fn evaluate(
         count,
         end,
         at,
-    ))
+    )
 }

@@ -1,7 +1,7 @@
 // Reading a key, and writing the key of a record with one more letter.
 use arithmetic::in_bound;
 use basics::fewer;
-use sides::value_of;
+use evaluate::evaluate;
 use sizes::FIRSTS_PLACE;
 use sizes::MARKS_PLACE;
 use sizes::STREAM_BOUND;
@@ -162,7 +162,7 @@ pub fn raise_all(
     let mut i = 0;
     while i < first_nodes.len() {
         let node = first_nodes[i] as usize;
-        numbers[i] = raised(value_of(
+        numbers[i] = raised(evaluate(
             kinds,
             values,
             starts,

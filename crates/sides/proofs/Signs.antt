@@ -2,8 +2,8 @@
 use Prim.Native.Nat.{ℕ, _≤_}
 use native.Mathlib.Omega.{arith}
 use native.Mathlib.Decide.{ℕ-discrete}
-use mathlib.Core.Path.{_≡_, sym, _∙_, ap, ap₂}
-use mathlib.Core.Bool.{Bool, true, false}
+use mathlib.Core.Path.{_≡_, refl, sym, _∙_, ap, ap₂}
+use mathlib.Core.Bool.{Bool, true, false, cond}
 use lib.IntN.{ℤ}
 use lib.ListN.{List·getD-eq-default}
 use mir.Syntax.{w64}
@@ -11,7 +11,7 @@ use mir.Val.{SFits}
 use mir.ValLaws.{toZ-ofZ}
 use Rattle.meaning.specs.Value.{nonzero, truth}
 use Rattle.meaning.specs.Expression.{Sign, implies, holds, holdsNumbers}
-use Rattle.nodes.specs.Bounded.{inBound, storedValue}
+use Rattle.nodes.specs.Bounded.{inBound, noValue, someValue, valueIn, storedValue}
 use Rattle.nodes.specs.Code.{signs, signAt}
 use Rattle.arithmetic.proofs.Machine.{held, held-both}
 use Rattle.sides.proofs.Values.{number-there, number-absent}
@@ -47,13 +47,27 @@ module _ (z : ℤ) (f : SFits w64 z) {t : Bool} (test : t ≡ inBound (held z)) 
   pub truth-absent : t ≡ false → false ≡ truth (storedValue z)
   truth-absent e = sym (ap truth (number-absent z f test e))
 
-module _ (s : Sign) (a b : ℤ) (fa : SFits w64 a) (fb : SFits w64 b) {t : Bool} (left : t ≡ inBound (held a)) where
-  pub left-absent : t ≡ false → false ≡ holds s (storedValue a) (storedValue b)
-  left-absent e = sym (ap (λ x. holds s x (storedValue b)) (number-absent a fa left e))
+module _ (s : Sign) (a b : ℤ) (fa : SFits w64 a) (fb : SFits w64 b) {n : Bool} (numbers : n ≡ holdsNumbers s (held a) (held b)) where
+  same-numbers : n ≡ holdsNumbers s a b
+  same-numbers = numbers ∙ held-both (holdsNumbers s) a b fa fb
 
-  module _ (there : t ≡ true) {u : Bool} (right : u ≡ inBound (held b)) where
-    pub right-absent : u ≡ false → false ≡ holds s (storedValue a) (storedValue b)
-    right-absent e = sym (ap₂ (holds s) (number-there a fa left there) (number-absent b fb right e))
+  -- Where the sign does not hold of the numbers, it does not hold of the values, whether they are there or not.
+  pub numbers-fail : n ≡ false → false ≡ holds s (storedValue a) (storedValue b)
+  numbers-fail e = by (inBound a) (inBound b)
+    where
+      by : (t u : Bool) → false ≡ holds s (valueIn (cond t (someValue a) noValue)) (valueIn (cond u (someValue b) noValue))
+      by true true = sym e ∙ same-numbers
+      by true false = refl
+      by false u = refl
 
-    pub both-there : {r : Bool} → u ≡ true → r ≡ holdsNumbers s (held a) (held b) → r ≡ holds s (storedValue a) (storedValue b)
-    both-there e h = h ∙ held-both (holdsNumbers s) a b fa fb ∙ sym (ap₂ (holds s) (number-there a fa left there) (number-there b fb right e))
+  module _ {t : Bool} (left : t ≡ inBound (held a)) where
+    pub left-absent : t ≡ false → false ≡ holds s (storedValue a) (storedValue b)
+    left-absent e = sym (ap (λ x. holds s x (storedValue b)) (number-absent a fa left e))
+
+    -- Where it holds of the numbers and the left value is there, it holds exactly if the right one is.
+    pub right-decides : n ≡ true → t ≡ true → {u : Bool} → u ≡ inBound (held b) → u ≡ holds s (storedValue a) (storedValue b)
+    right-decides h e {u} right = by u refl
+      where
+        by : (v : Bool) → u ≡ v → v ≡ holds s (storedValue a) (storedValue b)
+        by true q = sym (ap₂ (holds s) (number-there a fa left e) (number-there b fb right q) ∙ sym same-numbers ∙ h)
+        by false q = sym (ap₂ (holds s) (number-there a fa left e) (number-absent b fb right q))

@@ -1,29 +1,19 @@
--- Values that are given as one number: a result as its number, the value of a node from the number that a call gave, and what a test of the number
--- says of the value. From the numbers of results (arithmetic, evaluate).
+-- Values that are given as one number: the value of a node from the number that a call gave, and what a test of the number says of the value. From
+-- the numbers of results (arithmetic, evaluate).
 use Prim.Native.Nat.{ℕ}
-use mathlib.Core.Path.{_≡_, sym, _∙_, ap}
+use mathlib.Core.Path.{_≡_, ap}
 use mathlib.Core.Bool.{Bool, true, false}
 use lib.IntN.{ℤ}
 use mir.Syntax.{w64}
 use mir.Val.{SFits}
-use mir.ValLaws.{toZ-ofZ}
 use Rattle.meaning.specs.Value.{absent, number}
-use Rattle.nodes.specs.Bounded.{inBound, noValue, valueIn, storedValue}
+use Rattle.nodes.specs.Bounded.{inBound, valueIn, storedValue}
 use Rattle.nodes.specs.Evaluate.{Nodes, View, nodeValue}
-use Rattle.nodes.specs.declared.Evaluated.{Evaluated}
 use Rattle.arithmetic.specs.Coded.{coded}
 use Rattle.arithmetic.proofs.Machine.{held}
-use Rattle.arithmetic.proofs.Coded.{held-result, held-decoded}
+use Rattle.arithmetic.proofs.Coded.{held-decoded}
 use Rattle.arithmetic.proofs.Operators.{held-test}
 use Rattle.evaluate.proofs.Decoding.{decodes-node}
-
--- A result as one number.
-module _ (e : Evaluated) where
-  pub coded-there : SFits w64 (e .value) → e .ok ≡ true → held (e .value) ≡ coded e
-  coded-there f h = toZ-ofZ w64 (e .value) f ∙ sym (simp h)
-
-  pub coded-missing : {r : ℤ} → SFits w64 r → r ≡ coded noValue → e .ok ≡ false → held r ≡ coded e
-  coded-missing f q h = held-result f q ∙ sym (simp h)
 
 -- The value of a node, from the number that a call gave.
 pub value-given : (N : Nodes) (W : View) (root p : ℕ) {r : ℤ} → SFits w64 r → r ≡ coded (nodeValue N W root p) → storedValue (held r) ≡ valueIn (nodeValue N W root p)

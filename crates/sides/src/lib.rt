@@ -2,7 +2,6 @@
 use arithmetic::at_most;
 use arithmetic::in_bound;
 use arithmetic::less;
-use arithmetic::no_value_coded;
 use arithmetic::nonzero;
 use arithmetic::same;
 use evaluate::evaluate;
@@ -13,7 +12,6 @@ ghost use Rattle.meaning.specs.Expression.{holds, holdsNumbers, implies};
 ghost use Rattle.nodes.specs.Bounded.{valueIn, storedValue};
 ghost use Rattle.nodes.specs.Code.{signAt};
 ghost use Rattle.nodes.specs.Evaluate.{stored, view, nodeValue};
-ghost use Rattle.arithmetic.specs.Coded.{coded};
 ghost use Rattle.sides.specs.Mark.{odd};
 
 // Here a value is given as one number, which is beyond the magnitude bound where there is none.
@@ -46,48 +44,17 @@ fn numbers_hold(relation: u8, a: i64, b: i64) -> bool
     }
 }
 
-// What a sign asks of two values: "A comparison or implication with none on either side fails at that time".
+// What a sign asks of two values: "A comparison or implication with none on either side fails at that time". The numbers are compared first, since most
+// letters that are refused are refused by them.
 fn sign_holds(relation: u8, a: i64, b: i64) -> bool
     ensures { λ r. ⌜ r ≡ holds (signAt relation) (storedValue a) (storedValue b) ⌝ }
 {
-    if in_bound(a) {
-        if in_bound(b) {
-            return numbers_hold(relation, a, b);
+    if numbers_hold(relation, a, b) {
+        if in_bound(a) {
+            return in_bound(b);
         }
     }
     false
-}
-
-// The value of a node at a place of the window.
-pub fn value_of(
-    kinds: &[u8; 1024],
-    values: &[i64; 1024],
-    starts: &[u16; 1024],
-    root: usize,
-    window: &[i64],
-    streams: usize,
-    firsts: &[i64],
-    place: usize,
-    whole: bool,
-) -> i64
-    ensures { λ r. ⌜ r ≡ coded (nodeValue (stored (now (kinds .entry)) (now (values .entry)) (now (starts .entry))) (view (now (window .entry)) streams (now (firsts .entry)) whole) root place) ⌝ }
-{
-    let found = evaluate(
-        kinds,
-        values,
-        starts,
-        root,
-        window,
-        streams,
-        firsts,
-        place,
-        whole,
-    );
-    if found.ok {
-        found.value
-    } else {
-        no_value_coded()
-    }
 }
 
 // Whether an until is done: it was, or its right side is true; none counts as 0.
@@ -108,7 +75,7 @@ pub fn is_done(
     if marks % 2 == 1 {
         return true;
     }
-    let awaited = value_of(
+    let awaited = evaluate(
         kinds,
         values,
         starts,
@@ -140,7 +107,7 @@ pub fn is_permitted(
     if done {
         return true;
     }
-    truth(value_of(
+    truth(evaluate(
         kinds,
         values,
         starts,
@@ -169,7 +136,7 @@ pub fn sides_hold(
 ) -> bool
     ensures { λ r. ⌜ r ≡ holds (signAt relation) (valueIn (nodeValue (stored (now (kinds .entry)) (now (values .entry)) (now (starts .entry))) (view (now (window .entry)) streams (now (firsts .entry)) whole) left place)) (valueIn (nodeValue (stored (now (kinds .entry)) (now (values .entry)) (now (starts .entry))) (view (now (window .entry)) streams (now (firsts .entry)) whole) right place)) ⌝ }
 {
-    let a = value_of(
+    let a = evaluate(
         kinds,
         values,
         starts,
@@ -180,7 +147,7 @@ pub fn sides_hold(
         place,
         whole,
     );
-    let b = value_of(
+    let b = evaluate(
         kinds,
         values,
         starts,

@@ -1,6 +1,5 @@
 -- `evaluate::evaluate` meets its contract: the tests are those of the definition, since the slices tell how many elements the lists of nodes have, and the
--- rest, behind the nodes that only change the place (Shifting), is a leaf, the stored value of a `first`, or the recursion, whose number is read back
--- (Decoding).
+-- rest, behind the nodes that only change the place (Shifting), is a leaf, the stored value of a `first`, or the recursion.
 use native.Mathlib.Omega.{arith}
 use borrow.Author.Tests.{not-true}
 use mathlib.Core.Path.{refl, sym, _∙_, ap}
@@ -9,7 +8,6 @@ use Rattle.nodes.specs.Evaluate.{Nodes, View, stored, view}
 use Rattle.arithmetic.specs.Coded.{coded}
 use Rattle.arithmetic.proofs.Coded.{held-result}
 use Rattle.evaluate.proofs.Leaves.{not-leaf}
-use Rattle.evaluate.proofs.Decoding.{held-before, read-before}
 use Rattle.evaluate.proofs.Recursion.{HasArrays, leaf-before, stored-arm, no-node, no-place, root-value}
 use Rattle.evaluate.proofs.evaluate.Statement.{statement}
 use Rattle.evaluate.proofs.evaluate.Tie as tie
@@ -27,21 +25,22 @@ arrays c = record { kinds = c .before .before .kind-list .given .0; values = c .
 places-requires : tie.Need-places-requires
 places-requires c κs = search needs
 
-no-value-requires : tie.Need-no-value-requires
-no-value-requires c κs = search needs
+no-value-coded-requires : tie.Need-no-value-coded-requires
+no-value-coded-requires c κs = search needs
 
 returns : tie.Need-returns
 returns c =
     let s = c .before .before .before .before .before .before in
-    c .no-value .ensures ∙ no-node (arrays (c .before .before .before)) (seen s) (s .args .root) (s .args .place) (c .before .if1 .taken)
+    held-result (record { sfits = c .no-value-coded .ok }) (c .no-value-coded .ensures ∙ ap coded (no-node (arrays (c .before .before .before)) (seen s) (s .args .root) (s .args .place) (c .before .if1 .taken)))
 
-no-value-requires-2 : tie.Need-no-value-requires-2
-no-value-requires-2 c κs = search needs
+no-value-coded-requires-2 : tie.Need-no-value-coded-requires-2
+no-value-coded-requires-2 c κs = search needs
 
 returns-2 : tie.Need-returns-2
 returns-2 c =
     let s = c .before .before .before .before .before .before .before in
-    c .no-value2 .ensures ∙ no-place (arrays (c .before .before .before .before)) (seen s) (s .args .root) (s .args .place) (c .before .before .if1 .left) (c .before .before .before .places .ensures) (c .before .if2 .taken)
+    held-result (record { sfits = c .no-value-coded2 .ok })
+    (c .no-value-coded2 .ensures ∙ ap coded (no-place (arrays (c .before .before .before .before)) (seen s) (s .args .root) (s .args .place) (c .before .before .if1 .left) (c .before .before .before .places .ensures) (c .before .if2 .taken)))
 
 add-shifted : tie.Need-add-shifted
 add-shifted c = search needs
@@ -55,20 +54,16 @@ is-leaf-requires c κs = search needs
 leaf-requires : tie.Need-leaf-requires
 leaf-requires c κs = search needs
 
-bounded-requires : tie.Need-bounded-requires
-bounded-requires c κs = search needs
-
 returns-3 : tie.Need-returns-3
 returns-3 c =
-    let s = c .before .before .before .before .before .before .before .before .before .before .before in
-    let m = c .before .before .before .before .shifted .ensures in
-    let d = c .before .before .before .before .shifted .result .end in
-    let q = c .before .before .before .before .shifted .result .place in
-    let root = m .moved .same-value (nodes s) (seen s) refl (c .before .before .before .before .before .before .before .places .ensures)
-    ∙ root-value (arrays (c .before .before .before .before .before .before .before .before)) (seen s) (s .args .root) (s .args .place) (c .before .before .before .before .before .before .if1 .left) (c .before .before .before .before .before .before .before .places .ensures) (c .before .before .before .before .before .if2 .left) in
-    c .bounded .ensures
-    ∙ read-before (nodes s) (seen s) d q (held-result (record { sfits = c .before .leaf .ok }) (c .before .leaf .ensures ∙ ap coded (leaf-before (nodes s) (seen s) q d (sym (c .before .before .before .is-leaf .ensures) ∙ c .before .before .if3 .taken))))
-    ∙ root
+    let s = c .before .before .before .before .before .before .before .before .before .before in
+    let m = c .before .before .before .shifted .ensures in
+    let d = c .before .before .before .shifted .result .end in
+    let q = c .before .before .before .shifted .result .place in
+    let root = m .moved .same-value (nodes s) (seen s) refl (c .before .before .before .before .before .before .places .ensures)
+    ∙ root-value (arrays (c .before .before .before .before .before .before .before)) (seen s) (s .args .root) (s .args .place) (c .before .before .before .before .before .if1 .left) (c .before .before .before .before .before .before .places .ensures) (c .before .before .before .before .if2 .left) in
+    held-result (record { sfits = c .leaf .ok })
+    (c .leaf .ensures ∙ ap coded (leaf-before (nodes s) (seen s) q d (sym (c .before .before .is-leaf .ensures) ∙ c .before .if3 .taken) ∙ root))
 
 sub-i : tie.Need-sub-i
 sub-i c =
@@ -91,62 +86,49 @@ element-copy-out-numbered c = search needs
 numbered-requires : tie.Need-numbered-requires
 numbered-requires c κs = search needs
 
-bounded-requires-2 : tie.Need-bounded-requires-2
-bounded-requires-2 c κs = search needs
-
 returns-4 : tie.Need-returns-4
 returns-4 c =
-    let s = c .before .before .before .before .before .before .before .before .before .before .before .before .before .before .before in
-    let m = c .before .before .before .before .before .before .before .before .shifted .ensures in
-    let d = c .before .before .before .before .before .before .before .before .shifted .result .end in
-    let q = c .before .before .before .before .before .before .before .before .shifted .result .place in
-    let n = not-leaf (s .args .kinds .now) d (sym (c .before .before .before .before .before .before .before .is-leaf .ensures) ∙ c .before .before .before .before .before .before .if3 .left) in
-    let root = m .moved .same-value (nodes s) (seen s) refl (c .before .before .before .before .before .before .before .before .before .before .before .places .ensures)
-    ∙ root-value (arrays (c .before .before .before .before .before .before .before .before .before .before .before .before)) (seen s) (s .args .root) (s .args .place) (c .before .before .before .before .before .before .before .before .before .before .if1 .left) (c .before .before .before .before .before .before .before .before .before .before .before .places .ensures) (c .before .before .before .before .before .before .before .before .before .if2 .left) in
-    c .bounded2 .ensures
-    ∙ read-before (nodes s) (seen s) d q (held-result (record { sfits = c .before .numbered .ok }) (c .before .numbered .ensures ∙ ap coded (stored-arm (nodes s) (seen s) q d (n .0) (record { sfits = omega (arith, c .before .before .numbered-arg .given) }) (c .before .before .before .before .if4 .taken) (not-true (s .args .whole) (c .before .before .before .if5 .taken)))))
-    ∙ root
+    let s = c .before .before .before .before .before .before .before .before .before .before .before .before .before .before in
+    let m = c .before .before .before .before .before .before .before .shifted .ensures in
+    let d = c .before .before .before .before .before .before .before .shifted .result .end in
+    let q = c .before .before .before .before .before .before .before .shifted .result .place in
+    let n = not-leaf (s .args .kinds .now) d (sym (c .before .before .before .before .before .before .is-leaf .ensures) ∙ c .before .before .before .before .before .if3 .left) in
+    let root = m .moved .same-value (nodes s) (seen s) refl (c .before .before .before .before .before .before .before .before .before .before .places .ensures)
+    ∙ root-value (arrays (c .before .before .before .before .before .before .before .before .before .before .before)) (seen s) (s .args .root) (s .args .place) (c .before .before .before .before .before .before .before .before .before .if1 .left) (c .before .before .before .before .before .before .before .before .before .before .places .ensures) (c .before .before .before .before .before .before .before .before .if2 .left) in
+    held-result (record { sfits = c .numbered .ok })
+    (c .numbered .ensures
+    ∙ ap coded (stored-arm (nodes s) (seen s) q d (n .0) (record { sfits = omega (arith, c .before .numbered-arg .given) }) (c .before .before .before .if4 .taken) (not-true (s .args .whole) (c .before .before .if5 .taken)) ∙ root))
 
 value-before-requires : tie.Need-value-before-requires
 value-before-requires c κs = search needs
 
-bounded-requires-3 : tie.Need-bounded-requires-3
-bounded-requires-3 c κs = search needs
-
 returns-5 : tie.Need-returns-5
 returns-5 c =
-    let s = c .before .before .before .before .before .before .before .before .before .before .before .before .before in
-    let m = c .before .before .before .before .before .before .shifted .ensures in
-    let d = c .before .before .before .before .before .before .shifted .result .end in
-    let q = c .before .before .before .before .before .before .shifted .result .place in
-    let root = m .moved .same-value (nodes s) (seen s) refl (c .before .before .before .before .before .before .before .before .before .places .ensures)
-    ∙ root-value (arrays (c .before .before .before .before .before .before .before .before .before .before)) (seen s) (s .args .root) (s .args .place) (c .before .before .before .before .before .before .before .before .if1 .left) (c .before .before .before .before .before .before .before .before .before .places .ensures) (c .before .before .before .before .before .before .before .if2 .left) in
-    c .bounded3 .ensures
-    ∙ held-before (nodes s) (seen s) d q (record { sfits = c .before .value-before .ok }) (c .before .value-before .ensures)
-    ∙ root
+    let s = c .before .before .before .before .before .before .before .before .before .before .before .before in
+    let m = c .before .before .before .before .before .shifted .ensures in
+    let root = m .moved .same-value (nodes s) (seen s) refl (c .before .before .before .before .before .before .before .before .places .ensures)
+    ∙ root-value (arrays (c .before .before .before .before .before .before .before .before .before)) (seen s) (s .args .root) (s .args .place) (c .before .before .before .before .before .before .before .if1 .left) (c .before .before .before .before .before .before .before .before .places .ensures) (c .before .before .before .before .before .before .if2 .left) in
+    held-result (record { sfits = c .value-before .ok }) (c .value-before .ensures ∙ ap coded root)
 
 pub evaluate-spec : {M : Type 1} → statement M
 evaluate-spec =
     tie.close
     (tie.spec
     places-requires
-    no-value-requires
+    no-value-coded-requires
     returns
-    no-value-requires-2
+    no-value-coded-requires-2
     returns-2
     add-shifted
     shifted-requires
     is-leaf-requires
     leaf-requires
-    bounded-requires
     returns-3
     sub-i
     element-copy-out-if4
     mul-numbered
     element-copy-out-numbered
     numbered-requires
-    bounded-requires-2
     returns-4
     value-before-requires
-    bounded-requires-3
     returns-5)

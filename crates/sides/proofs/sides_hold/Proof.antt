@@ -14,11 +14,11 @@ nodes s = stored (s .args .kinds .now) (s .args .values .now) (s .args .starts .
 abbrev seen : tie.Start → View
 seen s = view (s .args .window .now) (s .args .streams) (s .args .firsts .now) (s .args .whole)
 
-value-of-requires : tie.Need-value-of-requires
-value-of-requires c κs = search needs
+evaluate-requires : tie.Need-evaluate-requires
+evaluate-requires c κs = search needs
 
-value-of-requires-2 : tie.Need-value-of-requires-2
-value-of-requires-2 c κs = search needs
+evaluate-requires-2 : tie.Need-evaluate-requires-2
+evaluate-requires-2 c κs = search needs
 
 sign-holds-requires : tie.Need-sign-holds-requires
 sign-holds-requires c κs = search needs
@@ -26,12 +26,12 @@ sign-holds-requires c κs = search needs
 returns : tie.Need-returns
 returns c =
     let s = c .before .before .before in
-    let a = c .before .before .value-of in
-    let b = c .before .value-of2 in
+    let a = c .before .before .evaluate in
+    let b = c .before .evaluate2 in
     c .sign-holds .ensures
     ∙ ap₂ (holds (signAt (s .args .relation))) (value-given (nodes s) (seen s) (s .args .left) (s .args .place) (record { sfits = a .ok }) (a .ensures))
     (value-given (nodes s) (seen s) (s .args .right) (s .args .place) (record { sfits = b .ok }) (b .ensures))
 
 pub sides-hold-spec : {M : Type 1} → statement M
 sides-hold-spec =
-    tie.close (tie.spec value-of-requires value-of-requires-2 sign-holds-requires returns)
+    tie.close (tie.spec evaluate-requires evaluate-requires-2 sign-holds-requires returns)

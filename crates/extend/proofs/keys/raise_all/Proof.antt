@@ -31,8 +31,8 @@ shared-slice-read-node c = search needs
 cast-node : tie.Need-cast-node Inv-loop μ-loop
 cast-node c = omega (arith, c .shared-slice-known2 .given (c .before .before .loop .i))
 
-value-of-requires : tie.Need-value-of-requires Inv-loop μ-loop
-value-of-requires c κs = search needs
+evaluate-requires : tie.Need-evaluate-requires Inv-loop μ-loop
+evaluate-requires c κs = search needs
 
 raised-requires : tie.Need-raised-requires Inv-loop μ-loop
 raised-requires c κs = search needs
@@ -53,7 +53,7 @@ loop-again : tie.Need-loop-again Inv-loop μ-loop
 loop-again c =
     let at-loop = c .before .before .before .before in
     let start = at-loop .before .before .before in
-    let value = c .before .value-of in (
+    let value = c .before .evaluate in (
       omega arith,
       mapped-more _ (start .args .first-nodes .now) (at-loop .loop .numbers) (at-loop .loop .i) 0 _ (c .before .before .before .loop-test .taken) (omega arith)
           (c .raised .ensures ∙ ap raised (value-given _ _ _ 0 (record { sfits = value .ok }) (value .ensures))) (at-loop .loop .inv .1),
@@ -76,7 +76,7 @@ raise-all-spec =
     mul-node
     shared-slice-read-node
     cast-node
-    value-of-requires
+    evaluate-requires
     raised-requires
     mul-numbers
     slice-write-numbers
