@@ -20,6 +20,7 @@ from examples import EXAMPLES, example_faults
 from generate import bound_sheets, division_sheets, random_sheets
 from grammar import all_subexpressions, expression_text
 from intervals import interval
+from kinds_check import by_writing_again, drawn_difference, short_sheets
 from lasso import (Lasso, at, course, from_times, is_solution,
                    solves_normal_form, streams_of)
 from limits import NO_ENTRY, STEP_REFUSED
@@ -41,6 +42,7 @@ LASSO_BOUND = 150
 REPLAYS = 2000
 COURSES = 1000
 SHEET_COURSES = 500
+KINDS_SHEETS = 60
 PAIR_BOUND = 150
 PARTITION_BOUND = 30
 NORMAL_FORM_WORDS = 4
@@ -463,6 +465,21 @@ def check_refusals(seed, counts):
         counts["sheets with the refusal meant"] += 1
 
 
+def check_kinds(rng, counts):
+    """The line of kinds, by reading the sheet and by writing it again without
+    the words, and tables of sheets that differ only in kinds."""
+    for text in short_sheets():
+        if read(text)[0] != by_writing_again(text):
+            raise Difference("kinds", text, read(text)[0],
+                             by_writing_again(text))
+        counts["short sheets about kinds, read and written again"] += 1
+    for _ in range(KINDS_SHEETS):
+        case = drawn_difference(rng)
+        if case:
+            raise Difference("kinds", *case)
+        counts["sheets with kinds and without, with equal tables"] += 1
+
+
 def check_replays(rng, counts):
     """What `replay` prints, by lines and by bytes."""
     for _ in range(REPLAYS):
@@ -495,6 +512,7 @@ def main(seed, count):
             raise Difference("examples", faults)
         counts["examples"] += len(EXAMPLES)
         check_refusals(seed, counts)
+        check_kinds(random.Random("kinds %d" % seed), counts)
         check_replays(rng, counts)
         check_courses(rng, counts)
         sheets = [(wanted.name, wanted.sheet) for wanted in EXAMPLES

@@ -14,7 +14,7 @@ import random
 import sys
 
 from generate import fby_chain, nested, print_sheets, random_lines, sheet_bytes
-from grammar import RESERVED
+from grammar import CONSTRAINT_WORDS
 
 
 def append_line(*choices):
@@ -126,7 +126,7 @@ DAMAGES = {
     4: (append_line("unknown == 1", "NAME == unknown", "NAME until unknown",
                     "( NAME and ( not ( 0 fby unknown ) ) ) -> 1"),
         add_stream(("", "0", "0"),
-                       *((word, "0", "0") for word in RESERVED))),
+                       *((word, "0", "0") for word in CONSTRAINT_WORDS))),
     5: (append_line("NAME == 1000000001", "NAME == -1000000001",
                     "NAME == 99999999999999999999999999",
                     "NAME -> ( 18446744073709551616 eq 0 )"),

@@ -11,7 +11,8 @@ import json
 import random
 import sys
 
-from grammar import COMPARISON_SIGNS, COMPARISON_WORDS, OPERATORS
+from grammar import (COMPARISON_SIGNS, COMPARISON_WORDS, OPERATORS,
+                     STREAM_KINDS)
 
 STREAM_NAMES = ("x", "y", "z", "level", "gate", "a", "weirgate", "flow")
 
@@ -222,6 +223,21 @@ def division_sheets(seed, count, letter_limit=8):
     rng = random.Random(seed)
     return [("division-%d-%d" % (seed, number),
              sheet_bytes(division_lines(rng, letter_limit)))
+            for number in range(count)]
+
+
+def with_kinds(rng, lines):
+    """The lines of a sheet with a line of kinds after the highest values."""
+    kinds = [rng.choice(STREAM_KINDS) for _ in lines[0].split()]
+    return lines[:3] + [spaced(rng, kinds)] + lines[3:]
+
+
+def random_kinds_sheets(seed, count, letter_limit=8):
+    """Named random well-formed sheets with a line of kinds."""
+    rng = random.Random("kinds %d" % seed)
+    return [("random-kinds-%d-%d" % (seed, number),
+             sheet_bytes(with_kinds(rng, random_lines(rng, letter_limit)),
+                         rng.random() < 0.8))
             for number in range(count)]
 
 
@@ -459,6 +475,81 @@ def operator_bound_sheets():
     ]
 
 
+def kinds_line_sheets():
+    """The optional line of document 02, S-6: known by its first token alone,
+    as the 4th line from the names, and one word for each stream."""
+    def kinds(line, *constraints):
+        return one_stream(line, *constraints)
+
+    def two(line, *constraints):
+        return ["x y", "0 0", "1 1", line, *constraints]
+
+    return [
+        ("kinds-read", 0, kinds("read")),
+        ("kinds-set", 0, kinds("set")),
+        ("kinds-read-set", 0, two("read set", "x -> y")),
+        ("kinds-set-read", 0, two("set read", "x -> y")),
+        ("kinds-set-set", 0, two("set set", "x -> y")),
+        ("kinds-none-said", 0, ["x y", "0 0", "1 1", "x -> y"]),
+        ("kinds-P1", 0, ["level gate", "0 0", "2 1", "read set",
+                         "( level ge 2 ) -> gate"]),
+        ("kinds-spaces", 0, two("   set   read  ", "x -> y")),
+        ("kinds-8", 0, many_streams(8) + ["set read " * 4, "a == h"]),
+        ("kinds-of-9", 2, many_streams(9) + ["read " * 9]),
+        ("kinds-too-few", 3, two("read")),
+        ("kinds-too-many", 3, kinds("read set")),
+        ("kinds-2000-tokens", 3, kinds("read " * 2000)),
+        ("kinds-name-behind", 3, two("read x")),
+        ("kinds-integer-behind", 3, two("set 1")),
+        ("kinds-sign-behind", 3, kinds("set == 1")),
+        ("kinds-stream-set-compared", 3, ["set", "0", "1", "set == 1"]),
+        ("kinds-read-compared", 3, kinds("read != x")),
+        ("kinds-bracket-behind", 3, two("read )")),
+        ("kinds-33-brackets", 3, kinds("read " + "(" * 33)),
+        ("kinds-33-brackets-two-streams", 3, two("set(" + "(" * 32)),
+        ("kinds-in-brackets", 3, kinds("( read )")),
+        ("kinds-behind-33-brackets", 2, kinds("(" * 33 + "read")),
+        ("kinds-capital", 3, kinds("Read")),
+        ("kinds-run-together", 3, two("readset")),
+        ("kinds-like-names", 0, ["reads resets", "0 0", "1 1",
+                                 "reads -> resets"]),
+        ("kinds-like-unknown", 4, kinds("reads == 1")),
+        ("kinds-twice", 3, kinds("set", "set")),
+        ("kinds-twice-other", 3, kinds("read", "set")),
+        ("kinds-behind-constraint", 3, kinds("x == x", "read")),
+        ("kinds-behind-blank", 3, kinds("", "read")),
+        ("kinds-before-highs", 3, ["x", "0", "read", "1"]),
+        ("kinds-first-line", 4, ["read", "0", "1"]),
+        ("kinds-for-highs", 3, ["x", "0", "set"]),
+        ("kinds-name-read", 4, ["read x", "0 0", "1 1"]),
+        ("kinds-name-set", 4, ["x set", "0 0", "1 1"]),
+        ("kinds-both-names", 4, ["read set", "0 0", "1 1", "set read"]),
+        ("kinds-name-read-said", 4, ["read", "0", "1", "read"]),
+        ("kinds-name-in-constraint", 3, ["x set", "0 0", "1 1", "x == 1",
+                                         "set == 1"]),
+        ("kinds-read-in-constraint", 3, kinds("x == read")),
+        ("kinds-word-in-constraint", 3, two("read set", "x read y")),
+        ("kinds-word-behind", 3, two("read set", "x == set")),
+        ("kinds-32-constraints", 0, kinds("read", *["x >= 0"] * 32)),
+        ("kinds-33-constraints", 2, kinds("read", *["x >= 0"] * 33)),
+        ("kinds-malformed-32", 3, kinds("read read", *["x >= 0"] * 32)),
+        ("kinds-malformed-33", 2, kinds("read read", *["x >= 0"] * 33)),
+        ("kinds-1024-tokens", 0, kinds("set", chain("not", 1021) + " == 0")),
+        ("kinds-1025-tokens", 2, kinds("set", chain("not", 1022) + " == 0")),
+        ("kinds-brackets-32", 0, kinds("set", nested(32) + " == 0")),
+        ("kinds-brackets-33", 2, kinds("set", nested(33) + " == 0")),
+        ("kinds-tabulator", 1, kinds("read\t")),
+        ("kinds-unknown-name", 4, kinds("read", "y == 0")),
+        ("kinds-low-above-high", 5, one_stream("read", low=1, high=0)),
+        ("kinds-interval", 6, kinds("set", "x + 1000000000 >= 0")),
+        ("kinds-letters", 7, one_stream("read", high=1024)),
+        ("kinds-until", 0, two("read set", "x until y")),
+        ("kinds-fby", 0, two("set read", "x == 0 fby ( 1 - y )",
+                             "next y != x")),
+        ("kinds-no-solution", 0, kinds("read", "next x == x + 1")),
+    ]
+
+
 def length_bound_sheets():
     """16,384 and 16,385 bytes; these are bytes already."""
     lines = one_stream("x == x")
@@ -474,7 +565,7 @@ def bound_sheets():
     groups = (token_bound_sheets(), line_bound_sheets(),
               bracket_bound_sheets(), magnitude_bound_sheets(),
               alphabet_bound_sheets(), window_bound_sheets(),
-              operator_bound_sheets())
+              operator_bound_sheets(), kinds_line_sheets())
     return [(name, refusal, sheet_bytes(lines))
             for group in groups for name, refusal, lines in group
             ] + length_bound_sheets()

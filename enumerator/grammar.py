@@ -30,8 +30,12 @@ COMPARISON_WORDS = ("lt", "le", "eq", "ge", "gt", "ne")
 OPERATOR_WORDS = COMPARISON_WORDS + ("and", "or", "fby")
 OPERATORS = ARITHMETIC + OPERATOR_WORDS
 PREFIXES = ("first", "next", "not")
-# "Reserved words: all operator words, `if then else first next not until`"
-RESERVED = OPERATOR_WORDS + ("if", "then", "else") + PREFIXES + ("until",)
+# "Reserved words: all operator words, `if then else first next not until`";
+# of `read` and `set` document 02 (S-6): "Both words are reserved now".
+CONSTRAINT_WORDS = (OPERATOR_WORDS + ("if", "then", "else") + PREFIXES
+                    + ("until",))
+STREAM_KINDS = ("read", "set")
+RESERVED = CONSTRAINT_WORDS + STREAM_KINDS
 
 
 def has_name_form(text):

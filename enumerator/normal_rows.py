@@ -11,10 +11,13 @@ from grammar import (OPERATORS, Binary, Conditional, Constraint, Name, Unary,
                      constraint_text, expression_readings, is_word, operands,
                      outer_places, partner_of_first)
 from intervals import interval
-from reading import ranges
+from reading import kinds_and_constraints, ranges
 
 SIGNS = ["<", "<=", "==", ">=", ">", "!=", "->", "until"]
 EQUAL = SIGNS.index("==")
+# The kind of an added stream, which the record of an entry has: "an added one
+# is `set`" (document 02, S-6).
+SET = 0
 
 # A token with the places of its first byte and behind its last in the sheet.
 Placed = namedtuple("Placed", "text place begin end")
@@ -33,7 +36,7 @@ def constraint_tokens(text):
     for line in text.split(b"\n"):
         lines.append(placed_tokens(text, start, start + len(line)))
         start += len(line) + 1
-    return [tokens for tokens in lines[3:] if tokens]
+    return [tokens for tokens in kinds_and_constraints(lines)[1] if tokens]
 
 
 def part_tokens(expression, tokens):
@@ -82,11 +85,11 @@ class Rows:
         return self.spans[id(expression)]
 
     def row(self, kind, relation, left, right, source, replaces=0):
-        return (kind, relation, 0, replaces, left, 0, *self.span(source), right, 0, 0, 0,
+        return (kind, relation, SET, replaces, left, 0, *self.span(source), right, 0, 0, 0,
                 *interval(source, self.ranges))
 
     def equation(self, stream, expression, added):
-        return (3, EQUAL, 0, 0, stream, 0, *self.span(expression), 0, added, *self.span(expression),
+        return (3, EQUAL, SET, 0, stream, 0, *self.span(expression), 0, added, *self.span(expression),
                 *interval(expression, self.ranges))
 
     def added(self, expression, number):

@@ -9,17 +9,44 @@ from collections import namedtuple
 from math import prod
 
 import limits
-from grammar import (RESERVED, Integer, Name, all_subexpressions,
-                     bracket_levels, constraint_readings, has_integer_form,
-                     has_name_form, split_lines, split_tokens)
+from grammar import (RESERVED, STREAM_KINDS, Integer, Name,
+                     all_subexpressions, bracket_levels, constraint_readings,
+                     has_integer_form, has_name_form, split_lines,
+                     split_tokens)
 from intervals import deepest_back, deepest_reach, firsts, interval, untils
 
-Sheet = namedtuple("Sheet", "names lows highs constraints")
+Sheet = namedtuple("Sheet", "names lows highs kinds constraints")
 
 
 def token_lines(text):
     return [split_tokens(line, number)
             for number, line in enumerate(split_lines(text))]
+
+
+def says_kinds(tokens):
+    """Whether the line says which streams are read and which are set: it is
+    "known by `read` or `set` as its first token" (document 02, S-6)."""
+    return bool(tokens) and tokens[0].text in STREAM_KINDS
+
+
+def kinds_and_constraints(lines):
+    """The line of kinds, or None, and the constraint lines.  "An optional
+    line after the highest values"; "Every further line is one constraint"."""
+    further = lines[3:]
+    if further and says_kinds(further[0]):
+        return further[0], further[1:]
+    return None, further
+
+
+def kinds_line(tokens, count):
+    """The kinds that the line has, "one of these for each stream, or the
+    sheet is 3; without it all are `set`"; or None."""
+    if tokens is None:
+        return ["set"] * count
+    texts = [token.text for token in tokens]
+    if len(texts) != count or not all(text in STREAM_KINDS for text in texts):
+        return None
+    return texts
 
 
 def names_line(tokens):
@@ -46,10 +73,13 @@ def form(text):
         return None
     lows = integers_line(lines[1], len(names))
     highs = integers_line(lines[2], len(names))
-    readings = [constraint_readings(tokens) for tokens in lines[3:]]
-    if lows is None or highs is None or not all(readings):
+    tokens, further = kinds_and_constraints(lines)
+    kinds = kinds_line(tokens, len(names))
+    readings = [constraint_readings(tokens) for tokens in further]
+    if None in (lows, highs, kinds) or not all(readings):
         return None
-    return Sheet(names, lows, highs, [reading[0] for reading in readings])
+    return Sheet(names, lows, highs, kinds,
+                 [reading[0] for reading in readings])
 
 
 def ranges(sheet):
@@ -72,9 +102,10 @@ def has_foreign_bytes(text):
 def has_too_much_text(text):
     """Refusal 2: "over 8 tokens in line 1, 32 lines after line 3, 1,024
     tokens in them, or, up to some place in one of them, more than 32 more
-    `(` than `)`." """
+    `(` than `)`."  It "does not count this line", that of kinds, "or its
+    tokens"."""
     lines = token_lines(text)
-    further = lines[3:]
+    _, further = kinds_and_constraints(lines)
     return (len(lines) > 0 and len(lines[0]) > limits.STREAMS
             or len(further) > limits.CONSTRAINTS
             or sum(map(len, further)) > limits.CONSTRAINT_TOKENS

@@ -7,6 +7,7 @@ from replay_check import drawn_case
 
 # "x until y" has two states: 0 before y, 1 from then on.
 UNTIL = b"x y\n0 0\n1 1\nx until y"
+KINDS = b"x y\n0 0\n1 1\nread set\nx until y"
 STEADY = b"a\n-3\n4\nnext a != a\n1 until ( a lt 0 )"
 THREE = b"p q r\n0 -1 5\n0 1 6\n( p + q ) <= r"
 # One letter a line; sheets of one stream and of eight.
@@ -66,6 +67,10 @@ def chosen_cases():
         (EIGHT, lines(b"a b c d e f g abcdefghi", b"1 0 0 1 0 1 1 0"), None),
         (EIGHT, lines(b"a b c d e f g abcdefgh", b"1 0 0 1 0 1 1"), None),
         (EIGHT, lines(b"a b c d e f g abcdefgh", b"1 0 0 1 0 1 1 0 0"), None),
+        # kinds stand in the sheet alone (document 02, S-6)
+        (KINDS, lines(b"x y", b"1 0", b"0 1", b"0 0"), None), (KINDS, lines(b"x y", b"1 0", b"0 0"), None),
+        (KINDS, lines(b"x y", b"read set", b"1 0"), None), (KINDS, lines(b"x y", b"0 0"), b"1"),
+        (b"x\n0\n1\nread set", b"x\n0", None), (b"read\n0\n1", b"read\n0", None),
     ]
     return cases
 

@@ -1,7 +1,7 @@
 """Sheets that turn on the spelling of tokens and lines, each with the refusal
 that document 01 gives it, worked out by hand (0 for none of 1 to 7)."""
 
-from grammar import RESERVED
+from grammar import CONSTRAINT_WORDS
 
 # Constraint lines over the streams x and y, both from 0 to 1.
 LINES = {
@@ -58,7 +58,7 @@ SHEETS = {
         "x|0|-01", "x|x|x", "x < y|0 0|1 1", "+|0|1", "<=|0|1", "->|0|1",
         "until|0|1|until == 1", "if|0|1|if == if", "next|0|1|next == 0",
         "x|0|1|x == 1 1", "x x|0|1", "x|1|0|x", "x|0|99999999999|x =="),
-    4: tuple(word + "|0|1" for word in RESERVED) + (
+    4: tuple(word + "|0|1" for word in CONSTRAINT_WORDS) + (
         "x x|0 0|1 1", "x y x|0 0 0|1 1 1", "x if|0 0|1 1", "until until|0 0|1 1",
         "next|0|1|next x == 0", "fby|0|1|1 fby 1 == 1", "x|1|0|y == 0",
         "x x|0 0|1 1|x == x", "x x|5 0|1 99999999999", "x|0|4096|y == 0",

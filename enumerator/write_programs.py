@@ -24,6 +24,9 @@ ENTRY_ROOM = 65536
 ROW_ROOM = 4112
 KEY_NUMBERS = 16
 
+# The numbers by which stored streams name their kinds.
+STREAM_KIND_NUMBERS = {"set": 0, "read": 1}
+
 # The sizes of the chunks in which the program `replay_vectors` plays a record, one after the other.
 CHUNKS = (1, 2, 3, 5, 7, 64)
 
@@ -83,7 +86,8 @@ def reader_case(vector):
     fields = [vector["refusal"], 0, 0, 0, 0, 0, 0]
     if vector["refusal"] == 0:
         fields[1:] = [len(vector["names"])] + [vector[key] for key in ("letters", "D", "B", "untils", "firsts")]
-        for stream in zip(vector["names"], vector["lows"], vector["highs"]):
+        kinds = [STREAM_KIND_NUMBERS[kind] for kind in vector["stream_kinds"]]
+        for stream in zip(vector["names"], vector["lows"], vector["highs"], kinds):
             fields.extend(stream)
     return word(len(sheet)) + sheet, " ".join(str(field) for field in fields) + "\n"
 

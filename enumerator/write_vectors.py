@@ -16,7 +16,7 @@ from course_cases import course_cases
 from damage import damaged_sheets
 from examples import EXAMPLES
 from generate import (bound_sheets, counted_sheets, division_sheets,
-                      large_table_sheets, random_sheets)
+                      large_table_sheets, random_kinds_sheets, random_sheets)
 from grammar import constraint_text
 from intervals import deepest_back, deepest_reach, firsts, untils
 from limits import SITUATIONS, STEP_REFUSED
@@ -35,6 +35,7 @@ DEFAULT_DIRECTORY = Path(__file__).resolve().parent.parent / "vectors"
 SEED = 1
 RANDOM_SHEETS = 400
 DIVISION_SHEETS = 100
+RANDOM_KINDS_SHEETS = 40
 # Of the drawn sheets, one in so many has normal forms.
 NORMAL_STRIDE = 3
 DAMAGED_EACH = 16
@@ -60,7 +61,8 @@ def drawn_sheets():
     return (random_sheets(SEED, RANDOM_SHEETS)
             + [(name, text) for name, _, text in spelling_sheets()]
             + damaged_sheets(SEED, DAMAGED_EACH)
-            + division_sheets(SEED, DIVISION_SHEETS))
+            + division_sheets(SEED, DIVISION_SHEETS)
+            + random_kinds_sheets(SEED, RANDOM_KINDS_SHEETS))
 
 
 def is_small(analysis):
@@ -84,6 +86,7 @@ def sheet_vector(name, text, analysis):
     counted = analysis.situations is not None
     vector.update({
         "names": sheet.names, "lows": sheet.lows, "highs": sheet.highs,
+        "stream_kinds": sheet.kinds,
         "letters": letter_count(sheet),
         "untils": len(untils(sheet.constraints)),
         "firsts": len(firsts(sheet.constraints)),

@@ -2,7 +2,7 @@
  *
  * Link with the archive that `rt staticlib compile_c` writes, target/staticlib/libcompile_c.a. It is for x86-64 Linux and
  * needs `memcpy` and `memset` of the C library, no mathematics library and no threads. It allocates nothing, keeps no
- * state of its own, and always returns.
+ * state of its own, and always returns. examples/desk.c is a whole program.
  *
  *
  * The arguments
@@ -20,9 +20,10 @@
  *     entries[state * letters + letter]
  *
  * the number of the next state, or 65,535 for none; `finals[state]` is 1 or 0. `situations` is the number of distinct
- * situations. All room beyond these rows is zero.
+ * situations. All room beyond these rows is zero. `letters` is the number of letters, and `streams` has the sheet's names, ranges
+ * and kinds (streams.h): with them the host makes the letter of a reading and calls a step, and need not read the sheet itself.
  *
- * refusal 1 to 10: document 01's number; states and situations are 0, and every table is zero. 8: more than 4,096
+ * refusal 1 to 10: document 01's number; all other numbers of the answer are 0, and every table is zero. 8: more than 4,096
  * situations, and R is 4,096 or more; 10: more situations than R, and R is below 4,096.
  *
  * The work tables are zero after every call. To follow the table with step.h, pass the used rows alone, as two bytes an
@@ -39,6 +40,8 @@
 #include <stddef.h>
 #include <stdint.h>
 
+#include "streams.h"
+
 #ifdef __cplusplus
 extern "C" {
 #endif
@@ -53,6 +56,8 @@ struct compile_answer {
     uint32_t refusal;
     uint32_t states;
     uint32_t situations;
+    uint32_t letters;
+    struct streams streams;
 };
 
 struct compile_answer compile_c(const uint8_t *text, size_t length, uint16_t *entries, size_t entry_count, uint8_t *finals, size_t final_count,

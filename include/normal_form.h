@@ -25,7 +25,7 @@
  * the text of a side that holds it the stream stands in its place, the longest such one where several begin at one place,
  * parted by a space from what follows.
  * `left_added` and `right_added` are the numbers of the first streams that rewriting the left and the right side adds.
- * `stream_kind` is the kind of stream `left`, always 0. All else is 0.
+ * `stream_kind` is the kind of stream `left`: an added one is set, STREAM_SET of streams.h. All else is 0.
  *
  * What a solution of the entries is. A quotient or remainder with divisor 0 has no value. An operator, `and`, `or` and `not`
  * among them, with a part that has none gives none, whatever the other part is; an `if` reads only its condition and the
@@ -40,6 +40,8 @@
 #define NORMAL_FORM_H
 #include <stddef.h>
 #include <stdint.h>
+
+#include "streams.h"
 
 #ifdef __cplusplus
 extern "C" {

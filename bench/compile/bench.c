@@ -83,7 +83,7 @@ int main(int count, char **words) {
         fclose(file);
         room mine = lend(situations, letters), other = lend(situations, letters);
         double least = 1e9, plain_least = 1e9, began = now();
-        compiled a = { 0, 0, 0 }, b = a;
+        compiled a, b;
         // at least five runs of each, and more for at most two seconds: other programs on the machine can slow down a shorter time as a whole
         for (size_t turn = 0; turn < 5 || now() - began < 2; turn++) {
             a = timed(compile_c, text, length, &mine, &least);

@@ -5,8 +5,8 @@
 
 Builds the C program, or with `archive` the proved compile's archive (rt staticlib), as a
 shared library (CC names the compiler) and calls it on each sheet of vectors/sheets.jsonl
-with the rows of vectors/compile.jsonl. The refusal, both counts, the table, and the zeros
-beyond it and in the work tables must agree.
+with the rows of vectors/compile.jsonl. The refusal, both counts, the letters and streams, the
+table, and the zeros beyond it and in the work tables must agree.
 """
 
 import ctypes
@@ -26,8 +26,17 @@ MOST_ROWS, MANY_ROWS = 65535, 5000
 REFUSED_LETTERS = 3
 
 
+class Streams(ctypes.Structure):
+    _fields_ = [("count", ctypes.c_size_t), ("names", ctypes.c_uint8 * 64), ("lengths", ctypes.c_uint8 * 8),
+                ("lows", ctypes.c_int64 * 8), ("highs", ctypes.c_int64 * 8), ("kinds", ctypes.c_uint8 * 8)]
+
+
 class Compiled(ctypes.Structure):
-    _fields_ = [("refusal", ctypes.c_uint32), ("states", ctypes.c_uint32), ("situations", ctypes.c_uint32)]
+    _fields_ = [("refusal", ctypes.c_uint32), ("states", ctypes.c_uint32), ("situations", ctypes.c_uint32),
+                ("letters", ctypes.c_uint32), ("streams", Streams)]
+
+
+KINDS = {"set": 0, "read": 1}
 
 
 def built(archive):
@@ -65,6 +74,22 @@ def is_zero(table, start=0):
     return rest.count(0) == len(rest)
 
 
+def described(sheet):
+    """The streams of a stored sheet, with zeros behind them."""
+    count = len(sheet["names"])
+    names = b"".join(name.encode().ljust(8, b"\0") for name in sheet["names"])
+    return bytes(Streams(count, (ctypes.c_uint8 * 64)(*names), (ctypes.c_uint8 * 8)(*map(len, sheet["names"])),
+                         (ctypes.c_int64 * 8)(*sheet["lows"]), (ctypes.c_int64 * 8)(*sheet["highs"]),
+                         (ctypes.c_uint8 * 8)(*(KINDS[kind] for kind in sheet["stream_kinds"]))))
+
+
+def told(sheet, answer):
+    """Whether the answer tells the letters and streams of the sheet, or with a refusal nothing."""
+    if answer.refusal:
+        return answer.letters == 0 and not any(bytes(answer.streams))
+    return answer.letters == sheet["letters"] and bytes(answer.streams) == described(sheet)
+
+
 def difference(function, sheet, wanted, smallest):
     text = sheet["sheet"].encode("latin-1")
     letters = sheet.get("letters", REFUSED_LETTERS)
@@ -75,6 +100,8 @@ def difference(function, sheet, wanted, smallest):
     answer = function(*words)
     if (answer.refusal, answer.states, answer.situations) != (wanted["refusal"], wanted["states"], wanted["situations"]):
         return "answer %d %d %d" % (answer.refusal, answer.states, answer.situations)
+    if not told(sheet, answer):
+        return "letters or streams"
     entries, finals = tables[:2]
     used = answer.states * letters
     if answer.refusal == 0:

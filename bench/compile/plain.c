@@ -192,12 +192,26 @@ static size_t explore(const sheet *s, rows *r, uint16_t *entries) {
 
 static size_t fewer(size_t a, size_t b) { return a < b ? a : b; }
 
+// The streams, where everything behind them is zero already.
+static void describe(const sheet *s, struct streams *streams) {
+    streams->count = s->streams;
+    for (size_t k = 0; k < s->streams; k++) {
+        memcpy(streams->names + 8 * k, s->names + 8 * k, 8);
+        streams->lengths[k] = s->lengths[k];
+        streams->lows[k] = s->lows[k];
+        streams->highs[k] = s->highs[k];
+        streams->kinds[k] = s->stream_kinds[k];
+    }
+}
+
 compiled plain_compile(const uint8_t *text, size_t length, uint16_t *entries, size_t entry_count, uint8_t *finals, size_t final_count,
     uint32_t *keys, size_t key_count, uint32_t *live, size_t live_count, uint32_t *class, size_t class_count, uint32_t *next, size_t next_count,
     uint32_t *heads, size_t head_count, uint32_t *links, size_t link_count, uint32_t *shared, size_t shared_count) {
     sheet s;
     size_t used = 0;
-    compiled answer = { read_sheet(text, length, &s), 0, 0 };
+    compiled answer;
+    memset(&answer, 0, sizeof answer);
+    answer.refusal = read_sheet(text, length, &s);
     if (answer.refusal == 0) {
         size_t lent = fewer(entry_count / s.letters, fewer(final_count, key_count / KEY));
         lent = fewer(lent, fewer(live_count, fewer(class_count, fewer(next_count, fewer(head_count, fewer(link_count, shared_count))))));
@@ -211,6 +225,8 @@ compiled plain_compile(const uint8_t *text, size_t length, uint16_t *entries, si
             if (m.refusal == 0) {
                 answer.states = m.states;
                 answer.situations = (uint32_t)count;
+                answer.letters = (uint32_t)s.letters;
+                describe(&s, &answer.streams);
                 used = m.states * s.letters;
             }
         }

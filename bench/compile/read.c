@@ -113,6 +113,7 @@ static uint8_t prefix_of(span token) {
 static int is_reserved(span token) {
     switch (word(token)) {
     case W2('i', 'f'): case W4('t', 'h', 'e', 'n'): case W4('e', 'l', 's', 'e'): case W5('u', 'n', 't', 'i', 'l'): return 1;
+    case W4('r', 'e', 'a', 'd'): case W3('s', 'e', 't'): return 1;
     default: return (operator_of(token) >= LT && operator_of(token) != NO_WORD) || operator_of(token) == FBY || prefix_of(token) != NO_WORD;
     }
 }
@@ -270,8 +271,28 @@ static int read_streams(sheet *s, span names, span lows, span highs, int *faulty
         int64_t *lowest = &s->lows[s->streams], *highest = &s->highs[s->streams];
         if (!is_name(name) || !read_integer(low, lowest, faulty) || !read_integer(high, highest, faulty)) return 0;
         if (*highest < *lowest) *faulty = 1;
+        s->lengths[s->streams] = (uint8_t)(name.end - name.at);
+        for (size_t i = 0; i < 8; i++) s->names[8 * s->streams + i] = name.at + i < name.end ? name.at[i] : 0;
         s->streams++;
     }
+}
+
+// The kind of a stream that a token says: 0 for set, 1 for read.
+static uint8_t stream_kind_of(span token) {
+    switch (word(token)) {
+    case W3('s', 'e', 't'): return 0;
+    case W4('r', 'e', 'a', 'd'): return 1;
+    default: return NO_WORD;
+    }
+}
+
+// Whether the line has one kind for each stream.
+static int read_kinds(sheet *s, span line) {
+    for (size_t k = 0; k < s->streams; k++) {
+        s->stream_kinds[k] = stream_kind_of(next_token(&line));
+        if (s->stream_kinds[k] == NO_WORD) return 0;
+    }
+    return is_empty(next_token(&line));
 }
 
 static int names_refused(span names) {
@@ -390,12 +411,16 @@ uint32_t read_sheet(const uint8_t *text, size_t length, sheet *s) {
     span all = { text, text + length }, rest = all;
     int faulty = 0;
     s->streams = s->constraints = s->nodes = s->untils = s->firsts = 0;
+    for (size_t k = 0; k < STREAMS; k++) s->stream_kinds[k] = 0;
     if (bytes_refused(all)) return 1;
     span names = next_line(&rest), lows = next_line(&rest);
     int whole = !is_empty(rest);
-    span highs = next_line(&rest);
+    span highs = next_line(&rest), after = rest, fourth = next_line(&after), first = fourth;
+    int said = stream_kind_of(next_token(&first)) != NO_WORD;
+    if (said) rest = after;
     if (lines_refused(names, rest)) return 2;
     if (!whole || !read_streams(s, names, lows, highs, &faulty)) return 3;
+    if (said && !read_kinds(s, fourth)) return 3;
     reader r = { names, s, 0 };
     while (!is_empty(rest)) if (!constraint(&r, next_line(&rest))) return 3;
     if (names_refused(names) || some_unknown(s)) return 4;

@@ -18,6 +18,8 @@ typedef struct {
     // D, and D + B
     size_t ahead, width;
     int64_t lows[STREAMS], highs[STREAMS];
+    // eight bytes for each name, their lengths, and the kinds, 0 for set and 1 for read
+    uint8_t names[8 * STREAMS], lengths[STREAMS], stream_kinds[STREAMS];
     uint8_t relations[CONSTRAINTS];
     uint16_t lefts[CONSTRAINTS], rights[CONSTRAINTS], first_nodes[FIRSTS];
     uint8_t kinds[NODES];

@@ -4,7 +4,7 @@
 #include "normal_form.h"
 #include "step.h"
 
-static const uint8_t sheet[] = {'x', '\n', '0', '\n', '1', '\n', 'x', ' ', '=', '=', ' ', '1'};
+static const uint8_t sheet[] = {'x', '\n', '0', '\n', '1', '\n', 'r', 'e', 'a', 'd', '\n', 'x', ' ', '=', '=', ' ', '1'};
 
 #if CALL == 1
 static int called(void)
@@ -21,7 +21,9 @@ static int called(void)
     uint32_t keys[4 * COMPILE_KEY], live[4], class_names[4], next[4], heads[4], links[4], shared[4];
     struct compile_answer answer =
         compile_c(sheet, sizeof sheet, entries, 8, finals, 4, keys, 4 * COMPILE_KEY, live, 4, class_names, 4, next, 4, heads, 4, links, 4, shared, 4);
-    return answer.refusal == 0 && answer.states == 1 && entries[0] == 65535 && entries[1] == 0 && finals[0] == 1;
+    const struct streams *told = &answer.streams;
+    return answer.refusal == 0 && answer.states == 1 && entries[0] == 65535 && entries[1] == 0 && finals[0] == 1 && answer.letters == 2
+        && told->count == 1 && told->lengths[0] == 1 && told->names[0] == 'x' && told->lows[0] == 0 && told->highs[0] == 1 && told->kinds[0] == STREAM_READ;
 }
 #else
 static int called(void)

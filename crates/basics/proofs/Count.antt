@@ -129,3 +129,12 @@ module _ {X : Type 0} {P : X → Type 0} {f : ℕ → X} {n : ℕ} (r : InRows P
       found : (y : X) → List·Memᴰ y (x ∷ upTo f n) → P y
       found y (List·Memᴰ·head e) = subst P (sym e) p
       found y (List·Memᴰ·tail m) = member-holds y m
+
+-- ---- one property for another
+
+module _ {X : Type 0} {P Q : X → Type 0} (to : (x : X) → P x → Q x) where
+  pub count-same : ((x : X) → Q x → P x) → {m : ℕ} → CountOf P m → CountOf Q m
+  count-same from c = record { list = c .list; distinct = c .distinct; found = λ x m. to x (c .found x m); every = λ x q. c .every x (from x q); count = c .count }
+
+  pub more-same : {r : ℕ} → MoreThan P r → MoreThan Q r
+  more-same c = record { list = c .list; distinct = c .distinct; found = λ x m. to x (c .found x m); longer = c .longer }

@@ -16,8 +16,7 @@ use Rattle.reader.specs.Stored.{storedSheet, readingOf}
 use Rattle.outcome.specs.Compile.{Room, Tables, allZero, SheetOutcome, CompileOutcome, unread, read}
 use Rattle.outcome.proofs.AcceptedCompile.{refusal-positive}
 use Rattle.compiled.specs.declared.Compiled.{Compiled}
-use Rattle.compiled.specs.Answer.{refusedWith, answered}
-use Rattle.compile.specs.Lent.{answerOf}
+use Rattle.compiled.specs.Answer.{answerOf, refusedWith, answered}
 
 module _ {text : List ℕ} {room : Room} {t : Tables} {made : Compiled} where
   outcome-for : (a : Answer) → AnswerTo text a → (r : Reading) → r ≡ readingOf a → ((s : Sheet) → Accepted s → r .sheet ≡ storedSheet s → SheetOutcome s room (answerOf made) t)

@@ -30,8 +30,8 @@ use Rattle.basics.proofs.Clearing.{all-zero}
 use Rattle.outcome.specs.Room.{zeros, zeroTables}
 use Rattle.outcome.specs.Compile.{refusedAnswer, Room, roomRows, Tables, allZero, SituationsFit, SheetOutcome, tooManySituations, tooFewRows, noSolution, compiled, situationBound}
 use Rattle.compiled.specs.declared.Compiled.{Compiled}
-use Rattle.compile.specs.Lent.{roomOf, answerOf}
-use Rattle.compiled.specs.Answer.{refusedWith, madeOf}
+use Rattle.compile.specs.Lent.{roomOf}
+use Rattle.compiled.specs.Answer.{answerOf, refusedWith, madeOf}
 use Rattle.compiled.proofs.Counted.{all-counted}
 use Rattle.situations.specs.Found.{SituationsFound, RoomFor}
 use Rattle.compile.proofs.Rows.{Holds, fewest-hold, limit-rows, limit-bound, within-rows, within-bound, rows-lent}

@@ -1,10 +1,9 @@
--- The lent tables in document 01's terms: the room that they give, what they hold, and the answer.
+-- The lent tables in document 01's terms: the room that they give, and what they hold.
 use Prim.Native.Nat.{ℕ}
 use mathlib.Core.List.{List, [], _∷_}
 use lib.ListN.{length}
 use Rattle.outcome.specs.Room.{LentTable}
-use Rattle.outcome.specs.Compile.{CompileAnswer, Room, Tables}
-use Rattle.compiled.specs.declared.Compiled.{Compiled}
+use Rattle.outcome.specs.Compile.{Room, Tables}
 
 -- A table with this many numbers a row.
 abbrev pub lent : ℕ → List ℕ → LentTable
@@ -22,6 +21,3 @@ roomOf entries finals keys live class next heads links shared =
 abbrev pub tablesOf : (entries finals keys live class next heads links shared : List ℕ) → Tables
 tablesOf entries finals keys live class next heads links shared =
     record { entries = entries; finals = finals; work = keys ∷ (live ∷ (class ∷ (next ∷ (heads ∷ (links ∷ (shared ∷ [])))))) }
-
-abbrev pub answerOf : Compiled → CompileAnswer
-answerOf c = record { refusal = c .refusal; states = c .states; situations = c .situations }

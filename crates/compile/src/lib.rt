@@ -1,10 +1,10 @@
 // From a sheet's bytes to its table.
 use basics::fewer;
-use compiled::Compiled;
+use compiled_sheet::CompiledSheet;
 ghost use mathlib.Core.Path.{_≡_};
 ghost use Prim.Native.Nat.{_/_, min};
-ghost use Rattle.outcome.specs.Compile.{CompileCall};
-ghost use Rattle.compile.specs.Lent.{roomOf, tablesOf, answerOf};
+ghost use Rattle.compiled_sheet.specs.Told.{SheetCall};
+ghost use Rattle.compile.specs.Lent.{roomOf, tablesOf};
 
 // The rows that so many entries hold, with so many letters: none for 0 letters, which no sheet has.
 fn entry_rows(entries: usize, letters: usize) -> usize
@@ -43,9 +43,9 @@ fn fewest_rows(letters: usize, entries: usize, finals: usize, keys: usize, work:
     )
 }
 
-// Compiles a sheet's bytes: refusal 0 with the number of states and of situations, the table in the first rows of `entries` and `finals`, and
-// every other number 0; or a refusal, and every table 0. The keys take 16 numbers a row, each of the other work tables one. A text that is no sheet
-// is stored with no letters: exploring no rows leaves no graph, so that every table is cleared.
+// Compiles a sheet's bytes: refusal 0 with the number of states and of situations, the letters and streams of the sheet, the table in the first rows of
+// `entries` and `finals`, and every other number 0; or a refusal, and every table 0. The keys take 16 numbers a row, each of the other work tables one. A
+// text that is no sheet is stored with no letters: exploring no rows leaves no graph, so that every table is cleared.
 pub fn compile(
     text: &[u8],
     entries: &mut [u16],
@@ -57,8 +57,8 @@ pub fn compile(
     heads: &mut [u32],
     links: &mut [u32],
     shared: &mut [u32],
-) -> Compiled
-    ensures { λ r. ⌜ CompileCall (now (text .entry)) (roomOf (now (entries .entry)) (now (finals .entry)) (now (keys .entry)) (now (live .entry)) (now (class .entry)) (now (next .entry)) (now (heads .entry)) (now (links .entry)) (now (shared .entry))) (answerOf r) (tablesOf (now (entries .exit)) (now (finals .exit)) (now (keys .exit)) (now (live .exit)) (now (class .exit)) (now (next .exit)) (now (heads .exit)) (now (links .exit)) (now (shared .exit))) ⌝ }
+) -> CompiledSheet
+    ensures { λ r. ⌜ SheetCall (now (text .entry)) (roomOf (now (entries .entry)) (now (finals .entry)) (now (keys .entry)) (now (live .entry)) (now (class .entry)) (now (next .entry)) (now (heads .entry)) (now (links .entry)) (now (shared .entry))) r (tablesOf (now (entries .exit)) (now (finals .exit)) (now (keys .exit)) (now (live .exit)) (now (class .exit)) (now (next .exit)) (now (heads .exit)) (now (links .exit)) (now (shared .exit))) ⌝ }
 {
     let reading = reader::read(text);
     let sheet = reading.sheet;
@@ -86,5 +86,6 @@ pub fn compile(
         links,
         shared,
     );
-    compiled::answered(reading.refusal, compiled::made(rows, count, table))
+    let answer = compiled::answered(reading.refusal, compiled::made(rows, count, table));
+    compiled_sheet::with_sheet(sheet, answer)
 }

@@ -1,7 +1,7 @@
 // The entry by which C programs call `compile`. A slice is a pointer and a length there.
-ghost use Rattle.compile.specs.Lent.{roomOf, tablesOf, answerOf};
-ghost use Rattle.outcome.specs.Compile.{CompileCall};
-use compiled::Compiled;
+ghost use Rattle.compile.specs.Lent.{roomOf, tablesOf};
+ghost use Rattle.compiled_sheet.specs.Told.{SheetCall};
+use compiled_sheet::CompiledSheet;
 
 #[no_mangle]
 pub extern "C" fn compile_c(
@@ -15,8 +15,8 @@ pub extern "C" fn compile_c(
     heads: &mut [u32],
     links: &mut [u32],
     shared: &mut [u32],
-) -> Compiled
-    ensures { λ r. ⌜ CompileCall (now (text .entry)) (roomOf (now (entries .entry)) (now (finals .entry)) (now (keys .entry)) (now (live .entry)) (now (class .entry)) (now (next .entry)) (now (heads .entry)) (now (links .entry)) (now (shared .entry))) (answerOf r) (tablesOf (now (entries .exit)) (now (finals .exit)) (now (keys .exit)) (now (live .exit)) (now (class .exit)) (now (next .exit)) (now (heads .exit)) (now (links .exit)) (now (shared .exit))) ⌝ }
+) -> CompiledSheet
+    ensures { λ r. ⌜ SheetCall (now (text .entry)) (roomOf (now (entries .entry)) (now (finals .entry)) (now (keys .entry)) (now (live .entry)) (now (class .entry)) (now (next .entry)) (now (heads .entry)) (now (links .entry)) (now (shared .entry))) r (tablesOf (now (entries .exit)) (now (finals .exit)) (now (keys .exit)) (now (live .exit)) (now (class .exit)) (now (next .exit)) (now (heads .exit)) (now (links .exit)) (now (shared .exit))) ⌝ }
 {
     compile::compile(
         text,

@@ -106,7 +106,7 @@ fn compile_in(
     let n7 = words_lent(heading, 32, heads);
     let n8 = words_lent(heading, 36, links);
     let n9 = words_lent(heading, 40, shared);
-    compile::compile(
+    let compiled = compile::compile(
         text,
         &mut entries[..n1],
         &mut finals[..n2],
@@ -117,7 +117,8 @@ fn compile_in(
         &mut heads[..n7],
         &mut links[..n8],
         &mut shared[..n9],
-    )
+    );
+    compiled_sheet::answer(compiled)
 }
 
 // Compiles one sheet and prints the answer.

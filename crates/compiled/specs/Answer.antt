@@ -2,9 +2,13 @@
 use Prim.Native.Nat.{ℕ}
 use mathlib.Core.Bool.{cond}
 use lib.Dec.{eqb, ltb}
-use Rattle.outcome.specs.Compile.{situationBound}
+use Rattle.outcome.specs.Compile.{CompileAnswer, situationBound}
 use Rattle.minimise.specs.declared.Minimised.{Minimised}
 use Rattle.compiled.specs.declared.Compiled.{Compiled}
+
+-- The answer in document 01's terms.
+abbrev pub answerOf : Compiled → CompileAnswer
+answerOf c = record { refusal = c .refusal; states = c .states; situations = c .situations }
 
 -- "A refusal returns its number with states and situations 0."
 abbrev pub refusedWith : ℕ → Compiled

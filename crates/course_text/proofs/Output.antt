@@ -16,6 +16,7 @@ use Rattle.meaning.specs.Window.{joinOver}
 use Rattle.meaning.proofs.Letter.{letterOf-letter}
 use Rattle.sheet.specs.Form.{namesOf}
 use Rattle.sheet.specs.Refusal.{letterBound}
+use Rattle.sheet.specs.Names.{eightBytes, ShortNames}
 use Rattle.nodes.specs.Bounds.{lowsOf, highsOf}
 use Rattle.nodes.proofs.Record.{letter-length}
 use Rattle.automaton.specs.Words.{AllBelow}
@@ -24,7 +25,7 @@ use Rattle.letters.proofs.Counts.{length-described}
 use Rattle.letters.proofs.Streams.{unnamed, letterOf-unnamed, letter-reflects}
 use Rattle.print.specs.Text.{decimal, tokensLine}
 use Rattle.print.specs.Table.{linesFrom, storedNames, AllFit}
-use Rattle.print.proofs.Names.{eightBytes, Short, stored-names}
+use Rattle.print.proofs.Names.{stored-names}
 use Rattle.print.proofs.Places.{letter-front}
 use Rattle.print.proofs.Table.{has-letter}
 use Rattle.print.proofs.Lengths.{names-line-length, numbers-line-length, letter-fits}
@@ -83,7 +84,7 @@ module _ (ss : List Stream) (few : length ss ≤ 8) (bounded : letterCount ss �
       first-line (λ i. getD (map (valuesText (lowsOf ss) (highsOf ss)) (n ∷ course)) i []) (length course)
       ∙ ap₂ _++_ (letter-text n (below .0)) (letter-lines course (below .1))
 
-  module _ (short : Short ss) (p : CoursePrintout) (given : p .refusal ≡ 0) (moreNames moreLengths : List ℕ) (names : p .names ≡ joinOver eightBytes ss ++ moreNames)
+  module _ (short : ShortNames ss) (p : CoursePrintout) (given : p .refusal ≡ 0) (moreNames moreLengths : List ℕ) (names : p .names ≡ joinOver eightBytes ss ++ moreNames)
       (lengths : p .lengths ≡ map (λ x. length (x .name)) ss ++ moreLengths) (lows : p .lows ≡ lowsOf ss) (highs : p .highs ≡ highsOf ss) (below : AllBelow (letterCount ss) (p .course)) where
     names-text : courseLine p 0 ≡ tokensLine (namesOf ss)
     names-text =

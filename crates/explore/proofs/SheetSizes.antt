@@ -38,7 +38,7 @@ accepted-ready s behind values accepted =
     let relations = part-long cs (λ (t : StoredConstraint). t .relation) in
     record {
       few-letters = accepted .window;
-      few-streams = accepted .streamCount;
+      few-streams = accepted .streams .streamCount;
       lefts-long = part-long cs (λ (t : StoredConstraint). t .left) ∙ sym relations;
       rights-long = part-long cs (λ (t : StoredConstraint). t .right) ∙ sym relations;
       few-constraints = subst (λ n. n ≤ 32) (sym relations) (accepted .constraintCount);
@@ -71,7 +71,7 @@ module _ (s : Sheet) (accepted : Accepted s) where
 
   -- Where there are at most so many letters, a list with 8 numbers for each, and 8 more, has room for their values.
   pub letters-fit : (most room : ℕ) → letterCount ss ≤ most → most * streamBound + streamBound ≤ room → letterCount ss * length ss + streamBound ≤ room
-  letters-fit most room few h = omega (arith, mul-le-mul few (accepted .streamCount))
+  letters-fit most room few h = omega (arith, mul-le-mul few (accepted .streams .streamCount))
 
   module _ {lows highs : List ℤ} (out : List ℤ) (l : lows ≡ lowsOf ss) (h : highs ≡ highsOf ss) (fits : letterCount ss * length ss ≤ length out) where
     sheet-room : hasRoom ss (length out) ≡ true

@@ -116,8 +116,8 @@ module _ (s : Sheet) (accepted : Accepted s) (lawfulRecord : Record) (letters : 
   unfolding value valueFrom reach
   first-node {n} {k} {p} {e} st h =
       let w = endless s accepted lawfulRecord letters long in
-      let all-places = record-places ss (accepted .someStream) lawfulRecord letters stored true in
-      let shown = record-letters ss (accepted .someStream) lawfulRecord letters stored true in
+      let all-places = record-places ss (accepted .streams .someStream) lawfulRecord letters stored true in
+      let shown = record-letters ss (accepted .streams .someStream) lawfulRecord letters stored true in
       let near : 0 + reach (first e) < places W = omega (arith, all-places, h .1) in
       nodeValue-value nodes W w (λ k q b l. shown .shows k q b l ∙ sym (lasting-same (streamsOf lawfulRecord) (length lawfulRecord) k q (omega (arith, all-places)))) 0 (first e) st (first-inside nodes st) refl (h .0 .names) near
       (whole-met ss w (endless-ranged s accepted lawfulRecord letters long) (first e) 0 (h .0 .names) (h .0 .bounds))

@@ -211,8 +211,8 @@ module _ (s : Sheet) (accepted : Accepted s) (behind : List Node) (values : List
         let place : known - D cs ≡ B cs = omega (arith, known-is) in
         let time : length r - w + B cs ≡ length r - D cs = omega arith in
         (λ j. valueIn (nodeValue nodes (view-cut s accepted behind values has r a below here cut j) i (place j)))
-        ∙ accepted-windowValue s accepted seen (streamsOf window) (record-letters ss (accepted .someStream) window letters (map lowered kept) false) behind c₀ t₀ side refl (B cs) (x .backward)
-        (omega (arith, record-places ss (accepted .someStream) window letters (map lowered kept) false, window-long, x .ahead)) (omega (arith, kept-long, x .numbered)) within
+        ∙ accepted-windowValue s accepted seen (streamsOf window) (record-letters ss (accepted .streams .someStream) window letters (map lowered kept) false) behind c₀ t₀ side refl (B cs) (x .backward)
+        (omega (arith, record-places ss (accepted .streams .someStream) window letters (map lowered kept) false, window-long, x .ahead)) (omega (arith, kept-long, x .numbered)) within
         ∙ ap (λ l. windowValue (streamsOf window) l f e (B cs)) kept-values
         ∙ windowValue-value (streamsOf longer) (streamsOf window) stored (length r - w) (B cs + D cs) (λ k t h. window-shows k t) e f (B cs) (x .backward) (omega (arith, x .ahead)) st
         ∙ ap (value (streamsOf longer) e) time
@@ -223,8 +223,8 @@ module _ (s : Sheet) (accepted : Accepted s) (behind : List Node) (values : List
       let letters = below-letters ss (r ++ (a ∷ [])) (below-snoc (letterNumbers s) r a below here) in
       let place : known - D cs ≡ length r - D cs = omega (arith, known-is) in
       (λ j. valueIn (nodeValue nodes (view-whole s accepted behind values has r a below here h j) i (place j)))
-      ∙ accepted-value s accepted _ (streamsOf longer) (record-letters ss (accepted .someStream) longer letters _ true) behind c₀ t₀ side refl (length r - D cs)
-      (omega (arith, record-places ss (accepted .someStream) longer letters (W .firsts) true, longer-long, x .ahead))
+      ∙ accepted-value s accepted _ (streamsOf longer) (record-letters ss (accepted .streams .someStream) longer letters _ true) behind c₀ t₀ side refl (length r - D cs)
+      (omega (arith, record-places ss (accepted .streams .someStream) longer letters (W .firsts) true, longer-long, x .ahead))
 
   side-value : {e : Expression} {i f : ℕ} → IsSide cs c₀ t₀ e i f → valueIn (nodeValue nodes W i (known - D cs)) ≡ value (streamsOf longer) e (length r - D cs)
   side-value {e} {i} {f} side = by (decLe (length r) w)

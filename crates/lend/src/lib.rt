@@ -5,7 +5,7 @@ ghost use mathlib.Core.Path.{_≡_};
 ghost use Prim.Native.Nat.{_≤_};
 ghost use lib.ListN.{length};
 ghost use Rattle.outcome.specs.Compile.{CompileCall};
-ghost use Rattle.compile.specs.Lent.{answerOf};
+ghost use Rattle.compiled.specs.Answer.{answerOf};
 ghost use Rattle.lend.specs.Lend.{rowsLent, roomOfRows, tablesOfRows, LentCall};
 
 // "256 rows, or 32,768 divided by the letters, cut to a whole number, if that is fewer"
@@ -44,7 +44,7 @@ fn compile_in_rows(text: &[u8], rows: usize, entries: &mut [u16], finals: &mut [
     let mut heads = work_room();
     let mut links = work_room();
     let mut shared = work_room();
-    compile::compile(
+    let compiled = compile::compile(
         text,
         entries,
         finals,
@@ -55,7 +55,8 @@ fn compile_in_rows(text: &[u8], rows: usize, entries: &mut [u16], finals: &mut [
         &mut heads[..rows],
         &mut links[..rows],
         &mut shared[..rows],
-    )
+    );
+    compiled_sheet::answer(compiled)
 }
 
 // Compiles the text in the first rows of the tables, and clears what stands behind them.

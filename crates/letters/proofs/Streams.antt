@@ -1,18 +1,18 @@
 -- The streams that a sheet's lowest and highest values describe have the letters of the sheet's own streams; the test for a letter decides whether
 -- the values are one, and the test for a number whether there is a letter with it, and room for its values.
-use Prim.Native.Nat.{ℕ, _+_, _*_, _/_, _%_, _≤_, _<_, suc}
+use Prim.Native.Nat.{ℕ, _≤_, _<_}
 use native.Mathlib.Omega.{arith}
 use mathlib.Core.Path.{_≡_, refl, sym, _∙_, ap, ap₂, subst}
 use mathlib.Core.Bool.{Bool, true, _&&_}
 use mathlib.Core.List.{List, [], _∷_}
 use lib.Dec.{T}
-use lib.IntN.{pos, natAbs, _+ℤ_, _-ℤ_}
 use lib.Signed.{leZ, leZ-yes}
 use lib.ListN.{length}
 use Rattle.basics.proofs.Tests.{true-of-T}
 use Rattle.basics.proofs.Reflects.{Reflects, reflects-iff, and-reflects, leb-reflects, ltb-reflects}
 use Rattle.meaning.specs.Expression.{Stream}
-use Rattle.meaning.specs.Letter.{Letter, IsLetter, none, more, size, letterCount, letterNumber, letterOf}
+use Rattle.meaning.specs.Letter.{Letter, IsLetter, none, more, letterCount, letterNumber, letterOf}
+use Rattle.meaning.proofs.SameRanges.{SameRanges, ranges-length, ranges-count, ranges-number, ranges-letter}
 use Rattle.nodes.specs.Bounds.{lowsOf, highsOf}
 use Rattle.nodes.proofs.Parts.{and-true-left, and-true-right}
 use Rattle.sheet.specs.Refusal.{letterBound}
@@ -24,27 +24,21 @@ use Rattle.letters.specs.Described.{described, isLetter, hasLetter}
 abbrev pub unnamed : List Stream → List Stream
 unnamed ss = described (lowsOf ss) (highsOf ss)
 
+unnamed-ranges : (ss : List Stream) → SameRanges (unnamed ss) ss
+unnamed-ranges [] = SameRanges.none
+unnamed-ranges (s ∷ ss) = SameRanges.more refl (unnamed-ranges ss)
+
 pub length-unnamed : (ss : List Stream) → length (unnamed ss) ≡ length ss
-length-unnamed [] = refl
-length-unnamed (s ∷ ss) = ap suc (length-unnamed ss)
+length-unnamed ss = ranges-length (unnamed-ranges ss)
 
 pub letterCount-unnamed : (ss : List Stream) → letterCount (unnamed ss) ≡ letterCount ss
-unfolding letterCount
-letterCount-unnamed [] = refl
-letterCount-unnamed (s ∷ ss) = ap (λ n. size (s .range) * n) (letterCount-unnamed ss)
+letterCount-unnamed ss = ranges-count (unnamed-ranges ss)
 
 pub letterOf-unnamed : (ss : List Stream) (n : ℕ) → letterOf (unnamed ss) n ≡ letterOf ss n
-unfolding letterOf
-letterOf-unnamed [] n = refl
-letterOf-unnamed (s ∷ ss) n =
-    let c = letterCount-unnamed ss in
-    ap₂ _∷_ (ap (λ m. s .range .low +ℤ pos (n / m)) c) (ap (λ m. letterOf (unnamed ss) (n % m)) c ∙ letterOf-unnamed ss (n % letterCount ss))
+letterOf-unnamed ss = ranges-letter (unnamed-ranges ss)
 
 pub letterNumber-unnamed : (ss : List Stream) (l : Letter) → letterNumber (unnamed ss) l ≡ letterNumber ss l
-unfolding letterNumber
-letterNumber-unnamed [] l = refl
-letterNumber-unnamed (s ∷ ss) [] = refl
-letterNumber-unnamed (s ∷ ss) (v ∷ l) = ap₂ (λ m n. natAbs (v -ℤ s .range .low) * m + n) (letterCount-unnamed ss) (letterNumber-unnamed ss l)
+letterNumber-unnamed ss = ranges-number (unnamed-ranges ss)
 
 pub isLetter-unnamed : (ss : List Stream) (l : Letter) → isLetter (unnamed ss) l ≡ isLetter ss l
 unfolding isLetter

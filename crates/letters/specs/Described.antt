@@ -7,12 +7,12 @@ use lib.Dec.{leb, ltb}
 use lib.IntN.{ℤ}
 use lib.ListN.{length, drop}
 use lib.Signed.{leZ}
-use Rattle.meaning.specs.Expression.{Stream}
+use Rattle.meaning.specs.Expression.{setKind, Stream}
 use Rattle.sheet.specs.Refusal.{letterBound}
 use Rattle.meaning.specs.Letter.{Letter, letterCount, letterNumber, letterOf}
 
 abbrev pub ranged : ℤ → ℤ → Stream
-ranged low high = record { name = []; range = record { low = low; high = high } }
+ranged low high = record { name = []; kind = setKind; range = record { low = low; high = high } }
 
 -- The streams with these lowest and highest values, as many as both lists have.
 abbrev pub described : List ℤ → List ℤ → List Stream

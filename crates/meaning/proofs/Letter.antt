@@ -12,7 +12,7 @@ use lib.Signed.{leZ, leZ-yes, _≤ℤ_, _<ℤ_}
 use Rattle.basics.proofs.Tests.{cond-true}
 use Rattle.meaning.specs.Arithmetic.{Interval, Within, truthInterval}
 use lib.ListN.{length, getD}
-use Rattle.meaning.specs.Expression.{Stream, rangeOf}
+use Rattle.meaning.specs.Expression.{readKind, setKind, Stream, rangeOf}
 use Rattle.meaning.specs.Letter.{Letter, IsLetter, none, more, size, letterCount, letterNumber, letterOf, recordOf}
 use Rattle.meaning.proofs.Order.{≤ℤ-trans, ≤-+ℤ-pos, distance-+ℤ-pos, +ℤ-pos-distance, +ℤ-pos-≤, distance-≤, distance-<}
 
@@ -105,7 +105,7 @@ letterNumber-rises (more {s} {ss} {v} {l} w h) (more {v = u} {l = m} w′ h′) 
 
 -- Two streams, 0 to 2 and 0 to 1: the letters 0 0, 0 1, 1 0, 1 1, 2 0 and 2 1, in this order.
 abbrev twoStreams : List Stream
-twoStreams = record { name = []; range = record { low = pos 0; high = pos 2 } } ∷ record { name = []; range = truthInterval } ∷ []
+twoStreams = record { name = []; kind = readKind; range = record { low = pos 0; high = pos 2 } } ∷ record { name = []; kind = setKind; range = truthInterval } ∷ []
 
 last-fastest : recordOf twoStreams (0 ∷ 1 ∷ 2 ∷ 3 ∷ 4 ∷ 5 ∷ [])
     ≡ (pos 0 ∷ pos 0 ∷ []) ∷ (pos 0 ∷ pos 1 ∷ []) ∷ (pos 1 ∷ pos 0 ∷ []) ∷ (pos 1 ∷ pos 1 ∷ []) ∷ (pos 2 ∷ pos 0 ∷ []) ∷ (pos 2 ∷ pos 1 ∷ []) ∷ []

@@ -7,6 +7,8 @@ pub mod Division
 pub mod Exploration
 pub mod Facts
 pub mod Interval
+pub mod SameRanges
+pub mod StreamKinds
 pub mod Lawful
 pub mod Letter
 pub mod Meaning

@@ -60,10 +60,15 @@ abbrev pub chosen : Value → Value → Value → Value
 chosen absent a b = absent
 chosen (number z) a b = cond (nonzero z) a b
 
--- One description of a stream: "Line 1: stream names. Line 2: the lowest value of each, in that order. Line 3: the highest."
--- A stream that the normal form adds has the empty name.
+-- "which streams are gauges and which are gates" (document 02, S-6): a gauge is `read`, a gate is `set`.
+pub data StreamKind : Type 0 where
+  readKind setKind : StreamKind
+
+-- One description of a stream: "Line 1: stream names. Line 2: the lowest value of each, in that order. Line 3: the highest." "The kinds travel with
+-- every description of a stream (an added one is `set`)" (document 02, S-6). A stream that the normal form adds has the empty name.
 pub record Stream : Type 0 where
   pub name : List ℕ
+  pub kind : StreamKind
   pub range : Interval
 
 pub record Sheet : Type 0 where
@@ -72,7 +77,7 @@ pub record Sheet : Type 0 where
 
 -- Stream k's range. The default beyond the sheet's streams is never asked for by an accepted sheet.
 abbrev pub noStream : Stream
-noStream = record { name = List.[]; range = record { low = pos 0; high = pos 0 } }
+noStream = record { name = List.[]; kind = setKind; range = record { low = pos 0; high = pos 0 } }
 
 abbrev pub rangeOf : List Stream → ℕ → Interval
 rangeOf streams k = getD streams k noStream .range

@@ -1,6 +1,7 @@
 pub mod Value
 pub mod Arithmetic
 pub mod Expression
+pub mod StreamKinds
 pub mod Interval
 pub mod Scope
 pub mod Letter

@@ -5,7 +5,7 @@ use lib.Dec.{T}
 use lib.ListN.{length}
 use Rattle.meaning.specs.Value.{equal, sameValue, Streams, ValueStreams, numbers}
 use Rattle.meaning.specs.Arithmetic.{NumberWithin, AnyWithin}
-use Rattle.meaning.specs.Expression.{Expression, integer, name, first, next, negation, binary, conditional, fby, comparison, Constraint, always, until, leftSide, rightSide, Sheet, rangeOf, valueFrom, MeetsFrom, Solution}
+use Rattle.meaning.specs.Expression.{Expression, integer, name, first, next, negation, binary, conditional, fby, comparison, Constraint, always, until, leftSide, rightSide, setKind, Sheet, rangeOf, valueFrom, MeetsFrom, Solution}
 use Rattle.meaning.specs.Interval.{interval}
 use Rattle.meaning.specs.Scope.{AgreeBelow}
 
@@ -91,7 +91,7 @@ unfoldable pub normalForm : Sheet → Sheet
 normalForm s =
     let n = length (s .streams) in
     record {
-      streams = s .streams ++ map (λ e. record { name = []; range = interval (s .streams) e }) (allAdded (s .constraints));
+      streams = s .streams ++ map (λ e. record { name = []; kind = setKind; range = interval (s .streams) e }) (allAdded (s .constraints));
       constraints = allRewritten n (s .constraints) ++ allEntries n (s .constraints);
     }
 

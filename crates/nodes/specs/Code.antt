@@ -1,10 +1,10 @@
--- The numbers by which stored nodes and constraints name what they are.
+-- The numbers by which stored nodes, constraints and streams name what they are.
 use Prim.Native.Nat.{ℕ, _+_}
 use mathlib.Core.List.{List, [], _∷_}
 use lib.ListN.{getD}
 use Rattle.meaning.specs.Value.{Comparison, less, atMost, equal, atLeast, greater, different}
 use Rattle.meaning.specs.Arithmetic.{Operator, add, subtract, multiply, divide, remainder, compare, and, or}
-use Rattle.meaning.specs.Expression.{Sign, comparison, implies, Constraint, always, until}
+use Rattle.meaning.specs.Expression.{Sign, comparison, implies, Constraint, always, until, StreamKind, readKind, setKind}
 
 abbrev pub comparisonCode : Comparison → ℕ
 comparisonCode less = 0
@@ -36,6 +36,11 @@ signs = comparison less ∷ comparison atMost ∷ comparison equal ∷ compariso
 
 abbrev pub signAt : ℕ → Sign
 signAt k = getD signs k implies
+
+-- A stream's kind (document 02, S-6): 0 `set`, 1 `read`; so a place without a stream is zero, as is a stream of which nothing is said.
+abbrev pub streamKindCode : StreamKind → ℕ
+streamKindCode readKind = 1
+streamKindCode setKind = 0
 
 abbrev pub relationCode : Constraint → ℕ
 relationCode (always s a b) = signCode s

@@ -3,7 +3,7 @@
 use Prim.Native.Nat.{ℕ, zero, suc, _+_, _-_, _≤_, _<_}
 use native.Mathlib.Omega.{arith}
 use native.Mathlib.Decide.{ℕ-discrete, decLt}
-use mathlib.Core.Path.{_≡_, sym, _∙_, ap, subst}
+use mathlib.Core.Path.{_≡_, refl, sym, _∙_, ap, subst}
 use mathlib.Core.Bool.{cond}
 use mathlib.Core.List.{List, [], _∷_, _++_, map}
 use mathlib.Core.Logic.{inl, inr}
@@ -13,11 +13,12 @@ use lib.ListN.{length, getD, length-append, length-map}
 use lib.Seq.{getD-append-add}
 use Rattle.basics.proofs.Lists.{All-append, All-map, All-mapped, Some-left, Some-mapped, Some-right}
 use Rattle.basics.specs.Lists.{All, Some}
-use Rattle.meaning.specs.Expression.{Expression, integer, name, first, next, negation, binary, conditional, fby, Constraint, always, until, leftSide, rightSide, Stream, Sheet, rangeOf}
+use Rattle.meaning.specs.Expression.{Expression, integer, name, first, next, negation, binary, conditional, fby, Constraint, always, until, leftSide, rightSide, setKind, Stream, Sheet, noStream, rangeOf}
 use Rattle.meaning.specs.Interval.{interval}
 use Rattle.meaning.specs.NormalForm.{added, addedCount, addedBy, allAdded, normalForm}
 use Rattle.meaning.proofs.NormalForm.{range-added}
 use Rattle.meaning.proofs.NormalForm.Names.{streams-length}
+use Rattle.nodes.specs.Code.{streamKindCode}
 use Rattle.spans.specs.Postfix.{inPostfix, nodeCount, nodeExpressions}
 use Rattle.normal.specs.Rows.{Row, rewriting, Line, lineAt, rewritingLines, ownRows, addedRows, streamsAfter}
 use Rattle.normal.specs.Encoded.{expressionAt, sourceInterval, normalRows, entryRecord, normalEntries}
@@ -339,3 +340,28 @@ LeftBelow s e = 2 ≤ e .kind → e .left < length (normalForm s .streams)
 pub entries-below : (text : List ℕ) (s : Sheet) → All (LeftBelow s) (normalEntries text s)
 entries-below text s =
     All-mapped (LeftBelow s) (entryRecord text s) (λ r h k. let high = h .high k in let left = stream-left r k in omega (arith, streams-length s)) (normalRows s) (all-ranged s)
+
+-- ---- the kinds of named streams
+
+-- "an added one is `set`" (document 02, S-6)
+added-set : (s : Sheet) (k : ℕ) → length (s .streams) ≤ k → getD (normalForm s .streams) k noStream .kind ≡ setKind
+unfolding normalForm
+added-set s k h =
+    let j = k - length (s .streams) in
+    let at : k ≡ length (s .streams) + j = omega arith in
+    let f : Expression → Stream = λ e. record { name = []; kind = setKind; range = interval (s .streams) e } in
+    ap (λ n. getD (s .streams ++ map f (allAdded (s .constraints))) n noStream .kind) at
+    ∙ ap (λ (x : Stream). x .kind) (getD-append-add (s .streams) (map f (allAdded (s .constraints))) j noStream) ∙ go (allAdded (s .constraints)) j
+  where
+    go : (es : List Expression) (j : ℕ) → getD (map (λ (e : Expression). record { name = []; kind = setKind; range = interval (s .streams) e }) es) j noStream .kind ≡ setKind
+    go [] j = refl
+    go (e ∷ es) zero = refl
+    go (e ∷ es) (suc j) = go es j
+
+-- The entry names a stream only with that stream's kind.
+abbrev pub HasKind : Sheet → Entry → Type 0
+HasKind s e = 2 ≤ e .kind → e .«stream_kind» ≡ streamKindCode (getD (normalForm s .streams) (e .left) noStream .kind)
+
+pub entries-kinds : (text : List ℕ) (s : Sheet) → All (HasKind s) (normalEntries text s)
+entries-kinds text s =
+    All-mapped (HasKind s) (entryRecord text s) (λ r h k. sym (ap streamKindCode (ap (λ i. getD (normalForm s .streams) i noStream .kind) (stream-left r k) ∙ added-set s (r .left) (h .low k)))) (normalRows s) (all-ranged s)

@@ -212,7 +212,7 @@ module _ {s : Sheet} (ok : Accepted s) where
       let h = lines-few 0 (length (s .streams)) (s .constraints) in
       let c = ok .constraintCount in
       let t = ok .expressionCount in
-      let n = ok .streamCount in
+      let n = ok .streams .streamCount in
       record { rows = omega arith; streams = omega arith }
 
   pub rows-few : length (allRows (length (s .streams)) (rewritingLines 0 (s .constraints))) ≤ rowBound

@@ -124,7 +124,7 @@ module _ {s : Sheet} (ok : Accepted s) where
   n = length (s .streams)
 
   streams-few : streamsAfter n (rewritingLines 0 (s .constraints)) ≤ 8 + 3 * 1024
-  streams-few = omega (arith, lines-few 0 n (s .constraints) .0, ok .expressionCount, ok .streamCount)
+  streams-few = omega (arith, lines-few 0 n (s .constraints) .0, ok .expressionCount, ok .streams .streamCount)
 
   -- "8 streams", and three for each token that may add streams.
   pub streams-bounded : length (normalForm s .streams) ≤ 8 + 3 * 1024

@@ -91,7 +91,7 @@ module _ (s : Sheet) where
     nodes = length (allNodes 0 0 (s .constraints))
 
     ordered : (k : ℕ) → k < length (s .streams) → rangeOf (s .streams) k .low ≤ℤ rangeOf (s .streams) k .high
-    ordered k h = ok .rangesOrdered (getD (s .streams) k noStream) (getD-member (s .streams) k noStream h)
+    ordered k h = ok .streams .rangesOrdered (getD (s .streams) k noStream) (getD-member (s .streams) k noStream h)
 
     node-good : {p f : ℕ} (i : ℕ) (e : Expression) → StoredAt N p f e (suc i) → Stand L p (inPostfix e) → Fine e → suc i ≤ nodes → Good (suc i)
     node-good {p} {f} i e t h g l =

@@ -10,7 +10,7 @@
 --   kind 4: `x₁ == next x₂`, and kind 5: `first x₁ == first x₂`. `left` and `right` are the streams' numbers.
 -- In kinds 3 to 5 `relation` is 2, the code of ==. In kinds 2 to 5 `left_begin` and `left_end` are the span of the expression that the stream `left`
 -- stands for, and `low` and `high` its range. `replaces` is 1 where the stream was added for the whole of a `next` or `fby`: its name replaces the text of
--- the span in the other entries. `stream_kind` has the place of the kind of the stream `left`; there is one kind, 0. All else is 0.
+-- the span in the other entries. `stream_kind` is the kind of the stream `left`: "an added one is `set`" (document 02, S-6), 0. All else is 0.
 -- "Added streams are numbered as their operators stand in the sheet, those of one operator as 000 numbers them", behind the sheet's own streams.
 use Prim.Native.Nat.{ℕ, zero, suc}
 use mathlib.Core.List.{List, map}

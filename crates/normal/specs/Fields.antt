@@ -3,6 +3,8 @@ use Prim.Native.Nat.{ℕ, suc}
 use mathlib.Core.Bool.{Bool, cond, _&&_, _||_}
 use lib.Dec.{eqb, ltb}
 use lib.IntN.{ℤ}
+use Rattle.meaning.specs.Expression.{setKind}
+use Rattle.nodes.specs.Code.{streamKindCode}
 use Rattle.scan.specs.declared.Span.{Span}
 use Rattle.normal.specs.Rows.{Row}
 use Rattle.normal.specs.declared.Entry.{Entry}
@@ -27,12 +29,13 @@ abbrev pub rightBehind : Row → ℕ
 rightBehind r = cond (rightIsNode (r .kind)) (suc (r .right)) 0
 
 -- The record of a row, where `spanOf` gives the span of the expression whose node stands before a place, and the ends are those of the stream's range.
+-- Where the left is a stream, it is an added one and so `set`.
 abbrev pub entryWith : (ℕ → Span) → Row → ℤ → ℤ → Entry
 entryWith spanOf r low high =
     record {
       kind = r .kind;
       relation = r .relation;
-      «stream_kind» = 0;
+      «stream_kind» = streamKindCode setKind;
       replaces = replacesIn (r .kind) (r .left) (r .right);
       left = cond (leftIsNode (r .kind)) 0 (r .left);
       «left_added» = r .leftAdded;

@@ -492,6 +492,9 @@ fn blank_entry() -> Entry
     }
 }
 
+// The kind of an added stream: where the left of an entry names a stream, it is an added one.
+const ADDED_STREAM_KIND: u16 = nodes::SET_STREAM as u16;
+
 // The entry with the number i; all fields are 0 where there is none.
 pub fn entry_at(numbers: &[u16; 30944], ends: &[i64; 8256], i: usize) -> Entry
     ensures { λ r. ⌜ r ≡ storedEntry (now (numbers .entry)) (now (ends .entry)) i ⌝ }
@@ -510,7 +513,7 @@ pub fn entry_at(numbers: &[u16; 30944], ends: &[i64; 8256], i: usize) -> Entry
     Entry {
         kind: kind,
         relation: numbers[at + 1],
-        stream_kind: 0,
+        stream_kind: ADDED_STREAM_KIND,
         replaces: replaces(kind, left, right),
         left: stream_of(is_left, left),
         left_added: numbers[at + 3],

@@ -38,7 +38,7 @@ module _ (s : Sheet) (accepted : Accepted s) {x : StoredSheet} (same : x ≡ sto
 
   uncut-streams : min (x .streams) 8 ≡ x .streams
   unfolding storedSheet
-  uncut-streams = omega (arith, ap (λ y. y .streams) same, accepted .streamCount)
+  uncut-streams = omega (arith, ap (λ y. y .streams) same, accepted .streams .streamCount)
 
   passed-is-stored : (entries : List ℕ) → passedSheet x entries ≡ stored accepted (behindNames s) entries
   unfolding storedSheet

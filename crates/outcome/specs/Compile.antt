@@ -98,6 +98,6 @@ pub data CompileOutcome (text : List ℕ) (room : Room) : CompileAnswer → Tabl
   read : {s : Sheet} {a : CompileAnswer} {t : Tables} → AnswerTo text (sheet s) → SheetOutcome s room a t → CompileOutcome text room a t
 
 -- A call of the compile with this text and this room gave this answer and left these tables: what the public function `compile` (crate compile)
--- and its entry for C ensure, and what the theorems about calls (crate theorems) take.
+-- and its entry for C ensure, beside what they tell of the sheet, and what the theorems about calls (crate theorems) take.
 abbrev pub CompileCall : List ℕ → Room → CompileAnswer → Tables → Type 0
 CompileCall text room a t = CompileOutcome text room a t

@@ -12,13 +12,13 @@ use Rattle.meaning.specs.Expression.{Stream}
 use Rattle.meaning.specs.Letter.{letterCount}
 use Rattle.meaning.specs.Window.{joinOver}
 use Rattle.sheet.specs.Refusal.{letterBound}
+use Rattle.sheet.specs.Names.{eightBytes, ShortNames}
 use Rattle.nodes.specs.Bounds.{lowsOf, highsOf}
 use Rattle.automaton.specs.Table.{noState}
 use Rattle.letters.specs.Described.{described, cutCount}
 use Rattle.letters.proofs.Streams.{letterCount-unnamed}
 use Rattle.print.specs.Text.{headingLine}
 use Rattle.print.specs.Table.{printed, placeText, linesFrom, storedNames, AllFit}
-use Rattle.print.proofs.Names.{eightBytes, Short}
 use Rattle.print.proofs.Places.{getD-inside, nothing-beyond}
 use Rattle.print.proofs.Lengths.{heading-length, place-length}
 use Rattle.print.proofs.Table.{printed-whole}
@@ -29,7 +29,7 @@ use Rattle.pages.proofs.Refused.{given-text, short-or-refused}
 -- ---- the whole text
 
 module _ (p : Printout) where
-  module _ (given : p .refusal ≡ 0) {ss : List Stream} (few : length ss ≤ 8) (bounded : letterCount ss ≤ letterBound) (short : Short ss) (moreNames moreLengths : List ℕ)
+  module _ (given : p .refusal ≡ 0) {ss : List Stream} (few : length ss ≤ 8) (bounded : letterCount ss ≤ letterBound) (short : ShortNames ss) (moreNames moreLengths : List ℕ)
       (names : p .names ≡ joinOver eightBytes ss ++ moreNames) (lengths : p .lengths ≡ map (λ x. length (x .name)) ss ++ moreLengths) (lows : p .lows ≡ lowsOf ss) (highs : p .highs ≡ highsOf ss)
       (whole : p .states * letterCount ss ≤ length (p .entries)) where
     used : min (p .states * cutCount (letterCount (described (p .lows) (p .highs)))) (length (p .entries)) ≡ p .states * letterCount ss

@@ -3,7 +3,7 @@ use mathlib.Core.Path.{_≡_, refl}
 use mathlib.Core.List.{List, [], _∷_}
 use lib.IntN.{pos, negsuc}
 use Rattle.text.specs.Bytes.{bytesOf}
-use Rattle.meaning.specs.Expression.{Stream}
+use Rattle.meaning.specs.Expression.{setKind, Stream}
 use Rattle.meaning.specs.Letter.{letterCount, letterOf}
 use Rattle.print.specs.Text.{digitsWithin, decimal, refusalLine}
 use Rattle.print.specs.Table.{rowText, tableText, printed}
@@ -11,8 +11,8 @@ use Rattle.print.specs.Table.{rowText, tableText, printed}
 -- "level gate|0 0|2 1"
 abbrev levelAndGate : List Stream
 levelAndGate =
-    record { name = bytesOf "level"; range = record { low = pos 0; high = pos 2 } }
-    ∷ record { name = bytesOf "gate"; range = record { low = pos 0; high = pos 1 } }
+    record { name = bytesOf "level"; kind = setKind; range = record { low = pos 0; high = pos 2 } }
+    ∷ record { name = bytesOf "gate"; kind = setKind; range = record { low = pos 0; high = pos 1 } }
     ∷ []
 
 -- "Here, whole"

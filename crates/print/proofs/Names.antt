@@ -2,32 +2,17 @@
 use Prim.Native.Nat.{ℕ, zero, suc, _+_, _-_, _*_, _≤_, _<_, min}
 use native.Mathlib.Omega.{arith}
 use mathlib.Core.Path.{_≡_, refl, sym, _∙_, ap, ap₂}
-use mathlib.Core.List.{List, [], _∷_, _++_, map, append-assoc, List·Memᴰ, List·Memᴰ·head, List·Memᴰ·tail, Memᴰ·map}
-use lib.Dec.{leb→le}
+use mathlib.Core.List.{List, [], _∷_, _++_, map, append-assoc, List·Memᴰ·head, List·Memᴰ·tail}
 use lib.ListN.{length, getD, take, drop, replicate, length-append, length-map, length-replicate}
 use lib.Seq.{take-suc, take-all, take-at, drop-append-add}
-use Rattle.basics.proofs.Tests.{and-left, and-right}
 use Rattle.text.specs.Bytes.{Token}
-use Rattle.text.specs.Token.{isName}
-use Rattle.meaning.specs.Expression.{Stream, Sheet}
+use Rattle.meaning.specs.Expression.{Stream}
 use Rattle.meaning.specs.Window.{joinOver}
-use Rattle.sheet.specs.Accepted.{Accepted}
+use Rattle.sheet.specs.Names.{eightBytes, ShortNames}
 use Rattle.print.specs.Table.{storedName, storedNames}
-
--- Eight bytes for a name.
-abbrev pub eightBytes : Stream → List ℕ
-eightBytes x = x .name ++ replicate (8 - length (x .name)) 0
 
 abbrev namesOf : List Stream → List Token
 namesOf ss = map (λ x. x .name) ss
-
-abbrev pub Short : List Stream → Type 0
-Short ss = (x : Stream) → List·Memᴰ x ss → length (x .name) ≤ 8
-
--- The names of an accepted sheet are.
-pub short-names : {s : Sheet} → Accepted s → Short (s .streams)
-unfolding isName
-short-names a x m = let t = a .areNames (x .name) (Memᴰ·map (λ y. y .name) m) in leb→le (length (x .name)) 8 (search (and-left, and-right))
 
 module _ (moreNames moreLengths : List ℕ) where
   abbrev names : List Stream → List ℕ
@@ -36,7 +21,7 @@ module _ (moreNames moreLengths : List ℕ) where
   abbrev lengths : List Stream → List ℕ
   lengths ss = map (λ x. length (x .name)) ss ++ moreLengths
 
-  name-at : (ss : List Stream) → Short ss → (i : ℕ) → i < length ss → storedName (names ss) (lengths ss) i ≡ getD (namesOf ss) i []
+  name-at : (ss : List Stream) → ShortNames ss → (i : ℕ) → i < length ss → storedName (names ss) (lengths ss) i ≡ getD (namesOf ss) i []
   name-at [] short i h = absurd (omega arith)
   name-at (x ∷ ss) short zero h =
       let l = short x (List·Memᴰ·head refl) in
@@ -52,12 +37,12 @@ module _ (moreNames moreLengths : List ℕ) where
       (ap₂ drop e (append-assoc (eightBytes x) (joinOver eightBytes ss) moreNames) ∙ drop-append-add (eightBytes x) (joinOver eightBytes ss ++ moreNames) (i * 8))
       ∙ name-at ss (λ y m. short y (List·Memᴰ·tail m)) i (omega arith)
 
-  names-to : (ss : List Stream) → Short ss → (k : ℕ) → k ≤ length ss → storedNames (names ss) (lengths ss) k ≡ take k (namesOf ss)
+  names-to : (ss : List Stream) → ShortNames ss → (k : ℕ) → k ≤ length ss → storedNames (names ss) (lengths ss) k ≡ take k (namesOf ss)
   unfolding storedNames
   names-to ss short zero h = refl
   names-to ss short (suc k) h =
       let n = length-map ss (λ x. x .name) in
       ap₂ (λ l t. l ++ (t ∷ [])) (names-to ss short k (omega arith)) (name-at ss short k h) ∙ sym (take-suc (namesOf ss) k [] (omega arith))
 
-  pub stored-names : (ss : List Stream) → Short ss → storedNames (names ss) (lengths ss) (length ss) ≡ namesOf ss
+  pub stored-names : (ss : List Stream) → ShortNames ss → storedNames (names ss) (lengths ss) (length ss) ≡ namesOf ss
   stored-names ss short = let n = length-map ss (λ x. x .name) in names-to ss short (length ss) (omega arith) ∙ take-all (length ss) (namesOf ss) (omega arith)

@@ -15,13 +15,14 @@ use Rattle.meaning.specs.Expression.{Stream}
 use Rattle.meaning.specs.Letter.{letterCount, letterOf}
 use Rattle.meaning.specs.Window.{joinOver}
 use Rattle.sheet.specs.Refusal.{letterBound}
+use Rattle.sheet.specs.Names.{eightBytes, ShortNames}
 use Rattle.nodes.specs.Bounds.{lowsOf, highsOf}
 use Rattle.automaton.specs.Table.{noState}
 use Rattle.letters.specs.Described.{hasLetter}
 use Rattle.letters.proofs.Streams.{unnamed, length-unnamed, letterCount-unnamed, letterOf-unnamed, letter-reflects}
 use Rattle.print.specs.Text.{headingLine, entryLine}
 use Rattle.print.specs.Table.{entryText, rowText, tableText, printed, placeText, linesFrom, storedNames}
-use Rattle.print.proofs.Names.{eightBytes, Short, stored-names}
+use Rattle.print.proofs.Names.{stored-names}
 
 -- A number below the count of a sheet's letters is that of a letter.
 pub has-letter : (ss : List Stream) → length ss ≤ 8 → letterCount ss ≤ letterBound → (letter : ℕ) → letter < letterCount ss → hasLetter (unnamed ss) letter 8 ≡ true
@@ -67,7 +68,7 @@ module _ (ss : List Stream) (entries finals : List ℕ) (few : length ss ≤ 8) 
       ap upTo e ∙ row-places state (letterCount ss) (omega arith) ∙ ap (λ l. l ++ rowText ss entries finals state (letterCount ss)) (table-places state)
 
   -- The heading of the stored names and the entries of the states' places are what `sluice` prints.
-  pub printed-whole : Short ss → (moreNames moreLengths : List ℕ) (states : ℕ)
+  pub printed-whole : ShortNames ss → (moreNames moreLengths : List ℕ) (states : ℕ)
       → headingLine (storedNames (joinOver eightBytes ss ++ moreNames) (map (λ x. length (x .name)) ss ++ moreLengths) (min (length ss) 8)) ++ upTo (states * letterCount ss)
       ≡ printed ss states entries finals
   unfolding printed

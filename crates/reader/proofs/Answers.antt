@@ -1,7 +1,7 @@
 -- The answer to header lines and constraint lines, from what was read of them: one law for each place at which the reading ends.
 use Prim.Native.Nat.{ℕ, _+_, _≤_}
 use mathlib.Core.Path.{_≡_, refl, sym, ap, ap₂, _∙_}
-use mathlib.Core.Bool.{Bool, true, false, not, cond, _||_}
+use mathlib.Core.Bool.{Bool, true, false, not, cond, _&&_, _||_}
 use mathlib.Core.List.{List, map}
 use mathlib.Core.Option.{Option, none}
 use native.Mathlib.Omega.{arith}
@@ -15,36 +15,42 @@ use Rattle.meaning.specs.Window.{allFirsts, allUntils}
 use Rattle.nodes.specs.Postfix.{Node, StoredConstraint, allNodes, storedConstraints, kindsOf, valuesOf, startsOf}
 use Rattle.sheet.specs.Form.{namesOf}
 use Rattle.sheet.specs.Refusal.{Answer, refused, sheet}
-use Rattle.sheet.specs.Reading.{anyOf, isIntegerBeyond, allExpressions, sidesBelow, refuses4, refuses5, refuses6, refuses7, answerToSheet, answerToForm}
+use Rattle.sheet.specs.Reading.{anyOf, isIntegerBeyond, allExpressions, sidesBelow, refuses4, refuses5, refuses6, refuses7, formOfLines, answerToSheet, answerToForm}
 use Rattle.parse.specs.Stored.{store}
 use Rattle.parse.specs.Bounded.{boundedConstraint}
 use Rattle.reader.specs.Constraints.{State, state, counts, LinesFit, ConstraintsOutcome}
 use Rattle.refusals.specs.Names.{namesRefused, formRefusal}
+use Rattle.refusals.specs.Places.{saidTokens}
 use Rattle.reader.specs.Stored.{padded, relationsOf, leftsOf, rightsOf, refusedReading, readingOf}
-use Rattle.reader.specs.Streams.{StreamTables, StreamsOutcome}
-use Rattle.reader.specs.Form.{formOfLines}
+use Rattle.reader.specs.Streams.{StreamTables, StreamsOutcome, KindsOutcome}
 use Rattle.reader.specs.Held.{constraintTables, Held, HeldSheet, HeldReading}
 use Rattle.reader.specs.declared.StreamsRead.{StreamsRead}
 use Rattle.reader.specs.declared.Reading.{Reading}
 use Rattle.reader.proofs.Stored.{withAll, withAll-nodes, withAll-relations, withAll-lefts, withAll-rights}
 use Rattle.reader.proofs.Room.{sets-padded}
 use Rattle.reader.proofs.Counts.{withAll-counts, constraints-few}
-use Rattle.reader.proofs.Form.{StreamsFound, streams-found, streams-names, noConstraints, ConstraintsFound, constraints-found, form-no-streams, form-empty, form-no-constraints, form-sheet}
+use Rattle.reader.proofs.Form.{StreamsFound, streams-found, streams-names, found-count, noConstraints, ConstraintsFound, constraints-found, form-no-streams, form-empty, form-no-kinds, HeaderFound, header-found, form-no-constraints, form-sheet}
 
 -- ---- refusal 3
 
 formless : {o : Option Sheet} → o ≡ none → refusedReading 3 ≡ readingOf (answerToForm o)
 formless e = sym (ap (λ o. readingOf (answerToForm o)) e)
 
-pub no-streams-reading : {names lows highs : List Token} {r : StreamsRead} {tables : StreamTables} (ls : List (List ℕ)) → StreamsOutcome names lows highs r tables → r .ok ≡ false → refusedReading 3 ≡ readingOf (answerToForm (formOfLines names lows highs ls))
-no-streams-reading ls o h = formless (form-no-streams ls o h)
+pub no-streams-reading : {names lows highs : List Token} {r : StreamsRead} {tables : StreamTables} (said : Option (List Token)) (ls : List (List ℕ)) → StreamsOutcome names lows highs r tables → r .ok ≡ false
+    → refusedReading 3 ≡ readingOf (answerToForm (formOfLines names lows highs said ls))
+no-streams-reading said ls o h = formless (form-no-streams said ls o h)
 
-module _ {names lows highs : List Token} {r : StreamsRead} {tables : StreamTables} (o : StreamsOutcome names lows highs r tables) (h : r .ok ≡ true) where
-  pub no-stream-reading : (ls : List (List ℕ)) → r .count ≡ 0 → refusedReading 3 ≡ readingOf (answerToForm (formOfLines names lows highs ls))
-  no-stream-reading ls e = formless (form-empty (streams-found o h) ls e)
+-- There are at most as many streams as line 1 has tokens.
+pub streams-few : {names lows highs : List Token} {r : StreamsRead} {tables : StreamTables} → StreamsOutcome names lows highs r tables → r .ok ≡ true → length names ≤ 8 → r .count ≤ 8
+streams-few {names} {lows} {highs} o h few =
+    let f = streams-found o h in
+    let e = found-count f in
+    let n = ap length (streams-names names lows highs (f .form)) in
+    omega (arith, length-map (f .all) (λ x. x .name))
 
-  no-constraints-reading : {ls : List (List ℕ)} {new : State} → (r .count ≡ 0 → ⊥) → ConstraintsOutcome names ls noConstraints new → new .counts .ok ≡ false → refusedReading 3 ≡ readingOf (answerToForm (formOfLines names lows highs ls))
-  no-constraints-reading n q k = formless (form-no-constraints (streams-found o h) n q refl k)
+pub no-stream-reading : {names lows highs : List Token} {r : StreamsRead} {tables : StreamTables} → StreamsOutcome names lows highs r tables → r .ok ≡ true → (said : Option (List Token)) (ls : List (List ℕ)) → r .count ≡ 0
+    → refusedReading 3 ≡ readingOf (answerToForm (formOfLines names lows highs said ls))
+no-stream-reading o h said ls e = formless (form-empty (streams-found o h) said ls e)
 
 -- ---- lines of the form
 
@@ -84,33 +90,33 @@ module _ (cs : List Constraint) (few-nodes : length (allNodes 0 0 (map boundedCo
       let rights = withAll-rights noConstraints cs ∙ sets-padded 0 32 (rightsOf rows) (omega (arith, length-map rows (λ t. t .right))) in
       λ i. state (stored-nodes i) (relations i) (lefts i) (rights i) (stored-counts i)
 
-record FormFound (namesLine lowsLine highsLine text : List ℕ) (r : StreamsRead) (tables : StreamTables) (new : State) : Type 0 where
+record FormFound (namesLine lowsLine highsLine kindsLine text : List ℕ) (r : StreamsRead) (tables : StreamTables) (kinds : List ℕ) (new : State) : Type 0 where
   fewNames : length (tokens namesLine) ≤ 8
   fewLines : LinesFit (lines text)
-  streams : StreamsFound (tokens namesLine) (tokens lowsLine) (tokens highsLine) r tables
+  streams : HeaderFound (tokens namesLine) (tokens lowsLine) (tokens highsLine) (tokens kindsLine) r tables kinds
   someStream : r .count ≡ 0 → ⊥
   constraints : ConstraintsFound (tokens namesLine) (lines text) noConstraints new
 
-abbrev linesAnswer : List ℕ → List ℕ → List ℕ → List ℕ → Answer
-linesAnswer namesLine lowsLine highsLine text = answerToForm (formOfLines (tokens namesLine) (tokens lowsLine) (tokens highsLine) (lines text))
+abbrev linesAnswer : List ℕ → List ℕ → List ℕ → List ℕ → List ℕ → Answer
+linesAnswer namesLine lowsLine highsLine kindsLine text = answerToForm (formOfLines (tokens namesLine) (tokens lowsLine) (tokens highsLine) (saidTokens (tokens kindsLine)) (lines text))
 
-module _ {namesLine lowsLine highsLine text : List ℕ} {r : StreamsRead} {tables : StreamTables} {new : State} (F : FormFound namesLine lowsLine highsLine text r tables new) where
+module _ {namesLine lowsLine highsLine kindsLine text : List ℕ} {r : StreamsRead} {tables : StreamTables} {kinds : List ℕ} {new : State} (F : FormFound namesLine lowsLine highsLine kindsLine text r tables kinds new) where
   abbrev found : Sheet
   found = record { streams = F .streams .all; constraints = F .constraints .all }
 
-  answer-is : linesAnswer namesLine lowsLine highsLine text ≡ answerToSheet found
+  answer-is : linesAnswer namesLine lowsLine highsLine kindsLine text ≡ answerToSheet found
   answer-is = ap (answerToForm) (form-sheet (F .streams) (F .someStream) (F .constraints))
 
   names-are : namesOf (found .streams) ≡ tokens namesLine
-  names-are = streams-names (tokens namesLine) (tokens lowsLine) (tokens highsLine) (F .streams .form)
+  names-are = F .streams .namesAre
 
-  names-reading : namesRefused (tokens namesLine) ≡ true → refusedReading 4 ≡ readingOf (linesAnswer namesLine lowsLine highsLine text)
+  names-reading : namesRefused (tokens namesLine) ≡ true → refusedReading 4 ≡ readingOf (linesAnswer namesLine lowsLine highsLine kindsLine text)
   unfolding namesRefused refuses4 answerToSheet
   names-reading h =
       let named : namesRefused (namesOf (found .streams)) ≡ true = ap namesRefused names-are ∙ h in
       sym (ap readingOf (answer-is ∙ ap (λ b. cond b (refused 4) (cond (refuses5 found) (refused 5) (cond (refuses6 found) (refused 6) (cond (refuses7 found) (refused 7) (sheet found))))) (ap (λ b. b || anyOf (λ c. not (sidesBelow (length (found .streams)) c)) (found .constraints)) named)))
 
-  found-held : namesRefused (tokens namesLine) ≡ false → Held found r tables new
+  found-held : namesRefused (tokens namesLine) ≡ false → Held found r tables kinds new
   found-held h =
       let few = constraints-few namesLine (lines text) 0 0 (F .constraints .form) in
       let few-nodes : length (allNodes 0 0 (map boundedConstraint (found .constraints))) ≤ 1024 = let a = few .nodes in let b = F .fewLines .tokens in omega arith in
@@ -118,6 +124,7 @@ module _ {namesLine lowsLine highsLine text : List ℕ} {r : StreamsRead} {table
       record {
         streams = F .streams .gives;
         streamTables = F .streams .stored;
+        streamKinds = F .streams .kindsStored;
         constraints = F .constraints .stored ∙ stored-all (found .constraints) few-nodes few-constraints;
         fewStreams = let n = F .fewNames in let e = ap length names-are in omega (arith, length-map (found .streams) (λ x. x .name));
         fewConstraints = few-constraints;
@@ -127,41 +134,54 @@ module _ {namesLine lowsLine highsLine text : List ℕ} {r : StreamsRead} {table
 
 -- ---- lines that were read whole
 
--- What was read of lines with some stream, and the refusal 3 or 4 that their constraint lines and names give, or 0.
-pub record LinesRead (namesLine lowsLine highsLine text : List ℕ) (r : StreamsRead) (tables : StreamTables) (new : State) (refusal : ℕ) : Type 0 where
+-- What was read of lines with some stream, and the refusal 3 or 4 that their line of kinds, constraint lines and names give, or 0.
+pub record LinesRead (namesLine lowsLine highsLine kindsLine text : List ℕ) (r : StreamsRead) (tables : StreamTables) (said : Bool) (kinds : List ℕ) (new : State) (refusal : ℕ) : Type 0 where
   pub few : (length (tokens namesLine) ≤ 8) × LinesFit (lines text)
   pub streams : StreamsOutcome (tokens namesLine) (tokens lowsLine) (tokens highsLine) r tables
   pub ok : r .ok ≡ true
   pub someStream : r .count ≡ 0 → ⊥
+  pub streamKinds : KindsOutcome (tokens kindsLine) (r .count) said kinds
   pub constraints : ConstraintsOutcome (tokens namesLine) (lines text) noConstraints new
-  pub judged : refusal ≡ formRefusal (not (new .counts .ok)) (namesRefused (tokens namesLine))
+  pub judged : refusal ≡ formRefusal (not (said && new .counts .ok)) (namesRefused (tokens namesLine))
 
-module _ {namesLine lowsLine highsLine text : List ℕ} {r : StreamsRead} {tables : StreamTables} {new : State} {refusal : ℕ} (R : LinesRead namesLine lowsLine highsLine text r tables new refusal) where
-  form-found : new .counts .ok ≡ true → FormFound namesLine lowsLine highsLine text r tables new
-  form-found e = record { fewNames = R .few .0; fewLines = R .few .1; streams = streams-found (R .streams) (R .ok); someStream = R .someStream; constraints = constraints-found (R .constraints) e }
+module _ {namesLine lowsLine highsLine kindsLine text : List ℕ} {r : StreamsRead} {tables : StreamTables} {said : Bool} {kinds : List ℕ} {new : State} {refusal : ℕ} (R : LinesRead namesLine lowsLine highsLine kindsLine text r tables said kinds new refusal) where
+  streams-read : StreamsFound (tokens namesLine) (tokens lowsLine) (tokens highsLine) r tables
+  streams-read = streams-found (R .streams) (R .ok)
 
-  refusal-is : {ok named : Bool} → new .counts .ok ≡ ok → namesRefused (tokens namesLine) ≡ named → refusal ≡ formRefusal (not ok) named
-  refusal-is e d = R .judged ∙ ap₂ (λ a b. formRefusal (not a) b) e d
+  form-found : said ≡ true → new .counts .ok ≡ true → FormFound namesLine lowsLine highsLine kindsLine text r tables kinds new
+  form-found k e = record { fewNames = R .few .0; fewLines = R .few .1; streams = header-found streams-read (R .streamKinds) k; someStream = R .someStream; constraints = constraints-found (R .constraints) e }
 
-  pub form-refused : (refusal ≡ 0 → ⊥) → refusedReading refusal ≡ readingOf (linesAnswer namesLine lowsLine highsLine text)
-  form-refused n = by (new .counts .ok) refl (namesRefused (tokens namesLine)) refl
+  refusal-is : {a ok named : Bool} → said ≡ a → new .counts .ok ≡ ok → namesRefused (tokens namesLine) ≡ named → refusal ≡ formRefusal (not (a && ok)) named
+  refusal-is k e d = R .judged ∙ ap₂ (λ a b. formRefusal (not a) b) (ap₂ _&&_ k e) d
+
+  -- Where the kinds or the constraint lines have not the form, the sheet is 3.
+  no-kinds-reading : said ≡ false → refusedReading 3 ≡ readingOf (linesAnswer namesLine lowsLine highsLine kindsLine text)
+  no-kinds-reading k = formless (form-no-kinds streams-read (lines text) (R .streamKinds) k)
+
+  no-constraints-reading : said ≡ true → new .counts .ok ≡ false → refusedReading 3 ≡ readingOf (linesAnswer namesLine lowsLine highsLine kindsLine text)
+  no-constraints-reading k e = formless (form-no-constraints (header-found streams-read (R .streamKinds) k) (R .someStream) (R .constraints) refl e)
+
+  pub form-refused : (refusal ≡ 0 → ⊥) → refusedReading refusal ≡ readingOf (linesAnswer namesLine lowsLine highsLine kindsLine text)
+  form-refused n = by said refl (new .counts .ok) refl (namesRefused (tokens namesLine)) refl
     where
-      by : (ok : Bool) → new .counts .ok ≡ ok → (named : Bool) → namesRefused (tokens namesLine) ≡ named → refusedReading refusal ≡ readingOf (linesAnswer namesLine lowsLine highsLine text)
-      by false e named d = ap refusedReading (refusal-is e d) ∙ no-constraints-reading (R .streams) (R .ok) (R .someStream) (R .constraints) e
-      by true e true d = ap refusedReading (refusal-is e d) ∙ names-reading (form-found e) d
-      by true e false d = absurd (n (refusal-is e d))
+      by : (a : Bool) → said ≡ a → (ok : Bool) → new .counts .ok ≡ ok → (named : Bool) → namesRefused (tokens namesLine) ≡ named → refusedReading refusal ≡ readingOf (linesAnswer namesLine lowsLine highsLine kindsLine text)
+      by false k ok e named d = ap refusedReading (refusal-is k e d) ∙ no-kinds-reading k
+      by true k false e named d = ap refusedReading (refusal-is k e d) ∙ no-constraints-reading k e
+      by true k true e true d = ap refusedReading (refusal-is k e d) ∙ names-reading (form-found k e) d
+      by true k true e false d = absurd (n (refusal-is k e d))
 
   -- Where neither refusal is given, the lines are of the form and no name of line 1 is refused.
-  form-taken : refusal ≡ 0 → (F : FormFound namesLine lowsLine highsLine text r tables new) × (namesRefused (tokens namesLine) ≡ false)
-  form-taken z = by (new .counts .ok) refl (namesRefused (tokens namesLine)) refl
+  form-taken : refusal ≡ 0 → (F : FormFound namesLine lowsLine highsLine kindsLine text r tables kinds new) × (namesRefused (tokens namesLine) ≡ false)
+  form-taken z = by said refl (new .counts .ok) refl (namesRefused (tokens namesLine)) refl
     where
-      by : (ok : Bool) → new .counts .ok ≡ ok → (named : Bool) → namesRefused (tokens namesLine) ≡ named → (F : FormFound namesLine lowsLine highsLine text r tables new) × (namesRefused (tokens namesLine) ≡ false)
-      by false e named d = let y = refusal-is e d in absurd (omega arith)
-      by true e true d = let y = refusal-is e d in absurd (omega arith)
-      by true e false d = (form-found e, d)
+      by : (a : Bool) → said ≡ a → (ok : Bool) → new .counts .ok ≡ ok → (named : Bool) → namesRefused (tokens namesLine) ≡ named → (F : FormFound namesLine lowsLine highsLine kindsLine text r tables kinds new) × (namesRefused (tokens namesLine) ≡ false)
+      by false k ok e named d = let y = refusal-is k e d in absurd (omega arith)
+      by true k false e named d = let y = refusal-is k e d in absurd (omega arith)
+      by true k true e true d = let y = refusal-is k e d in absurd (omega arith)
+      by true k true e false d = (form-found k e, d)
 
-  pub held-sheet : refusal ≡ 0 → HeldSheet r tables new
+  pub held-sheet : refusal ≡ 0 → HeldSheet r tables kinds new
   held-sheet z = let (F, h) = form-taken z in record { sheet = found F; held = found-held F h }
 
-  pub held-reading : refusal ≡ 0 → {reading : Reading} → HeldReading r tables new reading → reading ≡ readingOf (linesAnswer namesLine lowsLine highsLine text)
+  pub held-reading : refusal ≡ 0 → {reading : Reading} → HeldReading r tables kinds new reading → reading ≡ readingOf (linesAnswer namesLine lowsLine highsLine kindsLine text)
   held-reading z g = let (F, h) = form-taken z in g .gives (found F) (found-held F h) ∙ sym (ap readingOf (answer-is F))

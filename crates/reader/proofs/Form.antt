@@ -11,17 +11,20 @@ use lib.ListN.{length, replicate}
 use Rattle.nodes.specs.Evaluate.{stored}
 use Rattle.text.specs.Bytes.{Token}
 use Rattle.text.specs.Token.{isName, isInteger}
-use Rattle.meaning.specs.Expression.{Constraint, Stream}
+use Rattle.meaning.specs.Expression.{Constraint, StreamKind, Stream, Sheet}
 use Rattle.sheet.specs.Form.{namesOf}
 use Rattle.sheet.specs.Parser.{andThen}
-use Rattle.sheet.specs.Reading.{streamFrom, streamsFrom, constraintsOf, sheetFrom}
+use Rattle.sheet.specs.Reading.{streamFrom, streamsFrom, kindsOfStreams, withKinds, constraintsOf, sheetFrom, formOfLines}
+use Rattle.sheet.proofs.Form.{withKinds-map, kindsOfStreams-sound}
 use Rattle.sheet.proofs.Parser.{andThen-some}
+use Rattle.refusals.specs.Places.{saidTokens}
 use Rattle.reader.specs.Constraints.{State, state, counts, readAll, ConstraintsOutcome}
 use Rattle.reader.specs.Constraints as constraints
-use Rattle.reader.specs.Streams.{StreamTables, streamTablesOf, streamsRead, StreamsOutcome}
+use Rattle.reader.specs.Stored.{padded, streamKindCodes}
+use Rattle.reader.specs.Streams.{StreamTables, streamTablesOf, streamsRead, StreamsOutcome, KindsOutcome, noKinds, kindsRead}
 use Rattle.reader.specs.Streams as streams
-use Rattle.reader.specs.Form.{formOfLines}
 use Rattle.reader.specs.declared.StreamsRead.{StreamsRead}
+use Rattle.reader.proofs.StreamKinds.{kinds-streamsRead, kinds-tables, kinds-codes}
 use Rattle.reader.proofs.Stored.{withAll, readAll-constraints}
 use Rattle.reader.proofs.Counts.{withAll-counts}
 
@@ -93,12 +96,22 @@ constraints-missing {names} {ls} {old} {new} (constraints.areRead p) o h =
 
 -- ---- the sheet
 
-pub form-no-streams : {names lows highs : List Token} {r : StreamsRead} {tables : StreamTables} (ls : List (List ℕ)) → StreamsOutcome names lows highs r tables → r .ok ≡ false → formOfLines names lows highs ls ≡ none
-form-no-streams ls o h = ap (λ x. andThen x (sheetFrom ls)) (streams-missing o h)
+-- What is made of the streams of the three header lines: their kinds, and the sheet.
+abbrev withRest : Option (List Token) → List (List ℕ) → List Stream → Option Sheet
+withRest said ls ss = andThen (kindsOfStreams said (length ss)) (λ ks. sheetFrom ls (withKinds ks ss))
 
-sheet-empty : (ls : List (List ℕ)) (ss : List Stream) → length ss ≡ 0 → sheetFrom ls ss ≡ none
-sheet-empty ls [] h = refl
-sheet-empty ls (s ∷ ss) h = absurd (omega arith)
+pub form-no-streams : {names lows highs : List Token} {r : StreamsRead} {tables : StreamTables} (said : Option (List Token)) (ls : List (List ℕ)) → StreamsOutcome names lows highs r tables → r .ok ≡ false
+    → formOfLines names lows highs said ls ≡ none
+form-no-streams said ls o h = ap (λ x. andThen x (withRest said ls)) (streams-missing o h)
+
+sheet-empty : (said : Option (List Token)) (ls : List (List ℕ)) (ss : List Stream) → length ss ≡ 0 → withRest said ls ss ≡ none
+sheet-empty said ls [] h = by (kindsOfStreams said 0)
+  where
+    by : (o : Option (List StreamKind)) → andThen o (λ ks. sheetFrom ls (withKinds ks [])) ≡ none
+    by none = refl
+    by (some []) = refl
+    by (some (k ∷ ks)) = refl
+sheet-empty said ls (s ∷ ss) h = absurd (omega arith)
 
 sheet-from : (ls : List (List ℕ)) (ss : List Stream) → (length ss ≡ 0 → ⊥) → sheetFrom ls ss ≡ andThen (constraintsOf (namesOf ss) ls) (λ cs. some (record { streams = ss; constraints = cs }))
 sheet-from ls [] h = absurd (h refl)
@@ -108,17 +121,49 @@ module _ {names lows highs : List Token} {r : StreamsRead} {tables : StreamTable
   pub found-count : r .count ≡ length (f .all)
   found-count = ap (λ x. x .count) (f .gives)
 
-  pub form-empty : (ls : List (List ℕ)) → r .count ≡ 0 → formOfLines names lows highs ls ≡ none
-  form-empty ls h = ap (λ o. andThen o (sheetFrom ls)) (f .form) ∙ sheet-empty ls (f .all) (sym found-count ∙ h)
+  pub form-empty : (said : Option (List Token)) (ls : List (List ℕ)) → r .count ≡ 0 → formOfLines names lows highs said ls ≡ none
+  form-empty said ls h = ap (λ o. andThen o (withRest said ls)) (f .form) ∙ sheet-empty said ls (f .all) (sym found-count ∙ h)
 
-  module _ (some-stream : r .count ≡ 0 → ⊥) where
-    form-streams : (ls : List (List ℕ)) → formOfLines names lows highs ls ≡ andThen (constraintsOf names ls) (λ cs. some (record { streams = f .all; constraints = cs }))
-    form-streams ls =
-        ap (λ o. andThen o (sheetFrom ls)) (f .form) ∙ sheet-from ls (f .all) (λ e. some-stream (found-count ∙ e))
-        ∙ ap (λ n. andThen (constraintsOf n ls) (λ cs. some (record { streams = f .all; constraints = cs }))) (streams-names names lows highs (f .form))
+  pub form-no-kinds : {kinds : List Token} {ok : Bool} {table : List ℕ} (ls : List (List ℕ)) → KindsOutcome kinds (r .count) ok table → ok ≡ false → formOfLines names lows highs (saidTokens kinds) ls ≡ none
+  form-no-kinds {kinds} ls (noKinds p e) h =
+      ap (λ o. andThen o (withRest (saidTokens kinds) ls)) (f .form)
+      ∙ ap (λ n. andThen (kindsOfStreams (saidTokens kinds) n) (λ ks. sheetFrom ls (withKinds ks (f .all)))) (sym found-count)
+      ∙ ap (λ o. andThen o (λ ks. sheetFrom ls (withKinds ks (f .all)))) p
+  form-no-kinds {kinds} ls (kindsRead ks p e t) h = absurd (subst T (sym e ∙ h) tt)
 
-    pub form-no-constraints : {ls : List (List ℕ)} {old new : State} → ConstraintsOutcome names ls old new → old .counts .ok ≡ true → new .counts .ok ≡ false → formOfLines names lows highs ls ≡ none
-    form-no-constraints {ls} o h k = form-streams ls ∙ ap (λ x. andThen x (λ cs. some (record { streams = f .all; constraints = cs }))) (constraints-missing o h k)
+-- The streams with their kinds, and that the tables hold them.
+pub record HeaderFound (names lows highs kinds : List Token) (r : StreamsRead) (tables : StreamTables) (kindTable : List ℕ) : Type 0 where
+  pub all : List Stream
+  pub form : (ls : List (List ℕ)) → formOfLines names lows highs (saidTokens kinds) ls ≡ sheetFrom ls all
+  pub namesAre : namesOf all ≡ names
+  pub gives : r ≡ streamsRead all
+  pub stored : tables ≡ streamTablesOf all
+  pub kindsStored : kindTable ≡ padded 8 0 (streamKindCodes all)
 
-    pub form-sheet : {ls : List (List ℕ)} {old new : State} (k : ConstraintsFound names ls old new) → formOfLines names lows highs ls ≡ some (record { streams = f .all; constraints = k .all })
-    form-sheet {ls} k = form-streams ls ∙ ap (λ x. andThen x (λ cs. some (record { streams = f .all; constraints = cs }))) (k .form)
+pub header-found : {names lows highs kinds : List Token} {r : StreamsRead} {tables : StreamTables} {ok : Bool} {kindTable : List ℕ} → StreamsFound names lows highs r tables → KindsOutcome kinds (r .count) ok kindTable → ok ≡ true
+    → HeaderFound names lows highs kinds r tables kindTable
+header-found f (noKinds p e) h = absurd (subst T (sym h ∙ e) tt)
+header-found {names} {lows} {highs} {kinds} f (kindsRead ks p e t) h =
+    let ss = f .all in
+    let said : kindsOfStreams (saidTokens kinds) (length ss) ≡ some ks = ap (kindsOfStreams (saidTokens kinds)) (sym (found-count f)) ∙ p in
+    let each : length ks ≡ length ss = kindsOfStreams-sound (saidTokens kinds) (length ss) ks said .1 in
+    record {
+      all = withKinds ks ss;
+      form = λ ls. ap (λ o. andThen o (withRest (saidTokens kinds) ls)) (f .form) ∙ ap (λ o. andThen o (λ js. sheetFrom ls (withKinds js ss))) said;
+      namesAre = withKinds-map (λ x. x .name) (λ k s. refl) ks ss ∙ streams-names names lows highs (f .form);
+      gives = f .gives ∙ kinds-streamsRead ks ss;
+      stored = f .stored ∙ kinds-tables ks ss;
+      kindsStored = t ∙ ap (padded 8 0) (kinds-codes ks ss each);
+    }
+
+module _ {names lows highs kinds : List Token} {r : StreamsRead} {tables : StreamTables} {kindTable : List ℕ} (f : HeaderFound names lows highs kinds r tables kindTable) (some-stream : r .count ≡ 0 → ⊥) where
+  form-streams : (ls : List (List ℕ)) → formOfLines names lows highs (saidTokens kinds) ls ≡ andThen (constraintsOf names ls) (λ cs. some (record { streams = f .all; constraints = cs }))
+  form-streams ls =
+      f .form ls ∙ sheet-from ls (f .all) (λ e. some-stream (ap (λ x. x .count) (f .gives) ∙ e))
+      ∙ ap (λ n. andThen (constraintsOf n ls) (λ cs. some (record { streams = f .all; constraints = cs }))) (f .namesAre)
+
+  pub form-no-constraints : {ls : List (List ℕ)} {old new : State} → ConstraintsOutcome names ls old new → old .counts .ok ≡ true → new .counts .ok ≡ false → formOfLines names lows highs (saidTokens kinds) ls ≡ none
+  form-no-constraints {ls} o h k = form-streams ls ∙ ap (λ x. andThen x (λ cs. some (record { streams = f .all; constraints = cs }))) (constraints-missing o h k)
+
+  pub form-sheet : {ls : List (List ℕ)} {old new : State} (k : ConstraintsFound names ls old new) → formOfLines names lows highs (saidTokens kinds) ls ≡ some (record { streams = f .all; constraints = k .all })
+  form-sheet {ls} k = form-streams ls ∙ ap (λ x. andThen x (λ cs. some (record { streams = f .all; constraints = cs }))) (k .form)

@@ -29,7 +29,7 @@ use Rattle.reader.proofs.Room.{length-padded, take-padded}
 use Rattle.reader.proofs.Tests.{storedLows, storedHighs, NothingCut, acceptedAs, Told, isRefused, isSheet, tests-told}
 use Rattle.reader.proofs.FirstNodes.{first-places, few-firsts}
 
-module _ {s : Sheet} {r : StreamsRead} {tables : StreamTables} {new : State} (H : Held s r tables new) where
+module _ {s : Sheet} {r : StreamsRead} {tables : StreamTables} {streamKinds : List ℕ} {new : State} (H : Held s r tables streamKinds new) where
   abbrev ss : List Stream
   ss = s .streams
 
@@ -217,6 +217,7 @@ module _ {s : Sheet} {r : StreamsRead} {tables : StreamTables} {new : State} (H 
             lengths = tables .lengths;
             lows = tables .lows;
             highs = tables .highs;
+            «stream_kinds» = streamKinds;
             letters = t .letters;
             constraints = new .counts .count;
             relations = new .relations;
@@ -259,6 +260,7 @@ module _ {s : Sheet} {r : StreamsRead} {tables : StreamTables} {new : State} (H 
             lengths = H .streamTables i .lengths;
             lows = lows i;
             highs = highs i;
+            «stream_kinds» = H .streamKinds i;
             letters = tested i .letters;
             constraints = count-is i;
             relations = relations i;

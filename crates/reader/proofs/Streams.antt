@@ -6,23 +6,24 @@ use mathlib.Core.Bool.{Bool, true, false, cond, _&&_, _||_, true≢false, or-fal
 use mathlib.Core.List.{List, [], _∷_, _++_, map, append-nil, append-assoc, map-append}
 use mathlib.Core.Option.{Option, some, none}
 use native.Mathlib.Omega.{arith}
-use lib.Dec.{eqb, leb}
+use lib.Dec.{eqb}
 use lib.IntN.{ℤ, pos}
 use lib.ListN.{length, drop, set, replicate, length-append, length-map, length-replicate, replicate-append-replicate}
 use lib.Seq.{sets, append-snoc, set-append-seam}
 use lib.Signed.{ltZ}
 use mir.Syntax.{w64}
 use mir.ValLaws.{toZ-ofZ}
-use borrow.Author.Tests.{eqb-true, eqb-false, leb-true}
+use borrow.Author.Tests.{eqb-true, eqb-false}
 use Rattle.basics.proofs.Reflects.{to-true, T-reflects}
-use Rattle.basics.proofs.Tests.{and-right}
+use Rattle.basics.proofs.Tests.{T-of-true}
 use Rattle.arithmetic.proofs.Machine.{held}
 use Rattle.text.specs.Bytes.{Token, tokens}
-use Rattle.text.specs.Token.{allBytes, isLowercase, isName, isInteger, integerValue}
+use Rattle.text.specs.Token.{isName, isInteger, integerValue}
 use Rattle.meaning.specs.Expression.{Stream}
 use Rattle.meaning.specs.Window.{joinOver}
 use Rattle.sheet.specs.Parser.{andThen}
 use Rattle.sheet.specs.Reading.{anyOf, isBeyond, isRangeFaulty, streamFrom, streamsFrom}
+use Rattle.sheet.proofs.Names.{name-short}
 use Rattle.scan.specs.Place.{between, TokenAt, noToken, aToken}
 use Rattle.scan.specs.Integer.{integerRead}
 use Rattle.scan.specs.declared.Span.{Span}
@@ -74,7 +75,7 @@ module _ {A : Type 0} (n : ℕ) (z : A) where
   padded-length l h = let a = length-append l (replicate (n - length l) z) in let b = length-replicate (n - length l) z in omega arith
 
   -- A table of a value of each element.
-  padded-map : {X : Type 0} (f : X → A) (xs : List X) (x : X) → length xs < n → set (padded n z (map f xs)) (length xs) (f x) ≡ padded n z (map f (xs ++ (x ∷ [])))
+  pub padded-map : {X : Type 0} (f : X → A) (xs : List X) (x : X) → length xs < n → set (padded n z (map f xs)) (length xs) (f x) ≡ padded n z (map f (xs ++ (x ∷ [])))
   padded-map f xs x h =
       let e = length-map xs f in
       ap (λ k. set (padded n z (map f xs)) k (f x)) (sym e)
@@ -149,8 +150,7 @@ streams-more n l h ns ls hs a b c = rw (a, b, c)
 
 -- A name fits the eight bytes that are kept for it.
 pub name-fits : (t : Token) → isName t ≡ true → length t ≤ 8
-unfolding isName
-name-fits t e = leb-true (length t) 8 (to-true (T-reflects (leb (length t) 8)) (and-right (allBytes isLowercase t && leb 1 (length t)) (leb (length t) 8) (rw e tt)))
+name-fits t e = name-short t (T-of-true (isName t) e)
 
 -- Where a line's tokens are used up, what stands at the place is no integer.
 no-bytes : (text : List ℕ) (s : Span) → s .start ≡ length text → s .end ≡ length text → between text (s .start) (s .end) ≡ []

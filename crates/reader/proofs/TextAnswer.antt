@@ -11,12 +11,11 @@ use Rattle.text.specs.Bytes.{lines, tokens}
 use Rattle.meaning.specs.Expression.{Sheet}
 use Rattle.sheet.specs.Form.{lineTokens, constraintLines}
 use Rattle.sheet.specs.Refusal.{refused, tokenCount}
-use Rattle.sheet.specs.Reading.{anyOf, tooDeepFrom, refuses1, refuses2, formOf, answerToForm, answerTo}
+use Rattle.sheet.specs.Reading.{anyOf, tooDeepFrom, refuses1, refuses2, formOfLines, formOf, answerToForm, answerTo}
 use Rattle.scan.specs.Place as place
 use Rattle.reader.specs.Constraints.{LinesFit}
-use Rattle.refusals.specs.Places.{HeaderOf}
+use Rattle.refusals.specs.Places.{saidTokens, HeaderOf}
 use Rattle.reader.specs.Stored.{refusedReading, readingOf}
-use Rattle.reader.specs.Form.{formOfLines}
 use Rattle.refusals.specs.declared.Header.{Header}
 use Rattle.reader.specs.declared.Reading.{Reading}
 use Rattle.refusals.proofs.Lines.{between-all}
@@ -58,12 +57,12 @@ module _ {text : List ℕ} {h : Header} (K : HeaderKnown text h) where
 
   -- The sheet of the lines found, where there are three header lines.
   abbrev read : Option Sheet
-  read = formOfLines (tokens (place.between text 0 (h .«names_end»))) (tokens (place.between text (h .«lows_start») (h .«lows_end»))) (tokens (place.between text (h .«highs_start») (h .«highs_end»))) (lines rest)
+  read = formOfLines (tokens (place.between text 0 (h .«names_end»))) (tokens (place.between text (h .«lows_start») (h .«lows_end»))) (tokens (place.between text (h .«highs_start») (h .«highs_end»))) (saidTokens (tokens (place.between text (h .«kinds_start») (h .«kinds_end»)))) (lines rest)
 
   form-is : form text ≡ cond (h .whole) read none
   unfolding formOf
   form-is =
-      sym (λ i. cond (places .whole i) (formOfLines (tokens (places .names i)) (tokens (places .lows i)) (tokens (places .highs i)) (rest-lines i)) none)
+      sym (λ i. cond (places .whole i) (formOfLines (tokens (places .names i)) (tokens (places .lows i)) (tokens (places .highs i)) (sym (places .kinds) i) (rest-lines i)) none)
 
   form-reading : {o : Option Sheet} → form text ≡ o → readingOf (answerToForm o) ≡ textReading text
   form-reading e = ap (λ o. readingOf (answerToForm o)) (sym e) ∙ tested-reading text (K .bytes) (K .counted)

@@ -1,5 +1,5 @@
 -- What the tables and counts hold of a sheet of the form whose names of line 1 are not refused.
-use Prim.Native.Nat.{_≤_}
+use Prim.Native.Nat.{ℕ, _≤_}
 use mathlib.Core.Path.{_≡_}
 use mathlib.Core.Bool.{false}
 use mathlib.Core.List.{List, map}
@@ -14,7 +14,7 @@ use Rattle.sheet.specs.Reading.{anyOf, isIntegerBeyond, allExpressions, answerT
 use Rattle.parse.specs.Bounded.{boundedConstraint}
 use Rattle.reader.specs.Constraints.{State, state, counts}
 use Rattle.refusals.specs.Names.{namesRefused}
-use Rattle.reader.specs.Stored.{padded, relationsOf, leftsOf, rightsOf, readingOf}
+use Rattle.reader.specs.Stored.{padded, streamKindCodes, relationsOf, leftsOf, rightsOf, readingOf}
 use Rattle.reader.specs.Streams.{StreamTables, streamTablesOf, streamsRead}
 use Rattle.reader.specs.declared.StreamsRead.{StreamsRead}
 use Rattle.reader.specs.declared.Reading.{Reading}
@@ -32,9 +32,10 @@ constraintTables cs =
     (padded 32 0 (rightsOf rows))
     (counts (length cs) (length nodes) (length (allFirsts bounded)) (length (allUntils bounded)) (anyOf isIntegerBeyond (allExpressions cs)))
 
-pub record Held (s : Sheet) (r : StreamsRead) (tables : StreamTables) (new : State) : Type 0 where
+pub record Held (s : Sheet) (r : StreamsRead) (tables : StreamTables) (codes : List ℕ) (new : State) : Type 0 where
   pub streams : r ≡ streamsRead (s .streams)
   pub streamTables : tables ≡ streamTablesOf (s .streams)
+  pub streamKinds : codes ≡ padded 8 0 (streamKindCodes (s .streams))
   pub constraints : new ≡ constraintTables (s .constraints)
   pub fewStreams : length (s .streams) ≤ 8
   pub fewConstraints : length (s .constraints) ≤ 32
@@ -42,10 +43,10 @@ pub record Held (s : Sheet) (r : StreamsRead) (tables : StreamTables) (new : Sta
   pub names : namesRefused (namesOf (s .streams)) ≡ false
 
 -- They hold some sheet.
-pub record HeldSheet (r : StreamsRead) (tables : StreamTables) (new : State) : Type 0 where
+pub record HeldSheet (r : StreamsRead) (tables : StreamTables) (codes : List ℕ) (new : State) : Type 0 where
   pub sheet : Sheet
-  pub held : Held sheet r tables new
+  pub held : Held sheet r tables codes new
 
 -- The reading is the answer to the sheet that they hold.
-pub record HeldReading (r : StreamsRead) (tables : StreamTables) (new : State) (reading : Reading) : Type 0 where
-  pub gives : (s : Sheet) → Held s r tables new → reading ≡ readingOf (answerToSheet s)
+pub record HeldReading (r : StreamsRead) (tables : StreamTables) (codes : List ℕ) (new : State) (reading : Reading) : Type 0 where
+  pub gives : (s : Sheet) → Held s r tables codes new → reading ≡ readingOf (answerToSheet s)

@@ -5,5 +5,4 @@ pub mod Unknown
 pub mod Extent
 pub mod FirstNodes
 pub mod Tested
-pub mod Form
 pub mod Held

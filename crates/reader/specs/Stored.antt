@@ -8,7 +8,9 @@ use Rattle.meaning.specs.Expression.{Stream, Sheet}
 use Rattle.meaning.specs.Letter.{letterCount}
 use Rattle.meaning.specs.Window.{joinOver, allFirsts, allUntils, B, D}
 use Rattle.sheet.specs.Refusal.{Answer, refused, sheet}
+use Rattle.sheet.specs.Names.{eightBytes}
 use Rattle.nodes.specs.Postfix.{StoredConstraint, allNodes, storedConstraints, kindsOf, valuesOf, startsOf}
+use Rattle.nodes.specs.Code.{streamKindCode}
 use Rattle.nodes.specs.FirstPlaces.{allFirstPlaces}
 use Rattle.nodes.specs.Bounds.{lowsOf, highsOf}
 use Rattle.reader.specs.declared.Sheet.{Sheet as StoredSheet}
@@ -20,10 +22,13 @@ padded n z l = l ++ replicate (n - length l) z
 
 -- Eight bytes for each name.
 abbrev pub nameBytes : List Stream → List ℕ
-nameBytes ss = joinOver (λ x. padded 8 0 (x .name)) ss
+nameBytes ss = joinOver eightBytes ss
 
 abbrev pub nameLengths : List Stream → List ℕ
 nameLengths ss = map (λ x. length (x .name)) ss
+
+abbrev pub streamKindCodes : List Stream → List ℕ
+streamKindCodes ss = map (λ x. streamKindCode (x .kind)) ss
 
 abbrev pub relationsOf : List StoredConstraint → List ℕ
 relationsOf ts = map (λ t. t .relation) ts
@@ -44,6 +49,7 @@ storedSheet s =
       lengths = padded 8 0 (nameLengths (s .streams));
       lows = padded 8 (pos 0) (lowsOf (s .streams));
       highs = padded 8 (pos 0) (highsOf (s .streams));
+      «stream_kinds» = padded 8 0 (streamKindCodes (s .streams));
       letters = letterCount (s .streams);
       constraints = length (s .constraints);
       relations = padded 32 0 (relationsOf constraints);
@@ -68,6 +74,7 @@ emptySheet =
       lengths = replicate 8 0;
       lows = replicate 8 (pos 0);
       highs = replicate 8 (pos 0);
+      «stream_kinds» = replicate 8 0;
       letters = 0;
       constraints = 0;
       relations = replicate 32 0;

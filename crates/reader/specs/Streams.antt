@@ -1,14 +1,17 @@
--- What is stored of the header lines (document 01, "Line 1: stream names. Line 2: the lowest value of each, in that order. Line 3: the highest.").
+-- What is stored of the header lines (document 01, "Line 1: stream names. Line 2: the lowest value of each, in that order. Line 3: the highest."), and
+-- of the line of kinds (document 02, S-6).
 use Prim.Native.Nat.{ℕ}
 use mathlib.Core.Path.{_≡_}
-use mathlib.Core.Bool.{true, false}
+use mathlib.Core.Bool.{Bool, true, false}
 use mathlib.Core.List.{List, map}
 use mathlib.Core.Option.{some, none}
 use lib.IntN.{ℤ, pos}
 use lib.ListN.{length, replicate}
 use Rattle.text.specs.Bytes.{Token}
-use Rattle.meaning.specs.Expression.{Stream}
-use Rattle.sheet.specs.Reading.{anyOf, isRangeFaulty, streamsFrom}
+use Rattle.meaning.specs.Expression.{StreamKind, Stream}
+use Rattle.nodes.specs.Code.{streamKindCode}
+use Rattle.sheet.specs.Reading.{anyOf, isRangeFaulty, streamsFrom, kindsOfStreams}
+use Rattle.refusals.specs.Places.{saidTokens}
 use Rattle.parse.specs.Bounded.{zeroBeyond}
 use Rattle.reader.specs.Stored.{padded, nameBytes, nameLengths}
 use Rattle.reader.specs.declared.StreamsRead.{StreamsRead}
@@ -42,3 +45,9 @@ streamsRead ss = record { ok = true; count = length ss; faulty = anyOf isRangeFa
 pub data StreamsOutcome (names lows highs : List Token) (r : StreamsRead) (tables : StreamTables) : Type 0 where
   noForm : streamsFrom names lows highs ≡ none → r .ok ≡ false → StreamsOutcome names lows highs r tables
   areRead : (ss : List Stream) → streamsFrom names lows highs ≡ some ss → r ≡ streamsRead ss → tables ≡ streamTablesOf ss → StreamsOutcome names lows highs r tables
+
+-- The tokens of the line of kinds say a kind for each of the streams, or nothing, and the table holds the kinds; or they do not, and what the table
+-- holds is left open.
+pub data KindsOutcome (ts : List Token) (count : ℕ) (ok : Bool) (table : List ℕ) : Type 0 where
+  noKinds : kindsOfStreams (saidTokens ts) count ≡ none → ok ≡ false → KindsOutcome ts count ok table
+  kindsRead : (ks : List StreamKind) → kindsOfStreams (saidTokens ts) count ≡ some ks → ok ≡ true → table ≡ padded 8 0 (map streamKindCode ks) → KindsOutcome ts count ok table

@@ -5,30 +5,31 @@ ghost use mathlib.Core.Path.{_≡_};
 ghost use mathlib.Core.Bool.{false, cond};
 ghost use Prim.Native.Nat.{_+_, _*_, _<_, _≤_};
 ghost use lib.IntN.{pos, natAbs};
-ghost use lib.ListN.{length, set};
+ghost use lib.ListN.{length, set, replicate};
 ghost use lib.Seq.{sets};
 ghost use Rattle.reader.specs.Constraints.{state, counts, LinesFit, ConstraintsOutcome};
 ghost use Rattle.reader.specs.Stored.{refusedReading, readingOf};
-ghost use Rattle.reader.specs.Streams.{streamTables, noStreamTables, StreamsOutcome};
+ghost use Rattle.reader.specs.Streams.{streamTables, noStreamTables, StreamsOutcome, KindsOutcome};
 ghost use Rattle.reader.specs.Unknown.{isUnknown, someUnknown};
 ghost use Rattle.reader.specs.Extent.{noExtent, withSummary, extentFrom};
 ghost use Rattle.reader.specs.FirstNodes.{withFirsts, FewFirsts};
 ghost use Rattle.nodes.specs.Evaluate.{stored};
-ghost use Rattle.sheet.specs.Reading.{answerTo, answerToForm};
+ghost use Rattle.sheet.specs.Reading.{formOfLines, answerTo, answerToForm};
+ghost use Rattle.refusals.specs.Places.{saidTokens};
 ghost use Rattle.reader.specs.Tested.{testedAs};
-ghost use Rattle.reader.specs.Form.{formOfLines};
 ghost use Rattle.reader.specs.Held.{HeldSheet, HeldReading};
 ghost use lib.Dec.{eqb};
 ghost use Rattle.text.specs.Bytes.{lines, tokens};
 
 // The stored sheet. Room beyond what is given is zero.
 pub struct Sheet {
-    // streams: eight bytes for each name, the names' lengths, and the ranges
+    // streams: eight bytes for each name, the names' lengths, the ranges, and the kinds, 0 for `set` and 1 for `read`
     pub streams: usize,
     pub names: [u8; 64],
     pub lengths: [u8; 8],
     pub lows: [i64; 8],
     pub highs: [i64; 8],
+    pub stream_kinds: [u8; 8],
     pub letters: u32,
     // constraints: the relation and the places of the last nodes of both sides
     pub constraints: usize,
@@ -68,6 +69,7 @@ struct StreamArrays {
     lengths: [u8; 8],
     lows: [i64; 8],
     highs: [i64; 8],
+    stream_kinds: [u8; 8],
 }
 
 struct ConstraintArrays {
@@ -117,6 +119,7 @@ fn refused(number: u32) -> Reading
         lengths: [0; 8],
         lows: [0; 8],
         highs: [0; 8],
+        stream_kinds: [0; 8],
         letters: 0,
         constraints: 0,
         relations: [0; 32],
@@ -320,6 +323,35 @@ fn read_streams(
     }
 }
 
+// Reads the line of kinds, "one of these for each stream", and stores them; a line without tokens says nothing, and all are `set`.
+fn read_kinds(line: &[u8], count: usize, stream_kinds: &mut [u8; 8]) -> bool
+    requires { ⌜ (count ≤ 8) × (now «stream_kinds» ≡ replicate 8 0) ⌝ }
+    ensures { λ r. ⌜ KindsOutcome (tokens (now (line .entry))) count r (now («stream_kinds» .exit)) ⌝ }
+{
+    let total = scan::token_count(line);
+    if total == 0 {
+        return true;
+    }
+    if total != count {
+        return false;
+    }
+    let mut stream = 0;
+    let mut at = 0;
+    while stream < count {
+        let token = scan::next_token(line, at);
+        let start = token.start;
+        let end = token.end;
+        let kind = scan::stream_kind_code(&line[start..end]);
+        if kind == nodes::NO_CODE {
+            return false;
+        }
+        stream_kinds[stream] = kind;
+        stream += 1;
+        at = end;
+    }
+    true
+}
+
 // Whether a node is a name that is none of the streams.
 fn is_unknown(kind: u8, value: i64, streams: i64) -> bool
     requires { ⌜ streams ≡ pos (natAbs streams) ⌝ }
@@ -456,13 +488,14 @@ fn store_sheet(
     constraints: ConstraintsRead,
     constraint_arrays: ConstraintArrays,
 ) -> Reading
-    requires { ⌜ HeldSheet streams (streamTables («stream_arrays» .names) («stream_arrays» .lengths) («stream_arrays» .lows) («stream_arrays» .highs)) (state (stored («constraint_arrays» .kinds) («constraint_arrays» .values) («constraint_arrays» .starts)) («constraint_arrays» .relations) («constraint_arrays» .lefts) («constraint_arrays» .rights) constraints) ⌝ }
-    ensures { λ r. ⌜ HeldReading streams (streamTables («stream_arrays» .names) («stream_arrays» .lengths) («stream_arrays» .lows) («stream_arrays» .highs)) (state (stored («constraint_arrays» .kinds) («constraint_arrays» .values) («constraint_arrays» .starts)) («constraint_arrays» .relations) («constraint_arrays» .lefts) («constraint_arrays» .rights) constraints) r ⌝ }
+    requires { ⌜ HeldSheet streams (streamTables («stream_arrays» .names) («stream_arrays» .lengths) («stream_arrays» .lows) («stream_arrays» .highs)) («stream_arrays» .«stream_kinds») (state (stored («constraint_arrays» .kinds) («constraint_arrays» .values) («constraint_arrays» .starts)) («constraint_arrays» .relations) («constraint_arrays» .lefts) («constraint_arrays» .rights) constraints) ⌝ }
+    ensures { λ r. ⌜ HeldReading streams (streamTables («stream_arrays» .names) («stream_arrays» .lengths) («stream_arrays» .lows) («stream_arrays» .highs)) («stream_arrays» .«stream_kinds») (state (stored («constraint_arrays» .kinds) («constraint_arrays» .values) («constraint_arrays» .starts)) («constraint_arrays» .relations) («constraint_arrays» .lefts) («constraint_arrays» .rights) constraints) r ⌝ }
 {
     let names = stream_arrays.names;
     let lengths = stream_arrays.lengths;
     let lows = stream_arrays.lows;
     let highs = stream_arrays.highs;
+    let stream_kinds = stream_arrays.stream_kinds;
     let kinds = constraint_arrays.kinds;
     let values = constraint_arrays.values;
     let starts = constraint_arrays.starts;
@@ -497,6 +530,7 @@ fn store_sheet(
         lengths: lengths,
         lows: lows,
         highs: highs,
+        stream_kinds: stream_kinds,
         letters: told.letters,
         constraints: count,
         relations: relations,
@@ -519,9 +553,15 @@ fn store_sheet(
 }
 
 // The answer to a sheet whose header lines and constraint lines are these, where refusals 1 and 2 do not apply.
-fn read_lines(names_line: &[u8], lows_line: &[u8], highs_line: &[u8], text: &[u8]) -> Reading
+fn read_lines(
+    names_line: &[u8],
+    lows_line: &[u8],
+    highs_line: &[u8],
+    kinds_line: &[u8],
+    text: &[u8],
+) -> Reading
     requires { ⌜ (length (tokens (now «names_line»)) ≤ 8) × LinesFit (lines (now text)) ⌝ }
-    ensures { λ r. ⌜ r ≡ readingOf (answerToForm (formOfLines (tokens (now («names_line» .entry))) (tokens (now («lows_line» .entry))) (tokens (now («highs_line» .entry))) (lines (now (text .entry))))) ⌝ }
+    ensures { λ r. ⌜ r ≡ readingOf (answerToForm (formOfLines (tokens (now («names_line» .entry))) (tokens (now («lows_line» .entry))) (tokens (now («highs_line» .entry))) (saidTokens (tokens (now («kinds_line» .entry)))) (lines (now (text .entry))))) ⌝ }
 {
     let mut names: [u8; 64] = [0; 64];
     let mut lengths: [u8; 8] = [0; 8];
@@ -542,6 +582,8 @@ fn read_lines(names_line: &[u8], lows_line: &[u8], highs_line: &[u8], text: &[u8
     if streams.count == 0 {
         return refused(3);
     }
+    let mut stream_kinds: [u8; 8] = [0; 8];
+    let said = read_kinds(kinds_line, streams.count, &mut stream_kinds);
     let mut token_starts: [usize; 1024] = [0; 1024];
     let mut kinds: [u8; 1024] = [0; 1024];
     let mut values: [i64; 1024] = [0; 1024];
@@ -560,7 +602,10 @@ fn read_lines(names_line: &[u8], lows_line: &[u8], highs_line: &[u8], text: &[u8
         &mut lefts,
         &mut rights,
     );
-    let refusal = refusals::form_refusal(!constraints.ok, refusals::names_refused(names_line));
+    let refusal = refusals::form_refusal(
+        !(said & constraints.ok),
+        refusals::names_refused(names_line),
+    );
     if refusal != 0 {
         return refused(refusal);
     }
@@ -571,6 +616,7 @@ fn read_lines(names_line: &[u8], lows_line: &[u8], highs_line: &[u8], text: &[u8
             lengths: lengths,
             lows: lows,
             highs: highs,
+            stream_kinds: stream_kinds,
         },
         constraints,
         ConstraintArrays {
@@ -603,11 +649,14 @@ pub fn read(text: &[u8]) -> Reading
     let lows_end = header.lows_end;
     let highs_start = header.highs_start;
     let highs_end = header.highs_end;
+    let kinds_start = header.kinds_start;
+    let kinds_end = header.kinds_end;
     let from = header.constraints;
     read_lines(
         &text[0..names_end],
         &text[lows_start..lows_end],
         &text[highs_start..highs_end],
+        &text[kinds_start..kinds_end],
         &text[from..],
     )
 }

@@ -1,12 +1,12 @@
 // Reads sheets from standard input and prints a line for each: the refusal, how many streams, the letters, D, B, the untils and the firsts, and
-// then each stream's name, low and high. The enumerator wrote the input and what is expected: a number of four bytes, low first, and then as
+// then each stream's name, low, high and kind. The enumerator wrote the input and what is expected: a number of four bytes, low first, and then as
 // many bytes of a sheet, sheet after sheet.
 use cases::print;
 use cases::print_signed;
 use libc::STDOUT_FILENO;
 
-// A space, and a stream's name, low and high.
-fn print_stream(names: &[u8], from: usize, length: u8, low: i64, high: i64) {
+// A space, and a stream's name, low, high and kind.
+fn print_stream(names: &[u8], from: usize, length: u8, low: i64, high: i64, kind: u8) {
     let start = cases::bytes_within(from, names);
     let rest = &names[start..];
     let size = cases::bytes_within(length as usize, rest);
@@ -14,7 +14,8 @@ fn print_stream(names: &[u8], from: usize, length: u8, low: i64, high: i64) {
     io::write_all(STDOUT_FILENO, &rest[..size]);
     io::write_all(STDOUT_FILENO, b" ");
     print_signed(low, b" ");
-    print_signed(high, b"");
+    print_signed(high, b" ");
+    print(kind as u64, b"");
 }
 
 fn print_streams(
@@ -22,6 +23,7 @@ fn print_streams(
     lengths: &[u8; 8],
     lows: &[i64; 8],
     highs: &[i64; 8],
+    stream_kinds: &[u8; 8],
     count: usize,
 ) {
     let mut i = 0;
@@ -30,7 +32,8 @@ fn print_streams(
             let length = lengths[i];
             let low = lows[i];
             let high = highs[i];
-            print_stream(names, i * 8, length, low, high);
+            let kind = stream_kinds[i];
+            print_stream(names, i * 8, length, low, high, kind);
         }
         i += 1;
     }
@@ -50,7 +53,15 @@ fn print_sheet(text: &[u8]) {
     let lengths = sheet.lengths;
     let lows = sheet.lows;
     let highs = sheet.highs;
-    print_streams(&names, &lengths, &lows, &highs, sheet.streams);
+    let stream_kinds = sheet.stream_kinds;
+    print_streams(
+        &names,
+        &lengths,
+        &lows,
+        &highs,
+        &stream_kinds,
+        sheet.streams,
+    );
     io::write_all(STDOUT_FILENO, b"\n");
 }
 

@@ -5,7 +5,7 @@ use mathlib.Core.List.{List, [], _∷_, _++_}
 use lib.IntN.{pos}
 use Rattle.text.specs.Bytes.{bytesOf, tokens}
 use Rattle.text.specs.Token.{isNatural, naturalFrom, isInteger, integerValue}
-use Rattle.meaning.specs.Expression.{Stream}
+use Rattle.meaning.specs.Expression.{setKind, Stream}
 use Rattle.meaning.specs.Letter.{letterCount, letterNumber}
 use Rattle.sheet.specs.Form.{namesOf}
 use Rattle.letters.specs.Described.{isLetter}
@@ -13,8 +13,8 @@ use Rattle.records.specs.Line.{malformed, outside, letter, valueLine, is
 
 abbrev streams : List Stream
 streams =
-    record { name = bytesOf "x"; range = record { low = pos 0; high = pos 1 } }
-    ∷ record { name = bytesOf "y"; range = record { low = pos 0; high = pos 1 } }
+    record { name = bytesOf "x"; kind = setKind; range = record { low = pos 0; high = pos 1 } }
+    ∷ record { name = bytesOf "y"; kind = setKind; range = record { low = pos 0; high = pos 1 } }
     ∷ []
 
 -- A letter's number counts with the last stream fastest.

@@ -6,7 +6,7 @@ use native.Mathlib.Decide.{decLt}
 use native.Mathlib.Nat.{add-div-left}
 use mathlib.Core.Path.{_≡_, refl, sym, _∙_, ap, ap₂}
 use mathlib.Core.Bool.{Bool, true, false, not, cond, _&&_, and-true, and-false, and-assoc, Bool·not-not}
-use mathlib.Core.List.{List, [], _∷_, _++_, map, append-assoc, List·Memᴰ, List·Memᴰ·head, List·Memᴰ·tail}
+use mathlib.Core.List.{List, [], _∷_, _++_, map, append-assoc, List·Memᴰ·head, List·Memᴰ·tail}
 use lib.Dec.{ltb, eqb}
 use lib.ListN.{length, take, drop, getD, replicate, drop-of-length-le, length-append, length-replicate}
 use lib.Seq.{drop-cons, take-append-seam, drop-append-add}
@@ -19,9 +19,10 @@ use Rattle.text.proofs.Fold.{line-tokens}
 use Rattle.meaning.specs.Expression.{Stream}
 use Rattle.meaning.specs.Window.{joinOver}
 use Rattle.sheet.specs.Form.{namesOf}
+use Rattle.sheet.specs.Names.{eightBytes, ShortNames}
 use Rattle.records.specs.declared.NameState.{NameState}
 use Rattle.records.specs.Line.{isPlain, sameTokens, isNamesLine}
-use Rattle.records.specs.Machine.{nextCount, storedName, isByteAt, nameFrom, nameByte, nameEnd, namesStart, namesFrom, namesByte, isWhole, namesEnd}
+use Rattle.records.specs.Machine.{nextCount, wholeName, isByteAt, nameFrom, nameByte, nameEnd, namesStart, namesFrom, namesByte, isWhole, namesEnd}
 use Rattle.records.proofs.Steps.{reading}
 use Rattle.records.proofs.Plain.{plain-run}
 use Rattle.records.proofs.Counts.{countAfter, count-after}
@@ -107,12 +108,8 @@ module _ (name : ℕ → Token) where
 
 -- ---- the names as they are stored
 
--- The bytes of the name and zeros up to eight.
-abbrev pub storedBytes : Stream → List ℕ
-storedBytes x = x .name ++ replicate (8 - length (x .name)) 0
-
-stored-name-length : (x : Stream) → length (x .name) ≤ 8 → length (storedBytes x) ≡ 8
-stored-name-length x h = simp (length-append, length-replicate) (omega arith)
+eight-bytes : (x : Stream) → length (x .name) ≤ 8 → length (eightBytes x) ≡ 8
+eight-bytes x h = simp (length-append, length-replicate) (omega arith)
 
 -- Behind the eight bytes of a name.
 module _ (front names : List ℕ) (e : length front ≡ 8) where
@@ -126,31 +123,31 @@ module _ (front names : List ℕ) (e : length front ≡ 8) where
       let n : suc i * 8 ≡ length front + i * 8 = omega arith in
       ap (λ k. drop k (front ++ names)) n ∙ drop-append-add front names (i * 8)
 
-  next-stored : (k : ℕ) (lengths : List ℕ) (i : ℕ) → storedName (front ++ names) (k ∷ lengths) (suc i) ≡ storedName names lengths i
-  unfolding storedName
-  next-stored k lengths i = ap₂ (λ t l. cond t (take (min (getD lengths i 0) 8) l) []) (eighths i) (behind i)
+  next-found : (k : ℕ) (lengths : List ℕ) (i : ℕ) → wholeName (front ++ names) (k ∷ lengths) (suc i) ≡ wholeName names lengths i
+  unfolding wholeName
+  next-found k lengths i = ap₂ (λ t l. cond t (take (min (getD lengths i 0) 8) l) []) (eighths i) (behind i)
 
-first-stored : (x : Stream) (h : length (x .name) ≤ 8) (names lengths : List ℕ) → storedName (storedBytes x ++ names) (length (x .name) ∷ lengths) 0 ≡ x .name
-unfolding storedName
-first-stored x h names lengths =
-    let d : length (storedBytes x ++ names) / 8 ≡ length names / 8 + 1 = ap (λ n. n / 8) (length-append (storedBytes x) names ∙ ap (λ n. n + length names) (stored-name-length x h)) ∙ add-div-left (length names) {k = 8} (omega arith) in
+first-found : (x : Stream) (h : length (x .name) ≤ 8) (names lengths : List ℕ) → wholeName (eightBytes x ++ names) (length (x .name) ∷ lengths) 0 ≡ x .name
+unfolding wholeName
+first-found x h names lengths =
+    let d : length (eightBytes x ++ names) / 8 ≡ length names / 8 + 1 = ap (λ n. n / 8) (length-append (eightBytes x) names ∙ ap (λ n. n + length names) (eight-bytes x h)) ∙ add-div-left (length names) {k = 8} (omega arith) in
     let n : min (length (x .name)) 8 ≡ length (x .name) = omega arith in
-    ap (λ t. cond t (take (min (length (x .name)) 8) (storedBytes x ++ names)) []) (lt-ltb 0 (length (storedBytes x ++ names) / 8) (omega arith))
+    ap (λ t. cond t (take (min (length (x .name)) 8) (eightBytes x ++ names)) []) (lt-ltb 0 (length (eightBytes x ++ names) / 8) (omega arith))
     ∙ ap₂ take n (append-assoc (x .name) (replicate (8 - length (x .name)) 0) names) ∙ take-append-seam (x .name) (replicate (8 - length (x .name)) 0 ++ names)
 
 -- In eight bytes for each stream's name, with any bytes behind them, and the lengths of the names, the names are found.
-pub stored-names : (ss : List Stream) → ((x : Stream) → List·Memᴰ x ss → length (x .name) ≤ 8) → (rest : List ℕ) (i : ℕ)
-    → storedName (joinOver storedBytes ss ++ rest) (map (λ x. length (x .name)) ss) i ≡ getD (namesOf ss) i []
-unfolding storedName
-stored-names [] h rest i = by (ltb i (length rest / 8))
+pub names-found : (ss : List Stream) → ShortNames ss → (rest : List ℕ) (i : ℕ)
+    → wholeName (joinOver eightBytes ss ++ rest) (map (λ x. length (x .name)) ss) i ≡ getD (namesOf ss) i []
+unfolding wholeName
+names-found [] h rest i = by (ltb i (length rest / 8))
   where
     by : (t : Bool) → _≡_ {A = List ℕ} (cond t [] []) []
     by true = refl
     by false = refl
-stored-names (x ∷ ss) h rest zero =
-    ap (λ l. storedName l (length (x .name) ∷ map (λ y. length (y .name)) ss) 0) (append-assoc (storedBytes x) (joinOver storedBytes ss) rest)
-    ∙ first-stored x (h x (List·Memᴰ·head refl)) (joinOver storedBytes ss ++ rest) (map (λ y. length (y .name)) ss)
-stored-names (x ∷ ss) h rest (suc i) =
-    ap (λ l. storedName l (length (x .name) ∷ map (λ y. length (y .name)) ss) (suc i)) (append-assoc (storedBytes x) (joinOver storedBytes ss) rest)
-    ∙ next-stored (storedBytes x) (joinOver storedBytes ss ++ rest) (stored-name-length x (h x (List·Memᴰ·head refl))) (length (x .name)) (map (λ y. length (y .name)) ss) i
-    ∙ stored-names ss (λ y m. h y (List·Memᴰ·tail m)) rest i
+names-found (x ∷ ss) h rest zero =
+    ap (λ l. wholeName l (length (x .name) ∷ map (λ y. length (y .name)) ss) 0) (append-assoc (eightBytes x) (joinOver eightBytes ss) rest)
+    ∙ first-found x (h x (List·Memᴰ·head refl)) (joinOver eightBytes ss ++ rest) (map (λ y. length (y .name)) ss)
+names-found (x ∷ ss) h rest (suc i) =
+    ap (λ l. wholeName l (length (x .name) ∷ map (λ y. length (y .name)) ss) (suc i)) (append-assoc (eightBytes x) (joinOver eightBytes ss) rest)
+    ∙ next-found (eightBytes x) (joinOver eightBytes ss ++ rest) (eight-bytes x (h x (List·Memᴰ·head refl))) (length (x .name)) (map (λ y. length (y .name)) ss) i
+    ∙ names-found ss (λ y m. h y (List·Memᴰ·tail m)) rest i

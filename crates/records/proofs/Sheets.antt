@@ -4,24 +4,23 @@ use Prim.Native.Nat.{ℕ, zero, suc, _≤_}
 use native.Mathlib.Omega.{arith}
 use mathlib.Core.Path.{_≡_, refl, sym, _∙_, ap, subst}
 use mathlib.Core.List.{List, [], _∷_, _++_, map, List·Memᴰ, List·Memᴰ·head, List·Memᴰ·tail}
-use lib.Dec.{leb→le}
 use lib.ListN.{length, getD, length-map}
 use lib.Signed.{_≤ℤ_}
-use Rattle.basics.proofs.Tests.{and-left, and-right}
 use Rattle.text.specs.Bytes.{Token}
-use Rattle.text.specs.Token.{isName}
 use Rattle.text.specs.Fold.{runBytes}
 use Rattle.meaning.specs.Arithmetic.{Interval}
 use Rattle.meaning.specs.Expression.{Stream, Sheet}
 use Rattle.meaning.specs.Window.{joinOver}
 use Rattle.sheet.specs.Form.{namesOf}
 use Rattle.sheet.specs.Refusal.{InBounds}
+use Rattle.sheet.specs.Names.{eightBytes, ShortNames}
 use Rattle.sheet.specs.Accepted.{Accepted}
+use Rattle.sheet.proofs.Names.{short-names}
 use Rattle.letters.proofs.Streams.{unnamed, letterCount-unnamed, letterNumber-unnamed, isLetter-unnamed, length-unnamed}
 use Rattle.records.specs.Line.{valueLine, isNamesLine}
-use Rattle.records.specs.Machine.{lineStart, lineByte, lineEnd, endOf, storedName, namesStart, namesByte, namesEnd}
+use Rattle.records.specs.Machine.{lineStart, lineByte, lineEnd, endOf, wholeName, namesStart, namesByte, namesEnd}
 use Rattle.records.proofs.Values.{AcceptedRanges, line-read}
-use Rattle.records.proofs.Names.{names-read, storedBytes, stored-names}
+use Rattle.records.proofs.Names.{names-read, names-found}
 
 -- ---- the values
 
@@ -30,7 +29,7 @@ unnamed-member : (ss : List Stream) (x : Stream) → List·Memᴰ x (unnamed ss)
 unnamed-member (s ∷ ss) x (List·Memᴰ·head e) = (s, List·Memᴰ·head refl, sym (ap (λ z. z .range) e))
 unnamed-member (s ∷ ss) x (List·Memᴰ·tail m) = let h = unnamed-member ss x m in (h .0, List·Memᴰ·tail (h .1), h .2)
 
-valueLine-unnamed : (ss : List Stream) (l : List ℕ) → valueLine (unnamed ss) l ≡ valueLine ss l
+pub valueLine-unnamed : (ss : List Stream) (l : List ℕ) → valueLine (unnamed ss) l ≡ valueLine ss l
 unfolding valueLine
 valueLine-unnamed ss l = simp (length-unnamed, isLetter-unnamed, letterNumber-unnamed)
 
@@ -41,9 +40,9 @@ module _ {s : Sheet} (a : Accepted s) where
   accepted-ranges : AcceptedRanges (unnamed streams)
   accepted-ranges =
       record {
-        few = subst (λ n. n ≤ 8) (sym (length-unnamed streams)) (a .streamCount);
-        ordered = λ x m. let h = unnamed-member streams x m in subst (λ (I : Interval). I .low ≤ℤ I .high) (h .2) (a .rangesOrdered (h .0) (h .1));
-        inBounds = λ x m. let h = unnamed-member streams x m in subst InBounds (h .2) (a .rangesInBounds (h .0) (h .1));
+        few = subst (λ n. n ≤ 8) (sym (length-unnamed streams)) (a .streams .streamCount);
+        ordered = λ x m. let h = unnamed-member streams x m in subst (λ (I : Interval). I .low ≤ℤ I .high) (h .2) (a .streams .rangesOrdered (h .0) (h .1));
+        inBounds = λ x m. let h = unnamed-member streams x m in subst InBounds (h .2) (a .streams .rangesInBounds (h .0) (h .1));
         fewLetters = subst (λ n. n ≤ 1024) (sym (letterCount-unnamed streams)) (a .letters);
       }
 
@@ -53,18 +52,10 @@ module _ {s : Sheet} (a : Accepted s) where
 
   -- ---- the names
 
-  name-length : (x : Stream) → List·Memᴰ x streams → length (x .name) ≤ 8
-  unfolding isName
-  name-length x m = let t = a .areNames (x .name) (named streams m) in leb→le (length (x .name)) 8 (search (and-left, and-right))
-    where
-      named : (ss : List Stream) → List·Memᴰ x ss → List·Memᴰ (x .name) (namesOf ss)
-      named (y ∷ ss) (List·Memᴰ·head e) = List·Memᴰ·head (ap (λ z. z .name) e)
-      named (y ∷ ss) (List·Memᴰ·tail m) = List·Memᴰ·tail (named ss m)
-
   short : (k : ℕ) → length (getD (namesOf streams) k []) ≤ 8
-  short k = by streams name-length k
+  short k = by streams (short-names (a .streams)) k
     where
-      by : (ss : List Stream) → ((x : Stream) → List·Memᴰ x ss → length (x .name) ≤ 8) → (j : ℕ) → length (getD (namesOf ss) j []) ≤ 8
+      by : (ss : List Stream) → ShortNames ss → (j : ℕ) → length (getD (namesOf ss) j []) ≤ 8
       by [] h j = omega arith
       by (x ∷ ss) h zero = h x (List·Memᴰ·head refl)
       by (x ∷ ss) h (suc j) = by ss (λ y m. h y (List·Memᴰ·tail m)) j
@@ -74,13 +65,13 @@ module _ {s : Sheet} (a : Accepted s) where
 
   module _ (rest : List ℕ) where
     abbrev name : ℕ → Token
-    name = storedName (joinOver storedBytes streams ++ rest) lengths
+    name = wholeName (joinOver eightBytes streams ++ rest) lengths
 
     -- The line of names, read with the names in eight bytes each, any bytes behind them, and their lengths.
     pub accepted-names : (l : List ℕ) → namesEnd name (length lengths) (runBytes (namesByte name) namesStart l) ≡ isNamesLine (namesOf streams) l
     accepted-names l =
-        let named = stored-names streams name-length rest in
+        let named = names-found streams (short-names (a .streams)) rest in
         let e : length lengths ≡ length (namesOf streams) = length-map streams (λ x. length (x .name)) ∙ sym (length-map streams (λ x. x .name)) in
-        let few : length (namesOf streams) ≤ 8 = subst (λ n. n ≤ 8) (sym (length-map streams (λ x. x .name))) (a .streamCount) in
+        let few : length (namesOf streams) ≤ 8 = subst (λ n. n ≤ 8) (sym (length-map streams (λ x. x .name))) (a .streams .streamCount) in
         ap (λ n. namesEnd name n (runBytes (namesByte name) namesStart l)) e
         ∙ names-read name (λ k. subst (λ n. length n ≤ 8) (sym (named k)) (short k)) (namesOf streams) few named l

@@ -123,8 +123,8 @@ lineEnd ss s = endOf (valuesEnd (length ss) (s .barred) (endToken valueByte (val
 -- ---- the names of a line
 
 -- The name of stream i in bytes that hold eight for each name; no bytes where it is not there.
-unfoldable pub storedName : List ℕ → List ℕ → ℕ → Token
-storedName names lengths i = cond (ltb i (length names / 8)) (take (min (getD lengths i 0) 8) (drop (i * 8) names)) []
+unfoldable pub wholeName : List ℕ → List ℕ → ℕ → Token
+wholeName names lengths i = cond (ltb i (length names / 8)) (take (min (getD lengths i 0) 8) (drop (i * 8) names)) []
 
 -- The byte stands at the place in the name.
 abbrev pub isByteAt : Token → ℕ → ℕ → Bool

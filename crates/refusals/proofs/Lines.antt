@@ -1,24 +1,31 @@
 -- What the lines found in a text say of refusals 1 and 2 and of the header. From the places of lines.
 use Prim.Native.Nat.{ℕ, suc, _+_, _-_, _≤_, _<_}
 use mathlib.Core.Path.{_≡_, refl, sym, ap, ap₂, _∙_}
-use mathlib.Core.Bool.{Bool, true, false, not, _||_}
+use mathlib.Core.Bool.{Bool, true, false, not, cond, _||_, true≢false}
 use mathlib.Core.List.{List, [], _∷_, _++_, append-nil}
+use mathlib.Core.Option.{Option, some, none}
 use native.Mathlib.Omega.{arith}
 use native.Mathlib.Decide.{decLe}
-use lib.Dec.{leb, ltb}
-use lib.ListN.{length, drop, getD, length-drop, drop-of-length-le}
+use lib.Dec.{leb, ltb, eqb}
+use lib.ListN.{length, drop, getD, length-drop, drop-of-length-le, List·getD-eq-default}
 use lib.Seq.{drop-drop, getD-drop}
 use borrow.Author.Tests.{lt-ltb, le-ltb, le-leb, lt-leb}
 use Rattle.text.proofs.Bytes.{tokens-length}
-use Rattle.text.specs.Bytes.{between, lines, tokens}
+use Rattle.text.specs.Bytes.{Token, between, lines, tokens}
+use Rattle.meaning.specs.Expression.{StreamKind, readKind, setKind}
+use Rattle.nodes.specs.Code.{streamKindCode}
+use Rattle.sheet.specs.Vocabulary.{streamKindTokens, streamKindOf}
+use Rattle.sheet.specs.Form.{isSomeKind, saysKinds, lineTokens, tokensAt, kindTokens, constraintLines, layoutIn}
 use Rattle.sheet.specs.Refusal.{isAllowed, tokenCount}
 use Rattle.sheet.specs.Reading.{anyOf, tooDeepFrom, refuses1, refuses2}
 use Rattle.scan.specs.Place as place
-use Rattle.scan.specs.Place.{LineAt, noLine, endedLine, lastLine}
+use Rattle.scan.specs.Place.{TokenAt, noToken, aToken, LineAt, noLine, endedLine, lastLine}
+use Rattle.scan.specs.Word.{codeOr255}
+use Rattle.scan.specs.declared.Span.{Span}
 use Rattle.scan.specs.declared.LineSpan.{LineSpan}
 use Rattle.scan.proofs.Lines.{line-within}
 use Rattle.scan.proofs.Tokens.{between-none, between-length, between-split, drop-at, drop-end}
-use Rattle.refusals.specs.Places.{HeaderOf, constraintLinesRefused}
+use Rattle.refusals.specs.Places.{KindsLineAt, said, unsaid, saidTokens, HeaderOf, constraintLinesRefused}
 use Rattle.refusals.specs.declared.Header.{Header}
 
 -- ---- refusal 1
@@ -103,18 +110,103 @@ line-there {text} {at} n l e = by (decLe (length text) at)
 
 -- ---- the header
 
-pub header-lines : (text : List ℕ) {a b c : LineSpan} → LineAt text 0 a → LineAt text (a .next) b → LineAt text (b .next) c → {w : Bool} → w ≡ ltb (b .next) (length text)
-    → HeaderOf text (record { «names_end» = a .end; «lows_start» = a .next; «lows_end» = b .end; «highs_start» = b .next; «highs_end» = c .end; constraints = c .next; whole = w })
-header-lines text {a} {b} {c} x y z {w} e =
+-- The first token's code tells whether a line says kinds.
+code-says : (o : Option StreamKind) → not (eqb (codeOr255 streamKindCode o) 255) ≡ isSomeKind o
+code-says none = refl
+code-says (some readKind) = refl
+code-says (some setKind) = refl
+
+pub says-first : {line : List ℕ} {r : Span} {k : ℕ} → TokenAt line 0 r → k ≡ codeOr255 streamKindCode (streamKindOf (place.between line (r .start) (r .end))) → not (eqb k 255) ≡ saysKinds (tokens line)
+unfolding saysKinds streamKindOf streamKindTokens
+says-first {line} {r} {k} (noToken p q e) h =
+    let none-there : place.between line (r .start) (r .end) ≡ [] = ap₂ (place.between line) p q ∙ between-none line (length line) in
+    ap (λ n. not (eqb n 255)) (h ∙ ap (λ t. codeOr255 streamKindCode (streamKindOf t)) none-there) ∙ sym (ap saysKinds e)
+says-first {line} {r} {k} (aToken f s w e) h =
+    ap (λ n. not (eqb n 255)) h ∙ code-says (streamKindOf (place.between line (r .start) (r .end))) ∙ sym (ap saysKinds e)
+
+-- A line that says kinds has a token, and so it is there.
+said-some : (ts : List Token) → saysKinds ts ≡ true → some ts ≡ saidTokens ts
+unfolding saysKinds
+said-some [] e = absurd (true≢false (sym e))
+said-some (t ∷ ts) e = refl
+
+said-bytes : (l : List ℕ) → saysKinds (tokens l) ≡ true → 0 < length l
+unfolding saysKinds tokens
+said-bytes [] e = absurd (true≢false (sym e))
+said-bytes (b ∷ l) e = omega arith
+
+said-there : (text : List ℕ) (k : ℕ) → saysKinds (lineTokens text k) ≡ true → k < length (lines text)
+unfolding saysKinds tokens
+said-there text k e = by (decLe (length (lines text)) k)
+  where
+    by : Dec (length (lines text) ≤ k) → k < length (lines text)
+    by (yes h) = absurd (true≢false (sym e ∙ ap (λ l. saysKinds (tokens l)) (List·getD-eq-default (lines text) [] h)))
+    by (no h) = omega arith
+
+no-tokens : saidTokens (tokens []) ≡ none
+unfolding tokens
+no-tokens = refl
+
+-- What is found of the line of kinds, which begins behind three lines.
+record KindsFound (text : List ℕ) (at : ℕ) (r : LineSpan) : Type 0 where
+  kinds : kindTokens text ≡ saidTokens (tokens (place.between text at (r .end)))
+  ordered : at ≤ r .end
+  within : r .end ≤ length text
+  constraints : lines (drop (r .next) text) ≡ constraintLines text
+  constraintsWithin : r .next ≤ length text
+  count : layoutIn text .constraintsFrom ≡ cond (ltb at (r .end)) 4 3
+  whole : leb 3 (length (lines text)) ≡ leb (layoutIn text .constraintsFrom) (length (lines text))
+
+module _ {text : List ℕ} {at : ℕ} (h : at ≤ length text) (behind : lines (drop at text) ≡ drop 3 (lines text)) where
+  fourth-line : {l : LineSpan} → LineAt text at l → tokens (place.between text at (l .end)) ≡ lineTokens text 3
+  fourth-line l = ap tokens (line-first l h ∙ ap (λ ls. getD ls 0 []) behind ∙ getD-drop 3 (lines text) 0 [])
+
+  kinds-found : {r : LineSpan} → KindsLineAt text at r → KindsFound text at r
+  kinds-found {r} (said l e) =
+      let w = line-within l h in
+      let fourth = fourth-line l in
+      let says : saysKinds (lineTokens text 3) ≡ true = ap saysKinds (sym fourth) ∙ e in
+      let there = said-there text 3 says in
+      record {
+        kinds = ap (λ b. tokensAt text (cond b (some 3) none)) says ∙ ap some (sym fourth) ∙ said-some (tokens (place.between text at (r .end))) e;
+        ordered = w .forward;
+        within = let a = w .ordered in let b = w .within in omega arith;
+        constraints = line-rest l h ∙ ap (drop 1) behind ∙ drop-drop 1 3 (lines text) ∙ sym (ap (λ b. drop (cond b 4 3) (lines text)) says);
+        constraintsWithin = w .within;
+        count =
+            let some-byte = said-bytes (place.between text at (r .end)) e in
+            let within : r .end ≤ length text = let a = w .ordered in let b = w .within in omega arith in
+            let size = between-length text at (r .end) (w .forward) within in
+            ap (λ b. cond b 4 3) (says ∙ sym (lt-ltb at (r .end) (omega arith)));
+        whole = le-leb 3 (length (lines text)) (omega arith) ∙ sym (ap (λ b. leb (cond b 4 3) (length (lines text))) says ∙ le-leb 4 (length (lines text)) (omega arith));
+      }
+  kinds-found {r} (unsaid l e p q) =
+      let unsays : saysKinds (lineTokens text 3) ≡ false = ap saysKinds (sym (fourth-line l)) ∙ e in
+      record {
+        kinds = ap (λ b. tokensAt text (cond b (some 3) none)) unsays ∙ sym (ap (λ n. saidTokens (tokens (place.between text at n))) p ∙ ap (λ l. saidTokens (tokens l)) (between-none text at) ∙ no-tokens);
+        ordered = omega arith;
+        within = omega arith;
+        constraints = ap (λ n. lines (drop n text)) q ∙ behind ∙ sym (ap (λ b. drop (cond b 4 3) (lines text)) unsays);
+        constraintsWithin = omega arith;
+        count = ap (λ b. cond b 4 3) (unsays ∙ sym (le-ltb at (r .end) (omega arith)));
+        whole = sym (ap (λ b. leb (cond b 4 3) (length (lines text))) unsays);
+      }
+
+pub header-lines : (text : List ℕ) {a b c d : LineSpan} → LineAt text 0 a → LineAt text (a .next) b → LineAt text (b .next) c → KindsLineAt text (c .next) d → {w : Bool} → w ≡ ltb (b .next) (length text)
+    → HeaderOf text (record { «names_end» = a .end; «lows_start» = a .next; «lows_end» = b .end; «highs_start» = b .next; «highs_end» = c .end; «kinds_start» = c .next; «kinds_end» = d .end; constraints = d .next; whole = w })
+header-lines text {a} {b} {c} {d} x y z k {w} e =
     let p = line-within x (omega arith) in
     let q = line-within y (p .within) in
     let s = line-within z (q .within) in
     let second : lines (drop (a .next) text) ≡ drop 1 (lines text) = line-rest x (omega arith) in
     let third : lines (drop (b .next) text) ≡ drop 2 (lines text) = line-rest y (p .within) ∙ ap (drop 1) second ∙ drop-drop 1 1 (lines text) in
+    let fourth : lines (drop (c .next) text) ≡ drop 3 (lines text) = line-rest z (q .within) ∙ ap (drop 1) third ∙ drop-drop 1 2 (lines text) in
+    let f = kinds-found (s .within) fourth k in
     record {
       firstLine = x;
       secondLine = y;
       thirdLine = z;
+      kindsLine = k;
       names = line-first x (omega arith);
       namesWithin = let m = p .ordered in let n = p .within in omega arith;
       lows = line-first y (p .within) ∙ ap (λ ls. getD ls 0 []) second ∙ getD-drop 1 (lines text) 0 [];
@@ -123,9 +215,13 @@ header-lines text {a} {b} {c} x y z {w} e =
       highs = line-first z (q .within) ∙ ap (λ ls. getD ls 0 []) third ∙ getD-drop 2 (lines text) 0 [];
       highsOrdered = s .forward;
       highsWithin = let m = s .ordered in let n = s .within in omega arith;
-      constraints = line-rest z (q .within) ∙ ap (drop 1) third ∙ drop-drop 1 2 (lines text);
-      constraintsWithin = s .within;
-      whole = e ∙ line-there 2 z third;
+      kinds = f .kinds;
+      kindsOrdered = f .ordered;
+      kindsWithin = f .within;
+      constraints = f .constraints;
+      constraintsWithin = f .constraintsWithin;
+      count = f .count;
+      whole = e ∙ line-there 2 z third ∙ f .whole;
     }
 
 -- ---- refusal 2
@@ -201,7 +297,7 @@ unfolding refuses2 constraintLinesRefused
 lines-refused {text} {h} {n} p e {t} d =
     let first : n ≡ length (tokens (getD (lines text) 0 [])) = e ∙ ap (λ l. length (tokens l)) (p .names) in
     let rest = d ∙ ap constraintLinesRefused (p .constraints) in
-    ap₂ (λ a b. ltb 8 a || b) first rest ∙ or-shift (ltb 8 (length (tokens (getD (lines text) 0 [])))) (ltb 32 (length (drop 3 (lines text)))) (ltb 1024 (tokenCount (drop 3 (lines text)))) (anyOf (tooDeepFrom 0 0) (drop 3 (lines text)))
+    ap₂ (λ a b. ltb 8 a || b) first rest ∙ or-shift (ltb 8 (length (tokens (getD (lines text) 0 [])))) (ltb 32 (length (constraintLines text))) (ltb 1024 (tokenCount (constraintLines text))) (anyOf (tooDeepFrom 0 0) (constraintLines text))
   where
     or-shift : (a b c d : Bool) → a || (b || c || d) ≡ a || b || c || d
     or-shift true true c d = refl

@@ -1,22 +1,36 @@
 -- Where the header lines of a sheet stand in its bytes, and what is refused of its constraint lines (document 01, "The sheet").
 use Prim.Native.Nat.{ℕ, _≤_}
 use mathlib.Core.Path.{_≡_}
-use mathlib.Core.Bool.{Bool, _||_}
-use mathlib.Core.List.{List, []}
+use mathlib.Core.Bool.{Bool, true, false, cond, _||_}
+use mathlib.Core.List.{List, [], _∷_}
+use mathlib.Core.Option.{Option, some, none}
 use lib.Dec.{leb, ltb}
 use lib.ListN.{length, drop, getD}
-use Rattle.sheet.specs.Form.{constraintLines, layoutIn}
-use Rattle.text.specs.Bytes.{lines}
+use Rattle.sheet.specs.Form.{saysKinds, kindTokens, constraintLines, layoutIn}
+use Rattle.text.specs.Bytes.{Token, lines, tokens}
 use Rattle.sheet.specs.Refusal.{constraintBound, tokenBound, tokenCount}
 use Rattle.sheet.specs.Reading.{anyOf, tooDeepFrom}
 use Rattle.scan.specs.Place.{between, LineAt}
+use Rattle.scan.specs.declared.LineSpan.{LineSpan}
 use Rattle.refusals.specs.declared.Header.{Header}
 
--- The places are those of the first three lines, each found behind the one before it, a missing line without bytes, and of the lines after them.
+-- The line of kinds that begins at a place: the line there, or, where that says none, no bytes.
+pub data KindsLineAt (text : List ℕ) (at : ℕ) (r : LineSpan) : Type 0 where
+  said : LineAt text at r → saysKinds (tokens (between text at (r .end))) ≡ true → KindsLineAt text at r
+  unsaid : {l : LineSpan} → LineAt text at l → saysKinds (tokens (between text at (l .end))) ≡ false → r .end ≡ at → r .next ≡ at → KindsLineAt text at r
+
+-- What a line of kinds says; one without tokens says nothing.
+abbrev pub saidTokens : List Token → Option (List Token)
+saidTokens [] = none
+saidTokens (t ∷ ts) = some (t ∷ ts)
+
+-- The places are those of the first three lines, each found behind the one before it, a missing line without bytes, of the line of kinds, and of the
+-- lines after them.
 pub record HeaderOf (text : List ℕ) (h : Header) : Type 0 where
   pub firstLine : LineAt text 0 (record { end = h .«names_end»; next = h .«lows_start» })
   pub secondLine : LineAt text (h .«lows_start») (record { end = h .«lows_end»; next = h .«highs_start» })
-  pub thirdLine : LineAt text (h .«highs_start») (record { end = h .«highs_end»; next = h .constraints })
+  pub thirdLine : LineAt text (h .«highs_start») (record { end = h .«highs_end»; next = h .«kinds_start» })
+  pub kindsLine : KindsLineAt text (h .«kinds_start») (record { end = h .«kinds_end»; next = h .constraints })
   pub names : between text 0 (h .«names_end») ≡ getD (lines text) (layoutIn text .namesLine) []
   pub namesWithin : h .«names_end» ≤ length text
   pub lows : between text (h .«lows_start») (h .«lows_end») ≡ getD (lines text) (layoutIn text .lowsLine) []
@@ -25,8 +39,12 @@ pub record HeaderOf (text : List ℕ) (h : Header) : Type 0 where
   pub highs : between text (h .«highs_start») (h .«highs_end») ≡ getD (lines text) (layoutIn text .highsLine) []
   pub highsOrdered : h .«highs_start» ≤ h .«highs_end»
   pub highsWithin : h .«highs_end» ≤ length text
+  pub kinds : kindTokens text ≡ saidTokens (tokens (between text (h .«kinds_start») (h .«kinds_end»)))
+  pub kindsOrdered : h .«kinds_start» ≤ h .«kinds_end»
+  pub kindsWithin : h .«kinds_end» ≤ length text
   pub constraints : lines (drop (h .constraints) text) ≡ constraintLines text
   pub constraintsWithin : h .constraints ≤ length text
+  pub count : layoutIn text .constraintsFrom ≡ cond (ltb (h .«kinds_start») (h .«kinds_end»)) 4 3
   pub whole : h .whole ≡ leb (layoutIn text .constraintsFrom) (length (lines text))
 
 -- What refusal 2 says of the constraint lines.

@@ -1,24 +1,28 @@
 // The tests behind refusals 1 to 7 that need no stored sheet: of bytes, lines, names, ranges and counts.
 ghost use mathlib.Core.Path.{_≡_};
 ghost use mathlib.Core.Bool.{_||_};
-ghost use Prim.Native.Nat.{_+_};
+ghost use Prim.Native.Nat.{_+_, _≤_};
 ghost use lib.Dec.{ltb};
+ghost use lib.ListN.{length};
 ghost use lib.Signed.{ltZ};
 ghost use Rattle.text.specs.Bytes.{lines, tokens};
 ghost use Rattle.text.specs.Token.{isOneOf};
+ghost use Rattle.sheet.specs.Form.{saysKinds, layoutIn};
 ghost use Rattle.sheet.specs.Refusal.{isAllowed};
 ghost use Rattle.sheet.specs.Reading.{refuses1, refuses2};
 ghost use Rattle.refusals.specs.Names.{namesRefused, formRefusal};
 ghost use Rattle.refusals.specs.Tested.{failedAs, testedWith};
-ghost use Rattle.refusals.specs.Places.{HeaderOf, constraintLinesRefused};
+ghost use Rattle.refusals.specs.Places.{KindsLineAt, HeaderOf, constraintLinesRefused};
 
-// Where the three header lines stand and the constraint lines begin, and whether there are three header lines.
+// Where the three header lines and the line of kinds stand and the constraint lines begin, and whether there are three header lines.
 pub struct Header {
     pub names_end: usize,
     pub lows_start: usize,
     pub lows_end: usize,
     pub highs_start: usize,
     pub highs_end: usize,
+    pub kinds_start: usize,
+    pub kinds_end: usize,
     pub constraints: usize,
     pub whole: bool,
 }
@@ -61,6 +65,29 @@ pub fn bytes_refused(text: &[u8]) -> bool
     false
 }
 
+// "known by `read` or `set` as its first token"
+fn says_kinds(line: &[u8]) -> bool
+    ensures { λ r. ⌜ r ≡ saysKinds (tokens (now (line .entry))) ⌝ }
+{
+    let token = scan::next_token(line, 0);
+    let start = token.start;
+    let end = token.end;
+    scan::stream_kind_code(&line[start..end]) != nodes::NO_CODE
+}
+
+// The line of kinds that begins at `at`; it has no bytes where the line there says none.
+fn kinds_line(text: &[u8], at: usize) -> scan::LineSpan
+    requires { ⌜ at ≤ length (now text) ⌝ }
+    ensures { λ r. ⌜ KindsLineAt (now (text .entry)) at r ⌝ }
+{
+    let line = scan::next_line(text, at);
+    let end = line.end;
+    if says_kinds(&text[at..end]) {
+        return line;
+    }
+    scan::LineSpan { end: at, next: at }
+}
+
 // The places of the header lines. A line that is missing has no bytes.
 pub fn header_of(text: &[u8]) -> Header
     ensures { λ r. ⌜ HeaderOf (now (text .entry)) r ⌝ }
@@ -70,14 +97,30 @@ pub fn header_of(text: &[u8]) -> Header
     let lows = scan::next_line(text, lows_start);
     let highs_start = lows.next;
     let highs = scan::next_line(text, highs_start);
+    let kinds_start = highs.next;
+    let kinds = kinds_line(text, kinds_start);
     Header {
         names_end: names.end,
         lows_start: lows_start,
         lows_end: lows.end,
         highs_start: highs_start,
         highs_end: highs.end,
-        constraints: highs.next,
+        kinds_start: kinds_start,
+        kinds_end: kinds.end,
+        constraints: kinds.next,
         whole: highs_start < text.len(),
+    }
+}
+
+// How many header lines there are: three, and one more where the fourth line says kinds.
+pub fn header_lines(text: &[u8]) -> usize
+    ensures { λ r. ⌜ r ≡ layoutIn (now (text .entry)) .constraintsFrom ⌝ }
+{
+    let header = header_of(text);
+    if header.kinds_start < header.kinds_end {
+        4
+    } else {
+        3
     }
 }
 
@@ -105,6 +148,7 @@ fn constraint_lines_refused(text: &[u8]) -> bool
 }
 
 // "2: over 8 tokens in line 1, 32 lines after line 3, 1,024 tokens in them, or, up to some place in one of them, more than 32 more `(` than `)`."
+// It "does not count this line", that of kinds, "or its tokens".
 pub fn lines_refused(text: &[u8]) -> bool
     ensures { λ r. ⌜ r ≡ refuses2 (now (text .entry)) ⌝ }
 {
@@ -160,8 +204,8 @@ pub fn names_refused(line: &[u8]) -> bool
     }
 }
 
-// 3 where the constraint lines are not of the form, else 4 where a name of line 1 is refused, else 0: "The lowest that applies to the whole sheet
-// is given".
+// 3 where the line of kinds or the constraint lines are not of the form, else 4 where a name of line 1 is refused, else 0: "The lowest that applies
+// to the whole sheet is given".
 pub fn form_refusal(formless: bool, named: bool) -> u32
     ensures { λ r. ⌜ r ≡ formRefusal formless named ⌝ }
 {

@@ -16,6 +16,7 @@ use Rattle.meaning.specs.Letter.{letterCount}
 use Rattle.meaning.specs.Window.{joinOver}
 use Rattle.nodes.specs.Bounds.{lowsOf, highsOf}
 use Rattle.automaton.specs.Stored.{entryAt}
+use Rattle.sheet.specs.Names.{eightBytes}
 use Rattle.sheet.specs.Accepted.{Accepted}
 use Rattle.letters.specs.Described.{cutCount}
 use Rattle.letters.proofs.Streams.{unnamed, letterCount-unnamed}
@@ -23,7 +24,6 @@ use Rattle.print.specs.Text.{refusalLine}
 use Rattle.records.specs.Line.{ValueLine, malformed, outside, letter, valueLine}
 use Rattle.records.specs.Machine.{lineStart, lineByte, endOf, namesStart, namesByte}
 use Rattle.records.specs.declared.NamesState.{NamesState}
-use Rattle.records.proofs.Names.{storedBytes}
 use Rattle.records.proofs.Sheets.{accepted-line, accepted-names}
 use Rattle.replaying.specs.Replay.{replayHeading, stateLine, LineOutcome, reaches, refuses, entered, lineThen, outcomeFrom, replayed, replayedLines}
 use Rattle.replaying.specs.Machine.{PlayedSheet, playedSheet, Playing, playing, valuesReplay, endedReplay, startReplay, nextLine, outcomeText, nameAt, readIn, byteRead, outcomeOf, lineOutcome, afterOutcome, isNames, endIn, lineEnded, playByte, lastLine, closed}
@@ -103,7 +103,7 @@ lines-few (b ∷ bs) = by (eqb b 10) (lines bs) (lines-few bs)
 module _ {s : Sheet} (a : Accepted s) (rest entries : List ℕ) where
   -- The sheet as the reader stores it, with any bytes behind the names, and any entries.
   abbrev pub stored : PlayedSheet
-  stored = playedSheet (joinOver storedBytes (s .streams) ++ rest) (map (λ x. length (x .name)) (s .streams)) (lowsOf (s .streams)) (highsOf (s .streams)) entries
+  stored = playedSheet (joinOver eightBytes (s .streams) ++ rest) (map (λ x. length (x .name)) (s .streams)) (lowsOf (s .streams)) (highsOf (s .streams)) entries
 
   exact : cutCount (letterCount (unnamed (s .streams))) ≡ letterCount (s .streams)
   exact = let e = letterCount-unnamed (s .streams) in let h = a .letters in omega arith

@@ -17,7 +17,7 @@ use Rattle.meaning.specs.Letter.{letterCount}
 use Rattle.automaton.specs.Stored.{entryAt}
 use Rattle.letters.specs.Described.{described, cutCount}
 use Rattle.print.specs.Text.{refusalLine}
-use Rattle.records.specs.Machine.{lineStart, lineByte, lineEnd, storedName, namesStart, namesByte, namesEnd}
+use Rattle.records.specs.Machine.{lineStart, lineByte, lineEnd, wholeName, namesStart, namesByte, namesEnd}
 use Rattle.records.specs.declared.LineState.{LineState}
 use Rattle.records.specs.declared.LineEnd.{LineEnd}
 use Rattle.records.specs.declared.NamesState.{NamesState}
@@ -110,7 +110,7 @@ module _ (s : PlayedSheet) where
   storedStreams = described (s .lows) (s .highs)
 
   abbrev pub nameAt : ℕ → Token
-  nameAt = storedName (s .names) (s .lengths)
+  nameAt = wholeName (s .names) (s .lengths)
 
   -- ---- a byte of a line
 

@@ -8,7 +8,8 @@ ghost use lib.Dec.{eqb};
 ghost use lib.ListN.{length};
 ghost use Rattle.text.specs.Bytes.{bytesOf, isInside, tokens};
 ghost use Rattle.text.specs.Token.{sameBytes, isName, isReserved};
-ghost use Rattle.sheet.specs.Vocabulary.{operatorOf, relationOf, prefixOf, namePlace};
+ghost use Rattle.sheet.specs.Vocabulary.{operatorOf, relationOf, prefixOf, streamKindOf, namePlace};
+ghost use Rattle.nodes.specs.Code.{streamKindCode};
 ghost use Rattle.sheet.specs.Reading.{tooDeepFrom};
 ghost use Rattle.scan.specs.Place.{TokenAt, LineAt, Skipped, RunEnd, PartnerAt};
 ghost use Rattle.scan.specs.Start.{beginsToken};
@@ -321,7 +322,14 @@ const PREFIX_CODES: [u8; 4] = [
     nodes::NO_CODE,
 ];
 
-const RESERVED_WORDS: [u64; 16] = [
+const STREAM_KIND_WORDS: [u64; 2] = [
+    0x1_64_61_65_72, // read
+    0x1_74_65_73, // set
+];
+
+const STREAM_KIND_CODES: [u8; 3] = [nodes::READ_STREAM, nodes::SET_STREAM, nodes::NO_CODE];
+
+const RESERVED_WORDS: [u64; 18] = [
     0x1_74_6c, // lt
     0x1_65_6c, // le
     0x1_71_65, // eq
@@ -338,6 +346,8 @@ const RESERVED_WORDS: [u64; 16] = [
     0x1_74_78_65_6e, // next
     0x1_74_6f_6e, // not
     0x1_6c_69_74_6e_75, // until
+    0x1_64_61_65_72, // read
+    0x1_74_65_73, // set
 ];
 
 // The first place of a number in a table of words; as many as the table has where it is none of them.
@@ -381,13 +391,22 @@ pub fn prefix_code(token: &[u8]) -> u8
     PREFIX_CODES[place]
 }
 
-// "Reserved words: all operator words, `if then else first next not until`".
+// The number of the kind that a word of the line of kinds says, `read` or `set`, or 255.
+pub fn stream_kind_code(token: &[u8]) -> u8
+    ensures { λ r. ⌜ r ≡ codeOr255 streamKindCode (streamKindOf (now (token .entry))) ⌝ }
+{
+    let number = word_number(token);
+    let place = word_place(&STREAM_KIND_WORDS, number);
+    STREAM_KIND_CODES[place]
+}
+
+// "Reserved words: all operator words, `if then else first next not until`", and `read` and `set`.
 pub fn is_reserved(token: &[u8]) -> bool
     ensures { λ r. ⌜ r ≡ isReserved (now (token .entry)) ⌝ }
 {
     let number = word_number(token);
     let place = word_place(&RESERVED_WORDS, number);
-    place < 16
+    place < 18
 }
 
 pub fn is_if(token: &[u8]) -> bool

@@ -83,13 +83,15 @@ accepted-facts {text} (accepted {s} n₁ n₂ n₃ n₄ n₅ n₆ n₇ f) =
     let short : length (constraintLines text) ≤ constraintBound = not-over (λ l. n₂ (tooManyConstraints l)) in
     let sparse : tokenCount (constraintLines text) ≤ tokenBound = not-over (λ l. n₂ (tooManyTokens l)) in
     record {
-      someStream = f .someStream;
-      streamCount = omega arith;
-      areNames = f .areNames;
-      noReserved = λ t m. to-false (T-reflects (isReserved t)) (λ r. n₄ (reservedName f m r));
-      noRepeats = not-fails (areDistinct-reflects (namesOf (s .streams))) (λ n. n₄ (givenTwice f n));
-      rangesOrdered = ordered n₅ f;
-      rangesInBounds = λ x m. record { above = magnitude-above magnitudeBound (x .range .low) (not-over (λ l. n₅ (lowBeyond f m l))); below = magnitude-below magnitudeBound (x .range .high) (not-over (λ l. n₅ (highBeyond f m l))) };
+      streams = record {
+        someStream = f .someStream;
+        streamCount = omega arith;
+        areNames = f .areNames;
+        noReserved = λ t m. to-false (T-reflects (isReserved t)) (λ r. n₄ (reservedName f m r));
+        noRepeats = not-fails (areDistinct-reflects (namesOf (s .streams))) (λ n. n₄ (givenTwice f n));
+        rangesOrdered = ordered n₅ f;
+        rangesInBounds = λ x m. record { above = magnitude-above magnitudeBound (x .range .low) (not-over (λ l. n₅ (lowBeyond f m l))); below = magnitude-below magnitudeBound (x .range .high) (not-over (λ l. n₅ (highBeyond f m l))) };
+      };
       constraintCount = omega arith;
       expressionCount = omega arith;
       namesKnown = λ c m. not-fails (sidesBelow-reflects (length (s .streams)) c) (λ n. n₄ (unknownName f m n));

@@ -8,37 +8,46 @@ use Rattle.text.specs.Bytes.{bytesOf, lines, tokens}
 use Rattle.text.specs.Token.{isName, isNatural, isInteger, naturalFrom, integerValue, reservedWords, isReserved}
 use Rattle.meaning.specs.Value.{less, atMost, equal, atLeast, greater, different}
 use Rattle.meaning.specs.Arithmetic.{add, subtract, multiply, divide, remainder, compare, and, or}
-use Rattle.meaning.specs.Expression.{integer, name, first, next, negation, binary, conditional, fby, comparison, implies, always, until}
+use Rattle.meaning.specs.Expression.{integer, name, first, next, negation, binary, conditional, fby, comparison, implies, always, until, readKind, setKind}
 use Rattle.meaning.specs.Interval.{interval, subexpressions}
 use Rattle.meaning.specs.Letter.{letterCount}
 use Rattle.meaning.specs.Window.{reach, back, firsts, B, D}
-use Rattle.sheet.specs.Vocabulary.{pointwise, followedBy, operatorTokens, operatorOf, sign, untilSign, relationTokens, relationOf, prefixTokens, prefixOf, namePlace}
+use Rattle.sheet.specs.Vocabulary.{pointwise, followedBy, operatorTokens, operatorOf, sign, untilSign, relationTokens, relationOf, prefixTokens, prefixOf, streamKindTokens, streamKindOf, namePlace}
+use Rattle.sheet.specs.Form.{saysKinds}
 use Rattle.sheet.specs.Refusal.{Answer, refused, sheet}
 use Rattle.sheet.specs.Parser.{expressionBy, openingOf, partTo, parseConstraint}
-use Rattle.sheet.specs.Reading.{refuses1, tooDeepFrom, refuses2, streamsFrom, constraintsOf, formOf, refuses4, refuses5, refuses6, refuses7, answerToSheet, answerTo}
+use Rattle.sheet.specs.Reading.{refuses1, tooDeepFrom, refuses2, streamsFrom, kindsFrom, constraintsOf, formOf, refuses4, refuses5, refuses6, refuses7, answerToSheet, answerTo}
 
 answer : List ℕ → Answer
-unfolding lines tokens isName isNatural isInteger naturalFrom integerValue reservedWords isReserved interval subexpressions letterCount reach back firsts B D operatorTokens operatorOf relationTokens relationOf prefixTokens prefixOf namePlace expressionBy openingOf partTo parseConstraint refuses1 tooDeepFrom refuses2 streamsFrom constraintsOf formOf refuses4 refuses5 refuses6 refuses7 answerToSheet answerTo
+unfolding lines tokens isName isNatural isInteger naturalFrom integerValue reservedWords isReserved interval subexpressions letterCount reach back firsts B D operatorTokens operatorOf relationTokens relationOf prefixTokens prefixOf streamKindTokens streamKindOf saysKinds namePlace expressionBy openingOf partTo parseConstraint refuses1 tooDeepFrom refuses2 streamsFrom kindsFrom constraintsOf formOf refuses4 refuses5 refuses6 refuses7 answerToSheet answerTo
 answer text = answerTo text
 
 -- P1, and that `ge` is read as `atLeast`.
 p1 : answer (bytesOf "level gate\n0 0\n2 1\n( level ge 2 ) -> gate") ≡ sheet (record {
-  streams = record { name = bytesOf "level"; range = record { low = pos 0; high = pos 2 } } ∷ record { name = bytesOf "gate"; range = record { low = pos 0; high = pos 1 } } ∷ [];
+  streams = record { name = bytesOf "level"; kind = setKind; range = record { low = pos 0; high = pos 2 } } ∷ record { name = bytesOf "gate"; kind = setKind; range = record { low = pos 0; high = pos 1 } } ∷ [];
   constraints = always implies (binary (compare atLeast) (name 0) (integer (pos 2))) (name 1) ∷ [];
 })
 unfolding answer
 p1 = refl
 
 p2 : answer (bytesOf "x\n0\n1\nnext x == x + 1") ≡ sheet (record {
-  streams = record { name = bytesOf "x"; range = record { low = pos 0; high = pos 1 } } ∷ [];
+  streams = record { name = bytesOf "x"; kind = setKind; range = record { low = pos 0; high = pos 1 } } ∷ [];
   constraints = always (comparison equal) (next (name 0)) (binary add (name 0) (integer (pos 1))) ∷ [];
 })
 unfolding answer
 p2 = refl
 
+-- A gauge that is read and a gate that is set.
+kinds : answer (bytesOf "level gate\n0 0\n2 1\nread set\n( level ge 2 ) -> gate") ≡ sheet (record {
+  streams = record { name = bytesOf "level"; kind = readKind; range = record { low = pos 0; high = pos 2 } } ∷ record { name = bytesOf "gate"; kind = setKind; range = record { low = pos 0; high = pos 1 } } ∷ [];
+  constraints = always implies (binary (compare atLeast) (name 0) (integer (pos 2))) (name 1) ∷ [];
+})
+unfolding answer
+kinds = refl
+
 -- Every form whose parts could be taken in another order, a negative integer, and tokens without spaces beside brackets.
 shapes : answer (bytesOf "x y\n-1 0\n1 12\nif x then -5 else y -> x fby (not first y)\n(next x) until y") ≡ sheet (record {
-  streams = record { name = bytesOf "x"; range = record { low = negsuc 0; high = pos 1 } } ∷ record { name = bytesOf "y"; range = record { low = pos 0; high = pos 12 } } ∷ [];
+  streams = record { name = bytesOf "x"; kind = setKind; range = record { low = negsuc 0; high = pos 1 } } ∷ record { name = bytesOf "y"; kind = setKind; range = record { low = pos 0; high = pos 12 } } ∷ [];
   constraints = always implies (conditional (name 0) (integer (negsuc 4)) (name 1)) (fby (name 0) (negation (first (name 1)))) ∷ until (next (name 0)) (name 1) ∷ [];
 })
 unfolding answer
@@ -133,6 +142,22 @@ rows =
     ∷ (bytesOf "x x\n1 1\n0 0\nx", 3)
     ∷ (bytesOf "x x\n1 1\n0 0", 4)
     ∷ (bytesOf "x\n0\n1024\nx * 1000001 == 0", 6)
+    -- The line of kinds: known by its first token, one word a stream, not seen by refusal 2, and only as the fourth line.
+    ∷ (bytesOf "x\n0\n1\nread", 0)
+    ∷ (bytesOf "x y\n0 0\n1 1\nread", 3)
+    ∷ (bytesOf "x\n0\n1\nread set", 3)
+    ∷ (bytesOf "x\n0\n1\nset == 1", 3)
+    ∷ (bytesOf "set\n0\n1\nset == 1", 3)
+    ∷ (bytesOf "x\n0\n1\nset\nset", 3)
+    ∷ (bytesOf "x\n0\n1\nx == x\nread", 3)
+    ∷ (bytesOf "x\n0\n1\nread (((((((((((((((((((((((((((((((((", 3)
+    ∷ (bytesOf "x\n0\n1\n((((((((((((((((((((((((((((((((( read", 2)
+    ∷ (header ++ (bytesOf "read\n" ++ repeated 32 (bytesOf "x >= 0\n")), 0)
+    ∷ (header ++ (bytesOf "read\n" ++ repeated 33 (bytesOf "x >= 0\n")), 2)
+    -- `read` and `set` are reserved: 4 in line 1, 3 in a constraint, both 3.
+    ∷ (bytesOf "read x\n0 0\n1 1", 4)
+    ∷ (bytesOf "x\n0\n1\nx == read", 3)
+    ∷ (bytesOf "x set\n0 0\n1 1\nx == 1\nset == 1", 3)
     -- There is no precedence, and `if` takes parts.
     ∷ (bytesOf "x\n0\n1\nx + x + x == 0", 3)
     ∷ (bytesOf "x\n0\n1\n( x + x ) + x == 0", 0)

@@ -7,4 +7,6 @@ pub mod Form
 pub mod Refusal
 pub mod Reading
 pub mod Accepted
+pub mod Names
+pub mod StreamsAlone
 mod Examples

@@ -129,10 +129,10 @@ namesBelow-reflects n (fby a b) = and-reflects (namesBelow-reflects n a) (namesB
 pub sidesBelow-reflects : (n : ℕ) (c : Constraint) → Reflects (SidesBelow n c) (sidesBelow n c)
 sidesBelow-reflects n c = reflects-iff (λ h. record { left = h .0; right = h .1 }) (λ h. (h .left, h .right)) (and-reflects (namesBelow-reflects n (leftSide c)) (namesBelow-reflects n (rightSide c)))
 
-abbrev Fault4 : Sheet → Type 0
+abbrev pub Fault4 : Sheet → Type 0
 Fault4 s = ((NoRepeats (namesOf (s .streams)) → ⊥) ⊎ Some (λ t. T (isReserved t)) (namesOf (s .streams))) ⊎ Some (λ c. SidesBelow (length (s .streams)) c → ⊥) (s .constraints)
 
-fault4-reflects : (s : Sheet) → Reflects (Fault4 s) (refuses4 s)
+pub fault4-reflects : (s : Sheet) → Reflects (Fault4 s) (refuses4 s)
 unfolding refuses4
 fault4-reflects s =
     or-reflects
@@ -162,7 +162,7 @@ member-stands cs {e} m =
 ≤ℤ-reflects : (a b : ℤ) → Reflects (a ≤ℤ b) (leZ a b)
 ≤ℤ-reflects a b = reflects-iff (λ t. record { le = t }) (λ h. h .le) (T-reflects (leZ a b))
 
-abbrev RangeFault : Stream → Type 0
+abbrev pub RangeFault : Stream → Type 0
 RangeFault x = ((magnitudeBound < natAbs (x .range .low)) ⊎ (magnitudeBound < natAbs (x .range .high))) ⊎ (x .range .high <ℤ x .range .low)
 
 abbrev IntegerFault : Expression → Type 0
@@ -185,10 +185,10 @@ integerFault-reflects (binary o a b) = fails (λ h. h)
 integerFault-reflects (conditional c a b) = fails (λ h. h)
 integerFault-reflects (fby a b) = fails (λ h. h)
 
-abbrev Fault5 : Sheet → Type 0
+abbrev pub Fault5 : Sheet → Type 0
 Fault5 s = Some RangeFault (s .streams) ⊎ Some IntegerFault (allExpressions (s .constraints))
 
-fault5-reflects : (s : Sheet) → Reflects (Fault5 s) (refuses5 s)
+pub fault5-reflects : (s : Sheet) → Reflects (Fault5 s) (refuses5 s)
 unfolding refuses5
 fault5-reflects s =
     or-reflects
@@ -198,18 +198,18 @@ fault5-reflects s =
 pub inBounds-reflects : (I : Interval) → Reflects (InBounds I) (inBounds I)
 inBounds-reflects I = reflects-iff (λ h. record { above = h .0; below = h .1 }) (λ h. (h .above, h .below)) (and-reflects (≤ℤ-reflects (negℤ (pos magnitudeBound)) (I .low)) (≤ℤ-reflects (I .high) (pos magnitudeBound)))
 
-abbrev Fault6 : Sheet → Type 0
+abbrev pub Fault6 : Sheet → Type 0
 Fault6 s = Some (λ e. InBounds (interval (s .streams) e) → ⊥) (allExpressions (s .constraints))
 
-fault6-reflects : (s : Sheet) → Reflects (Fault6 s) (refuses6 s)
+pub fault6-reflects : (s : Sheet) → Reflects (Fault6 s) (refuses6 s)
 unfolding refuses6
 fault6-reflects s = anyOf-reflects (λ e. not (inBounds (interval (s .streams) e))) (allExpressions (s .constraints)) (λ e. not-reflects (inBounds-reflects (interval (s .streams) e)))
 
-abbrev Fault7 : Sheet → Type 0
+abbrev pub Fault7 : Sheet → Type 0
 Fault7 s =
     (((letterBound < letterCount (s .streams)) ⊎ (untilBound < length (allUntils (s .constraints)))) ⊎ (firstBound < length (allFirsts (s .constraints)))) ⊎ (windowBound < D (s .constraints) + B (s .constraints))
 
-fault7-reflects : (s : Sheet) → Reflects (Fault7 s) (refuses7 s)
+pub fault7-reflects : (s : Sheet) → Reflects (Fault7 s) (refuses7 s)
 unfolding refuses7
 fault7-reflects s =
     or-reflects

@@ -2,7 +2,7 @@
 use Prim.Native.Nat.{_+_, _≤_, _<_}
 use mathlib.Core.Path.{_≡_}
 use mathlib.Core.Bool.{false}
-use mathlib.Core.List.{List·Memᴰ}
+use mathlib.Core.List.{List, List·Memᴰ}
 use lib.Dec.{T}
 use lib.ListN.{length}
 use lib.Signed.{_≤ℤ_}
@@ -17,15 +17,18 @@ use Rattle.sheet.specs.Form.{namesOf}
 use Rattle.sheet.specs.Refusal.{streamBound, constraintBound, tokenBound, letterBound, untilBound, firstBound, windowBound, StandsIn, InBounds}
 use Rattle.sheet.specs.Reading.{allExpressions}
 
+-- The streams of such a sheet, but for the number of their letters.
+pub record AcceptedStreams (ss : List Stream) : Type 0 where
+  pub someStream : 0 < length ss
+  pub streamCount : length ss ≤ streamBound
+  pub areNames : (t : Token) → List·Memᴰ t (namesOf ss) → T (isName t)
+  pub noReserved : (t : Token) → List·Memᴰ t (namesOf ss) → isReserved t ≡ false
+  pub noRepeats : NoRepeats (namesOf ss)
+  pub rangesOrdered : (x : Stream) → List·Memᴰ x ss → x .range .low ≤ℤ x .range .high
+  pub rangesInBounds : (x : Stream) → List·Memᴰ x ss → InBounds (x .range)
+
 pub record Accepted (s : Sheet) : Type 0 where
-  -- the streams
-  pub someStream : 0 < length (s .streams)
-  pub streamCount : length (s .streams) ≤ streamBound
-  pub areNames : (t : Token) → List·Memᴰ t (namesOf (s .streams)) → T (isName t)
-  pub noReserved : (t : Token) → List·Memᴰ t (namesOf (s .streams)) → isReserved t ≡ false
-  pub noRepeats : NoRepeats (namesOf (s .streams))
-  pub rangesOrdered : (x : Stream) → List·Memᴰ x (s .streams) → x .range .low ≤ℤ x .range .high
-  pub rangesInBounds : (x : Stream) → List·Memᴰ x (s .streams) → InBounds (x .range)
+  pub streams : AcceptedStreams (s .streams)
   -- the constraints; each expression and each sign has a token of its own
   pub constraintCount : length (s .constraints) ≤ constraintBound
   pub expressionCount : length (allExpressions (s .constraints)) + length (s .constraints) ≤ tokenBound

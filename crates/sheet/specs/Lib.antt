@@ -5,4 +5,5 @@ pub mod Refusal
 pub mod Brackets
 pub mod Parser
 pub mod Reading
+pub mod Names
 pub mod Accepted

@@ -6,16 +6,18 @@ use mathlib.Core.List.{List, [], _∷_, _++_}
 use mathlib.Core.Option.{Option, some, none}
 use lib.Dec.{leb, ltb, eqb}
 use lib.IntN.{ℤ, pos, negℤ, natAbs}
-use lib.ListN.{length}
+use lib.ListN.{length, replicate}
 use lib.Signed.{leZ, ltZ}
 use Rattle.text.specs.Bytes.{Token, lines, tokens}
 use Rattle.text.specs.Token.{isOneOf, isName, isInteger, integerValue, isReserved}
 use Rattle.meaning.specs.Arithmetic.{Interval}
-use Rattle.meaning.specs.Expression.{Expression, integer, name, first, next, negation, binary, conditional, fby, Constraint, leftSide, rightSide, Stream, Sheet}
+use Rattle.meaning.specs.Expression.{Expression, integer, name, first, next, negation, binary, conditional, fby, Constraint, leftSide, rightSide, StreamKind, setKind, Stream, Sheet}
+use Rattle.meaning.specs.StreamKinds.{ofKind}
 use Rattle.meaning.specs.Interval.{interval, subexpressions}
 use Rattle.meaning.specs.Letter.{letterCount}
 use Rattle.meaning.specs.Window.{joinOver, allFirsts, allUntils, B, D}
-use Rattle.sheet.specs.Form.{lineTokens, constraintLines, namesOf, layoutIn}
+use Rattle.sheet.specs.Vocabulary.{streamKindOf}
+use Rattle.sheet.specs.Form.{lineTokens, constraintLines, kindTokens, namesOf, layoutIn}
 use Rattle.sheet.specs.Refusal.{byteBound, streamBound, constraintBound, tokenBound, bracketBound, magnitudeBound, letterBound, untilBound, firstBound, windowBound, isAllowed, tokenCount, Answer, refused, sheet}
 use Rattle.sheet.specs.Parser.{andThen, parseConstraint}
 
@@ -41,9 +43,9 @@ refuses2 text =
     || ltb tokenBound (tokenCount (constraintLines text))
     || anyOf (tooDeepFrom 0 0) (constraintLines text)
 
--- The streams that the tokens of the three header lines give.
+-- The streams that the tokens of the three header lines give, all `set`.
 abbrev pub streamFrom : Token → Token → Token → Stream
-streamFrom n l h = record { name = n; range = record { low = integerValue l; high = integerValue h } }
+streamFrom n l h = record { name = n; kind = setKind; range = record { low = integerValue l; high = integerValue h } }
 
 unfoldable pub streamsFrom : List Token → List Token → List Token → Option (List Stream)
 streamsFrom [] [] [] = some []
@@ -55,6 +57,22 @@ streamsFrom (n ∷ ns) (l ∷ ls) (h ∷ hs) =
     let others = andThen (streamsFrom ns ls hs) (λ ss. some (streamFrom n l h ∷ ss)) in
     cond (isName n && isInteger l && isInteger h) others none
 
+-- The kinds that the tokens say, one each.
+unfoldable pub kindsFrom : List Token → Option (List StreamKind)
+kindsFrom [] = some []
+kindsFrom (t ∷ ts) = andThen (streamKindOf t) (λ k. andThen (kindsFrom ts) (λ ks. some (k ∷ ks)))
+
+-- The kinds of n streams: "one of these for each stream"; "without it all are `set`".
+abbrev pub kindsOfStreams : Option (List Token) → ℕ → Option (List StreamKind)
+kindsOfStreams none n = some (replicate n setKind)
+kindsOfStreams (some ts) n = cond (eqb (length ts) n) (kindsFrom ts) none
+
+-- The streams with these kinds, one each.
+abbrev pub withKinds : List StreamKind → List Stream → List Stream
+withKinds [] ss = ss
+withKinds (k ∷ ks) [] = []
+withKinds (k ∷ ks) (s ∷ ss) = ofKind k s ∷ withKinds ks ss
+
 -- The constraints that the lines give.
 unfoldable pub constraintsOf : List Token → List (List ℕ) → Option (List Constraint)
 constraintsOf names [] = some []
@@ -65,10 +83,14 @@ abbrev pub sheetFrom : List (List ℕ) → List Stream → Option Sheet
 sheetFrom ls [] = none
 sheetFrom ls (s ∷ ss) = andThen (constraintsOf (namesOf (s ∷ ss)) ls) (λ cs. some (record { streams = s ∷ ss; constraints = cs }))
 
+-- The sheet of the streams of header lines, the kinds that are said of them, and constraint lines.
+abbrev pub formOfLines : List Token → List Token → List Token → Option (List Token) → List (List ℕ) → Option Sheet
+formOfLines names lows highs said ls = andThen (streamsFrom names lows highs) (λ ss. andThen (kindsOfStreams said (length ss)) (λ ks. sheetFrom ls (withKinds ks ss)))
+
 -- The sheet that the text has the form of.
 unfoldable pub formOf : List ℕ → Option Sheet
 formOf text =
-    let read : Option Sheet = andThen (streamsFrom (lineTokens text (layoutIn text .namesLine)) (lineTokens text (layoutIn text .lowsLine)) (lineTokens text (layoutIn text .highsLine))) (sheetFrom (constraintLines text)) in
+    let read : Option Sheet = formOfLines (lineTokens text (layoutIn text .namesLine)) (lineTokens text (layoutIn text .lowsLine)) (lineTokens text (layoutIn text .highsLine)) (kindTokens text) (constraintLines text) in
     cond (leb (layoutIn text .constraintsFrom) (length (lines text))) read none
 
 -- No token stands twice in the list.

@@ -70,6 +70,7 @@ occurrences c [] = 0
 occurrences c (b ∷ bs) = cond (eqb b c) 1 0 + occurrences c bs
 
 -- "2: over 8 tokens in line 1, 32 lines after line 3, 1,024 tokens in them, or, up to some place in one of them, more than 32 more `(` than `)`."
+-- Of the line of kinds document 02 (S-6) says: "Refusal 2 does not count this line or its tokens."
 pub data Refusal2 (text : List ℕ) : Type 0 where
   tooManyStreams : streamBound < length (lineTokens text (layoutIn text .namesLine)) → Refusal2 text
   tooManyConstraints : constraintBound < length (constraintLines text) → Refusal2 text

@@ -7,7 +7,7 @@ use Rattle.text.specs.Bytes.{Token, bytesOf}
 use Rattle.text.specs.Token.{sameBytes}
 use Rattle.meaning.specs.Value.{less, atMost, equal, atLeast, greater, different}
 use Rattle.meaning.specs.Arithmetic.{Operator, add, subtract, multiply, divide, remainder, compare, and, or}
-use Rattle.meaning.specs.Expression.{Expression, first, next, negation, binary, fby, Sign, comparison, implies, Constraint, always, until}
+use Rattle.meaning.specs.Expression.{Expression, first, next, negation, binary, fby, Sign, comparison, implies, Constraint, always, until, StreamKind, readKind, setKind}
 
 -- What stands first in the table beside the token t.
 abbrev pub lookUp : {X : Type 0} → List (Token × X) → Token → Option X
@@ -84,6 +84,13 @@ prefixTokens = (bytesOf "first", firstPrefix) ∷ (bytesOf "next", nextPrefix) �
 
 unfoldable pub prefixOf : Token → Option Prefix
 prefixOf t = lookUp prefixTokens t
+
+-- "known by `read` or `set`" (document 02, S-6): what a word of the line of kinds says of its stream.
+unfoldable pub streamKindTokens : List (Token × StreamKind)
+streamKindTokens = (bytesOf "read", readKind) ∷ (bytesOf "set", setKind) ∷ []
+
+unfoldable pub streamKindOf : Token → Option StreamKind
+streamKindOf t = lookUp streamKindTokens t
 
 -- The place of a name in line 1, counted from 0; as many as there are names where it is unknown.
 unfoldable pub namePlace : List Token → Token → ℕ

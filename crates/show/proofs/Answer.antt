@@ -22,6 +22,7 @@ use Rattle.sheet.specs.Reading.{answerTo}
 use Rattle.sheet.specs.Accepted.{Accepted}
 use Rattle.sheet.proofs.Reading.{answer-correct}
 use Rattle.sheet.proofs.Accepted.{accepted-facts}
+use Rattle.sheet.proofs.Names.{short-names}
 use Rattle.reader.specs.declared.Reading.{Reading}
 use Rattle.reader.specs.Stored.{storedSheet, readingOf, nameBytes, nameLengths}
 use Rattle.outcome.specs.Compile.{CompileAnswer}
@@ -33,7 +34,6 @@ use Rattle.pages.proofs.Refused.{refused-text}
 use Rattle.pages.proofs.Output.{table-text}
 use Rattle.print.specs.Text.{refusalLine}
 use Rattle.print.specs.Table.{printed, AllFit}
-use Rattle.print.proofs.Names.{short-names}
 use Rattle.print.proofs.Table.{printed-part}
 use Rattle.show.specs.declared.Printed.{Printed}
 use Rattle.show.specs.Answer.{Prints, refused, compiled, HasOutput, Shown, printoutOf, HasRanges, CompiledWith}
@@ -80,18 +80,18 @@ bound-high = record { sfits = omega arith }
 module _ {s : Sheet} (accepted : Accepted s) where
   low-fits : (x : Stream) → List·Memᴰ x (s .streams) → SFits w64 (x .range .low)
   low-fits x m =
-      let i = accepted .rangesInBounds x m in
-      between-fits (negℤ (pos magnitudeBound)) (x .range .low) (pos magnitudeBound) bound-low bound-high (i .above) (≤ℤ-trans (accepted .rangesOrdered x m) (i .below))
+      let i = accepted .streams .rangesInBounds x m in
+      between-fits (negℤ (pos magnitudeBound)) (x .range .low) (pos magnitudeBound) bound-low bound-high (i .above) (≤ℤ-trans (accepted .streams .rangesOrdered x m) (i .below))
 
   high-fits : (x : Stream) → List·Memᴰ x (s .streams) → SFits w64 (x .range .high)
   high-fits x m =
-      let i = accepted .rangesInBounds x m in
-      between-fits (negℤ (pos magnitudeBound)) (x .range .high) (pos magnitudeBound) bound-low bound-high (≤ℤ-trans (i .above) (accepted .rangesOrdered x m)) (i .below)
+      let i = accepted .streams .rangesInBounds x m in
+      between-fits (negℤ (pos magnitudeBound)) (x .range .high) (pos magnitudeBound) bound-low bound-high (≤ℤ-trans (i .above) (accepted .streams .rangesOrdered x m)) (i .below)
 
   stored-ranges : HasRanges (storedSheet s)
   unfolding storedSheet
   stored-ranges =
-      let few = accepted .streamCount in
+      let few = accepted .streams .streamCount in
       record {
         lowCount = omega (arith, length-append (lowsOf (s .streams)) (replicate (8 - length (lowsOf (s .streams))) (pos 0)), length-map (s .streams) (λ x. x .range .low), length-replicate (8 - length (lowsOf (s .streams))) (pos 0));
         highCount = omega (arith, length-append (highsOf (s .streams)) (replicate (8 - length (highsOf (s .streams))) (pos 0)), length-map (s .streams) (λ x. x .range .high), length-replicate (8 - length (highsOf (s .streams))) (pos 0));
@@ -119,9 +119,9 @@ module _ (text : List ℕ) {reading : Reading} (read-as : reading ≡ readingOf 
   table-bytes {s} a entries finals x z fits =
       let f = accepted-facts x in
       let same = stored-is text read-as x in
-      let few = f .streamCount in
+      let few = f .streams .streamCount in
       let k : min (reading .sheet .streams) 8 ≡ reading .sheet .streams = omega (arith, ap (λ y. y .streams) same) in
-      table-text (shownAs a entries finals) z few (f .letters) (short-names f) (replicate (64 - length (nameBytes (s .streams))) 0) (replicate (8 - length (nameLengths (s .streams))) 0)
+      table-text (shownAs a entries finals) z few (f .letters) (short-names (f .streams)) (replicate (64 - length (nameBytes (s .streams))) 0) (replicate (8 - length (nameLengths (s .streams))) 0)
       (ap (λ y. y .names) same) (ap (λ y. y .lengths) same) (ap (λ n. take n (reading .sheet .lows)) k ∙ part-held (lows-part s same)) (ap (λ n. take n (reading .sheet .highs)) k ∙ part-held (highs-part s same)) fits
 
   -- The bytes of the pages of a call in the rows lent are what the text prints.

@@ -14,6 +14,7 @@ use Rattle.meaning.specs.Expression.{Sheet}
 use Rattle.meaning.specs.Letter.{letterCount}
 use Rattle.sheet.specs.Reading.{answerTo}
 use Rattle.sheet.proofs.Accepted.{accepted-facts}
+use Rattle.sheet.proofs.Names.{short-names}
 use Rattle.automaton.specs.Course.{ShortestCourse}
 use Rattle.reader.specs.Stored.{storedSheet, readingOf, nameBytes, nameLengths}
 use Rattle.situations.proofs.Stored.{part-held, lows-part, highs-part, sheet-letters}
@@ -24,7 +25,6 @@ use Rattle.lend.specs.Lend.{CompiledLent}
 use Rattle.lend.proofs.Rows.{lent-entries, lent-rows}
 use Rattle.lend.proofs.Outcome.{compiled-held, refused-positive, stored-is}
 use Rattle.print.specs.Text.{refusalLine}
-use Rattle.print.proofs.Names.{short-names}
 use Rattle.pages.proofs.Refused.{refused-text}
 use Rattle.show.specs.Answer.{HasRanges}
 use Rattle.show.proofs.Answer.{read-ranges}
@@ -72,8 +72,8 @@ module _ {text : List ℕ} {s : Sheet} {a : CompileAnswer} {t : Tables} (c : Com
       let f = accepted-facts (c .reads) in
       let stored = readingOf (answerTo text) .sheet in
       let same = stored-is text refl (c .reads) in
-      let k : min (stored .streams) 8 ≡ stored .streams = omega (arith, ap (λ y. y .streams) same, f .streamCount) in
-      course-text (s .streams) (f .streamCount) (f .letters) (short-names f) (coursePrintout stored _ course) given
+      let k : min (stored .streams) 8 ≡ stored .streams = omega (arith, ap (λ y. y .streams) same, f .streams .streamCount) in
+      course-text (s .streams) (f .streams .streamCount) (f .letters) (short-names (f .streams)) (coursePrintout stored _ course) given
       (replicate (64 - length (nameBytes (s .streams))) 0) (replicate (8 - length (nameLengths (s .streams))) 0) (ap (λ y. y .names) same) (ap (λ y. y .lengths) same)
       (ap (λ n. take n (stored .lows)) k ∙ part-held (lows-part s same)) (ap (λ n. take n (stored .highs)) k ∙ part-held (highs-part s same)) (best .course .letters)
 

@@ -113,7 +113,7 @@ module _ (s : Sheet) {x : StoredSheet} (same : x ≡ storedSheet s) where
 
     same-streams : streams ≡ x .streams
     unfolding storedSheet
-    same-streams = omega (arith, ap (λ y. y .streams) same, accepted .streamCount)
+    same-streams = omega (arith, ap (λ y. y .streams) same, accepted .streams .streamCount)
 
     pub held-lows : take streams (x .lows) ≡ lowsOf (s .streams)
     held-lows = cut-held lows-part same-streams

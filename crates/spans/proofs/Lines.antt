@@ -11,6 +11,7 @@ use Rattle.text.specs.Bytes.{Token, isInside, startsInside, lines, tokens, addT
 use Rattle.text.proofs.Bytes.{tokens-append}
 use Rattle.meaning.specs.Window.{joinOver}
 use Rattle.scan.proofs.Tokens.{drop-at}
+use Rattle.sheet.specs.Form.{layoutIn}
 use Rattle.spans.specs.Spans.{lineOffset, constraintsTo, spansIn}
 
 pub start-none : (l : List ℕ) → lineOffset 0 l ≡ 0
@@ -53,11 +54,11 @@ start-within (suc k) (b ∷ l) = by (eqb b 10) (start-within k l) (start-within 
 -- The spans of a text that is too long, and of one that is not.
 pub spans-long : (text : List ℕ) → 65535 < length text → spansIn text ≡ []
 unfolding spansIn
-spans-long text h = ap (λ m. cond m [] (constraintsTo text (suc (length text)) (lineOffset 3 text))) (lt-ltb 65535 (length text) h)
+spans-long text h = ap (λ m. cond m [] (constraintsTo text (suc (length text)) (lineOffset (layoutIn text .constraintsFrom) text))) (lt-ltb 65535 (length text) h)
 
-pub spans-short : (text : List ℕ) → length text ≤ 65535 → spansIn text ≡ constraintsTo text (suc (length text)) (lineOffset 3 text)
+pub spans-short : (text : List ℕ) → length text ≤ 65535 → spansIn text ≡ constraintsTo text (suc (length text)) (lineOffset (layoutIn text .constraintsFrom) text)
 unfolding spansIn
-spans-short text h = ap (λ m. cond m [] (constraintsTo text (suc (length text)) (lineOffset 3 text))) (le-ltb 65535 (length text) h)
+spans-short text h = ap (λ m. cond m [] (constraintsTo text (suc (length text)) (lineOffset (layoutIn text .constraintsFrom) text))) (le-ltb 65535 (length text) h)
 
 -- ---- the tokens of lines
 

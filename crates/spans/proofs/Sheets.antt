@@ -9,7 +9,7 @@ use Rattle.text.specs.Bytes.{Token, tokens}
 use Rattle.meaning.specs.Expression.{Expression, Constraint, leftSide, rightSide, Sheet}
 use Rattle.sheet.specs.Vocabulary.{Relation, sign, untilSign, related}
 use Rattle.sheet.specs.Grammar.{ReadsConstraint, isConstraint}
-use Rattle.sheet.specs.Form.{Constraints, namesOf, HasForm}
+use Rattle.sheet.specs.Form.{Constraints, namesOf, HasForm, layoutIn}
 use Rattle.sheet.proofs.Vocabulary.{relation-no-operator}
 use Rattle.sheet.proofs.Parser.{NoOperator}
 use Rattle.scan.specs.declared.Span.{Span}
@@ -105,5 +105,6 @@ module _ (names : List Token) (text : List ℕ) where
 -- The spans of a text that has the form of a sheet.
 pub spans-read : {text : List ℕ} {s : Sheet} → HasForm text s → length text ≤ 65535 → EachReads (namesOf (s .streams)) text (spansIn text) (nodeExpressions (s .constraints))
 spans-read {text} {s} h l =
+    let n = layoutIn text .constraintsFrom in
     subst (λ ss. EachReads (namesOf (s .streams)) text ss (nodeExpressions (s .constraints))) (sym (spans-short text l))
-    (lines-found (namesOf (s .streams)) text (h .constraints) (suc (length text)) (lineOffset 3 text) (start-within 3 text) (omega arith) (start-tokens 3 text))
+    (lines-found (namesOf (s .streams)) text (h .constraints) (suc (length text)) (lineOffset n text) (start-within n text) (omega arith) (start-tokens n text))

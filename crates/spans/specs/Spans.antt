@@ -98,7 +98,7 @@ lineOffset zero l = 0
 lineOffset (suc k) [] = 0
 lineOffset (suc k) (b ∷ bs) = suc (cond (eqb b 10) (lineOffset k bs) (lineOffset (suc k) bs))
 
--- The spans of all expressions of the constraint lines, which stand behind three header lines. The places of a longer text than 65,535 bytes, which is
+-- The spans of all expressions of the constraint lines, which stand behind the header lines. The places of a longer text than 65,535 bytes, which is
 -- no sheet, are not told.
 unfoldable pub spansIn : List ℕ → List Span
 spansIn text = cond (ltb 65535 (length text)) [] (constraintsTo text (suc (length text)) (lineOffset (layoutIn text .constraintsFrom) text))

@@ -4,7 +4,6 @@ ghost use mathlib.Core.Path.{_≡_};
 ghost use mathlib.Core.List.{[], _∷_};
 ghost use Prim.Native.Nat.{suc, _+_, _≤_, _<_};
 ghost use lib.ListN.{length};
-ghost use Rattle.sheet.specs.Form.{layoutIn};
 ghost use Rattle.spans.specs.Token.{span};
 ghost use Rattle.spans.specs.Spans.{partSpanTo, branchesBy, expressionSpan, constraintSpan, constraintsTo, lineOffset};
 ghost use Rattle.spans.specs.Stored.{spanBound, putSpans, spanTable, PlaceIn, StoresSpans};
@@ -128,11 +127,11 @@ fn constraints(text: &[u8], from: usize, spans: &mut [u16; 2048]) -> usize
     }
 }
 
-// The place behind the first three lines.
-fn behind_header(text: &[u8]) -> usize
-    ensures { λ r. ⌜ r ≡ lineOffset (layoutIn (now (text .entry)) .constraintsFrom) (now (text .entry)) ⌝ }
+// The place behind the first lines, so many of them.
+fn behind_lines(text: &[u8], count: usize) -> usize
+    ensures { λ r. ⌜ r ≡ lineOffset count (now (text .entry)) ⌝ }
 {
-    let mut left: usize = 3;
+    let mut left = count;
     let mut i = 0;
     while i < text.len() {
         if left == 0 {
@@ -155,7 +154,7 @@ pub fn spans(text: &[u8]) -> [u16; 2048]
     if 65535 < text.len() {
         return table;
     }
-    let from = behind_header(text);
+    let from = behind_lines(text, refusals::header_lines(text));
     let count = constraints(text, from, &mut table);
     if 1024 < count {
         return [0; 2048];

@@ -72,7 +72,7 @@ unfolding isInteger
 integer-not-name [] p q = p
 integer-not-name (b ∷ bs) p q = let low : 97 ≤ b = name-begins b bs q in let high : b ≤ 57 = integer-begins b bs p in omega arith
 
--- "Reserved words: all operator words, `if then else first next not until`": these and no others.
-pub reserved-words : reservedWords ≡ tokens (bytesOf "lt le eq ge gt ne and or fby if then else first next not until")
+-- "Reserved words: all operator words, `if then else first next not until`", and `read` and `set`: these and no others.
+pub reserved-words : reservedWords ≡ tokens (bytesOf "lt le eq ge gt ne and or fby if then else first next not until read set")
 unfolding reservedWords tokens
 reserved-words = refl

@@ -57,7 +57,8 @@ abbrev pub isOneOf : List Token → Token → Bool
 isOneOf [] t = false
 isOneOf (w ∷ ws) t = sameBytes w t || isOneOf ws t
 
--- "Reserved words: all operator words, `if then else first next not until`; in a constraint they are never names."
+-- "Reserved words: all operator words, `if then else first next not until`; in a constraint they are never names." Of `read` and `set` document 02
+-- (S-6) says: "Both words are reserved now".
 unfoldable pub reservedWords : List Token
 reservedWords =
     bytesOf "lt"
@@ -76,6 +77,8 @@ reservedWords =
     ∷ bytesOf "next"
     ∷ bytesOf "not"
     ∷ bytesOf "until"
+    ∷ bytesOf "read"
+    ∷ bytesOf "set"
     ∷ []
 
 unfoldable pub isReserved : Token → Bool

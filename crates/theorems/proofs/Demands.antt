@@ -4,8 +4,8 @@
 -- unchanged. Demand 2: the streams along which the table can be followed are the solutions, each solution extends to the normal form in one way
 -- only, and each solution of the normal form, cut back, is a solution. Demand 3: each refusal is given exactly if its condition holds and that of
 -- none before it; where none of 1 to 8 and 10 applies, 9 exactly if there is no solution, else the table, which is settled; paths are the records
--- that begin a solution, and so are the records that can be followed by steps; equal used rows are equal solutions, whatever room was lent. From the
--- laws of the layers below.
+-- that begin a solution, and so are the records that can be followed by steps; equal used rows are equal solutions, whatever room was lent and
+-- whatever kinds the streams have. From the laws of the layers below.
 use Prim.Native.Nat.{ℕ, _≤_, _<_}
 use native.Mathlib.Omega.{arith}
 use mathlib.Core.Path.{_≡_, refl, sym, subst}
@@ -23,6 +23,7 @@ use Rattle.meaning.specs.Letter.{Record, OfLetters, letterCount, letterNumber, 
 use Rattle.meaning.specs.Situation.{SituationCount}
 use Rattle.meaning.specs.NormalForm.{NormalSolution, ExtendsUniquely, CutsBack}
 use Rattle.meaning.specs.Scope.{NamesKnown}
+use Rattle.meaning.specs.StreamKinds.{SameNamesAndRanges}
 use Rattle.meaning.proofs.NormalForm.{extends-uniquely, cut-back}
 use Rattle.sheet.specs.Form.{HasForm}
 use Rattle.sheet.specs.Refusal.{sheet, AnswerTo, accepted}
@@ -44,6 +45,7 @@ use Rattle.theorems.specs.Following.{FollowedAlong, BeginsSolution, Have
 use Rattle.theorems.specs.UsedRows.{usedBytes}
 use Rattle.theorems.specs.Refusals.{Refusal9, othersThanNine, nine, inOrder, IsGiven, NoneApplies}
 use Rattle.theorems.proofs.Following.{all-below, solution↔followed, path↔begins-solution, used-rows↔same-solutions}
+use Rattle.theorems.proofs.KindsApart.{table-same, over-differs, over-known, over-solutions}
 use Rattle.theorems.proofs.Steps.{path↔steps}
 use Rattle.theorems.proofs.Refusals.{given-unique, given-rest, of-form, call-given}
 
@@ -228,17 +230,13 @@ module _ {text : List ℕ} {s : Sheet} (read : ReadAs text s) where
   pub cut-back-solves : {v : ValueStreams} → NormalSolution s v → CutsBack s v
   cut-back-solves h = cut-back s (read-known read) h
 
--- ---- demand 3, two accepted sheets over the same streams, whatever room was lent
-
--- With the same list of streams the second sheet is the first one's streams with its own constraints.
-over : (s q : Sheet) → q .streams ≡ s .streams → q ≡ record { streams = s .streams; constraints = q .constraints }
-over s q e = λ i. record { streams = e i; constraints = q .constraints }
+-- ---- demand 3, two accepted sheets over the same streams, their names and ranges in the same order and whatever kinds (document 02, S-6), whatever room
+-- was lent
 
 pub equal-rows↔same-solutions : {text text′ : List ℕ} {room room′ : Room} {a a′ : CompileAnswer} {t t′ : Tables} → CompileCall text room a t → CompileCall text′ room′ a′ t′
-    → {s s′ : Sheet} → ReadAs text s → ReadAs text′ s′ → a .refusal ≡ 0 → a′ .refusal ≡ 0 → s′ .streams ≡ s .streams
+    → {s s′ : Sheet} → ReadAs text s → ReadAs text′ s′ → a .refusal ≡ 0 → a′ .refusal ≡ 0 → SameNamesAndRanges (s′ .streams) (s .streams)
     → SameUsedRows (letterCount (s .streams)) (a .states) (t .entries) (t .finals) (a′ .states) (t′ .entries) (t′ .finals) ↔ HaveSameSolutions s s′
 equal-rows↔same-solutions {a = a} {a′ = a′} {t = t} {t′ = t′} call call′ {s} {s′} r r′ e e′ same =
-    let p = over s s′ same in
-    subst (λ q. SameUsedRows (letterCount (s .streams)) (a .states) (t .entries) (t .finals) (a′ .states) (t′ .entries) (t′ .finals) ↔ HaveSameSolutions s q) (sym p)
-    (used-rows↔same-solutions (s .streams) (s .constraints) (s′ .constraints) (read-known r) (subst NamesKnown p (read-known r′)) (table-stored call r e)
-    (subst (λ q. StoredTable (SolutionWord q) (letterCount (q .streams)) (a′ .states) (t′ .entries) (t′ .finals)) p (table-stored call′ r′ e′)))
+    let rows = used-rows↔same-solutions (s .streams) (s .constraints) (s′ .constraints) (read-known r) (over-known s s′ same (read-known r′)) (table-stored call r e) (table-same (over-differs s s′ same) (table-stored call′ r′ e′)) in
+    let solutions = over-solutions s s′ same in
+    (λ h. solutions .0 (rows .0 h), λ h. rows .1 (solutions .1 h))

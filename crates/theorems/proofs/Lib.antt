@@ -1,7 +1,9 @@
 pub mod Following
+pub mod KindsApart
 pub mod Steps
 pub mod Refusals
 pub mod Demands
+pub mod StreamKinds
 pub mod Plays
 pub mod RecordTexts
 pub mod Replaying

@@ -23,6 +23,7 @@ use Rattle.automaton.proofs.Course.{path-rows}
 use Rattle.text.specs.Bytes.{Token, lines}
 use Rattle.meaning.specs.Expression.{Stream, Sheet}
 use Rattle.meaning.specs.Letter.{IsLetter, OfLetters, letterCount, letterNumber}
+use Rattle.meaning.specs.StreamKinds.{SameNamesAndRanges}
 use Rattle.meaning.proofs.Letter.{letterNumber-bound}
 use Rattle.sheet.specs.Form.{namesOf}
 use Rattle.outcome.specs.Compile.{CompileAnswer, Room, Tables, CompileCall}
@@ -42,6 +43,7 @@ use Rattle.theorems.specs.Replaying.{stateLines, refusalText, replayText
 use Rattle.theorems.proofs.Following.{all-below}
 use Rattle.theorems.proofs.Steps.{path-from↔steps, missing↔refused-12}
 use Rattle.theorems.proofs.Demands.{ReadAs, path↔solution, few-states, table-stored, equal-rows↔same-solutions}
+use Rattle.theorems.proofs.KindsApart.{printed-same}
 use Rattle.theorems.proofs.Plays.{letter-line, stateLines-append, lines-printed, states-cut, refusal-cut, through-states, through-unrefused, fault-states, fault-refusal, plays-or-fault, unrefused↔through, refusal↔fault, letters-fault, through↔path, prefix↔states, refused-12↔letter, rows-printed}
 use Rattle.theorems.proofs.RecordTexts.{named-lines, cut-lines}
 
@@ -258,10 +260,10 @@ plays-cut {s = s} {a} {t} c accepted start {state} {last} begins names names′ 
     rw (plays-unique start w (played c accepted begins), plays-unique start f (played c accepted begins), plays-unique (some (decimal (pos last))) g (played c accepted again))
     (replay-cut-texts (s .streams) (t .entries) names names′ first second e e′ cut through)
 
--- Two accepted sheets over the same streams that have the same solutions print the same, whatever room was lent.
+-- Two accepted sheets over the same streams, whatever their kinds, that have the same solutions print the same, whatever room was lent.
 pub same-solutions-print : {text text′ : List ℕ} {room room′ : Room} {a a′ : CompileAnswer} {t t′ : Tables} → CompileCall text room a t → CompileCall text′ room′ a′ t′
-    → {s s′ : Sheet} → ReadAs text s → ReadAs text′ s′ → a .refusal ≡ 0 → a′ .refusal ≡ 0 → s′ .streams ≡ s .streams → HaveSameSolutions s s′
-    → (ls : List (List ℕ)) (state : ℕ) → state < a .states → replayedLines (s .streams) (t .entries) state ls ≡ replayedLines (s .streams) (t′ .entries) state ls
+    → {s s′ : Sheet} → ReadAs text s → ReadAs text′ s′ → a .refusal ≡ 0 → a′ .refusal ≡ 0 → SameNamesAndRanges (s′ .streams) (s .streams) → HaveSameSolutions s s′
+    → (ls : List (List ℕ)) (state : ℕ) → state < a .states → replayedLines (s .streams) (t .entries) state ls ≡ replayedLines (s′ .streams) (t′ .entries) state ls
 same-solutions-print {t = t} {t′ = t′} call call′ {s} r r′ e e′ same h ls state inside =
     let rows = equal-rows↔same-solutions call call′ r r′ e e′ same .1 h in
-    rows-printed (s .streams) (t .entries) (t′ .entries) (rows .entries) (λ i b hi hb some-state. entry-state (table-stored call r e .table) i b hi hb some-state .0) ls state inside
+    rows-printed (s .streams) (t .entries) (t′ .entries) (rows .entries) (λ i b hi hb some-state. entry-state (table-stored call r e .table) i b hi hb some-state .0) ls state inside ∙ sym (printed-same same (t′ .entries) ls state)

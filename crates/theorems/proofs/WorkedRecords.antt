@@ -12,12 +12,13 @@ use Rattle.automaton.proofs.Equality.{unique-used-rows}
 use Rattle.automaton.proofs.Paths.{entry-state}
 use Rattle.text.specs.Bytes.{bytesOf, lines, tokens}
 use Rattle.text.specs.Token.{isName, isNatural, isInteger, naturalFrom, integerValue, reservedWords, isReserved}
-use Rattle.meaning.specs.Expression.{Stream, Sheet}
+use Rattle.meaning.specs.Expression.{setKind, Stream, Sheet}
 use Rattle.meaning.specs.Interval.{interval, subexpressions}
 use Rattle.meaning.specs.Letter.{letterCount, letterNumber, SolutionWord}
 use Rattle.meaning.specs.Window.{reach, back, firsts, B, D}
 use Rattle.sheet.specs.Refusal.{Answer, refused, sheet, AnswerTo}
-use Rattle.sheet.specs.Vocabulary.{operatorTokens, operatorOf, relationTokens, relationOf, prefixTokens, prefixOf, namePlace}
+use Rattle.sheet.specs.Vocabulary.{operatorTokens, operatorOf, relationTokens, relationOf, prefixTokens, prefixOf, streamKindTokens, streamKindOf, namePlace}
+use Rattle.sheet.specs.Form.{saysKinds}
 use Rattle.sheet.specs.Parser.{expressionBy, openingOf, partTo, parseConstraint}
 use Rattle.sheet.specs.Reading.{refuses1, tooDeepFrom, refuses2, streamsFrom, constraintsOf, formOf, refuses4, refuses5, refuses6, refuses7, answerToSheet, answerTo}
 use Rattle.sheet.proofs.Reading.{answer-correct, answer-unique}
@@ -35,8 +36,8 @@ use Rattle.theorems.proofs.Plays.{rows-printed}
 
 abbrev streams : List Stream
 streams =
-    record { name = bytesOf "x"; range = record { low = pos 0; high = pos 1 } }
-    ∷ record { name = bytesOf "y"; range = record { low = pos 0; high = pos 1 } }
+    record { name = bytesOf "x"; kind = setKind; range = record { low = pos 0; high = pos 1 } }
+    ∷ record { name = bytesOf "y"; kind = setKind; range = record { low = pos 0; high = pos 1 } }
     ∷ []
 
 -- "P4 [..] entries 65535 1 0 1, then 1 1 1 1."
@@ -58,7 +59,7 @@ streamsIn (refused n) = []
 streamsIn (sheet s) = s .streams
 
 p4-streams : streamsIn (answerTo (bytesOf (p4 .text))) ≡ streams
-unfolding lines tokens isName isNatural isInteger naturalFrom integerValue reservedWords isReserved interval subexpressions letterCount reach back firsts B D operatorTokens operatorOf relationTokens relationOf prefixTokens prefixOf namePlace expressionBy openingOf partTo parseConstraint refuses1 tooDeepFrom refuses2 streamsFrom constraintsOf formOf refuses4 refuses5 refuses6 refuses7 answerToSheet answerTo
+unfolding lines tokens isName isNatural isInteger naturalFrom integerValue reservedWords isReserved interval subexpressions letterCount reach back firsts B D operatorTokens operatorOf relationTokens relationOf prefixTokens prefixOf streamKindTokens streamKindOf saysKinds namePlace expressionBy openingOf partTo parseConstraint refuses1 tooDeepFrom refuses2 streamsFrom constraintsOf formOf refuses4 refuses5 refuses6 refuses7 answerToSheet answerTo
 p4-streams = refl
 
 p4-row : List·Memᴰ p4 workedSheets

@@ -2,6 +2,7 @@
 use mathlib.Core.Path.{sym}
 use lib.Seq.{length-take-le}
 use borrow.Author.Needs.{needs}
+use Rattle.compiled_sheet.proofs.Told.{call-answer}
 use Rattle.lend.proofs.Room.{in-rows}
 use Rattle.lend.proofs.compile_in_rows.Statement.{statement}
 use Rattle.lend.proofs.compile_in_rows.Tie as tie
@@ -75,6 +76,9 @@ slice-aggregate-compile-7 c = sym (length-take-le _ _ (array-borrow-prefix-share
 compile-requires : tie.Need-compile-requires
 compile-requires c κs = tt
 
+answer-requires : tie.Need-answer-requires
+answer-requires c κs = tt
+
 same-length : tie.Need-same-length
 same-length c = search needs
 
@@ -84,14 +88,14 @@ same-length-2 c = search needs
 returns : tie.Need-returns
 returns c =
     in-rows
-    (slice-aggregate-compile (c .before .before .before .before .before .before .before .before .before .before .before .before .before .before .before .before .before .before))
-    (slice-aggregate-compile-2 (c .before .before .before .before .before .before .before .before .before .before .before .before .before .before .before .before .before))
-    (slice-aggregate-compile-3 (c .before .before .before .before .before .before .before .before .before .before .before .before .before .before .before .before))
-    (slice-aggregate-compile-4 (c .before .before .before .before .before .before .before .before .before .before .before .before .before .before .before))
-    (slice-aggregate-compile-5 (c .before .before .before .before .before .before .before .before .before .before .before .before .before .before))
-    (slice-aggregate-compile-6 (c .before .before .before .before .before .before .before .before .before .before .before .before .before))
-    (slice-aggregate-compile-7 (c .before .before .before .before .before .before .before .before .before .before .before .before))
-    (c .before .before .before .before .before .before .before .before .before .before .before .compile .ensures)
+    (slice-aggregate-compile (c .before .before .before .before .before .before .before .before .before .before .before .before .before .before .before .before .before .before .before))
+    (slice-aggregate-compile-2 (c .before .before .before .before .before .before .before .before .before .before .before .before .before .before .before .before .before .before))
+    (slice-aggregate-compile-3 (c .before .before .before .before .before .before .before .before .before .before .before .before .before .before .before .before .before))
+    (slice-aggregate-compile-4 (c .before .before .before .before .before .before .before .before .before .before .before .before .before .before .before .before))
+    (slice-aggregate-compile-5 (c .before .before .before .before .before .before .before .before .before .before .before .before .before .before .before))
+    (slice-aggregate-compile-6 (c .before .before .before .before .before .before .before .before .before .before .before .before .before .before))
+    (slice-aggregate-compile-7 (c .before .before .before .before .before .before .before .before .before .before .before .before .before))
+    (call-answer (c .before .before .before .before .before .before .before .before .before .before .before .before .compile .ensures) (c .answer .ensures))
 
 pub compile-in-rows-spec : {M : Type 1} → statement M
 compile-in-rows-spec =
@@ -120,6 +124,7 @@ compile-in-rows-spec =
     array-borrow-prefix-shared
     slice-aggregate-compile-7
     compile-requires
+    answer-requires
     same-length
     same-length-2
     returns)

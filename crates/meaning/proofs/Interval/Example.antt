@@ -5,7 +5,7 @@ use mathlib.Core.List.{List, [], _∷_, map}
 use lib.IntN.{ℤ, pos, negℤ}
 use Rattle.meaning.specs.Value.{less}
 use Rattle.meaning.specs.Arithmetic.{Interval, add, subtract, multiply, divide, remainder, compare, and}
-use Rattle.meaning.specs.Expression.{Expression, integer, name, first, next, negation, binary, conditional, fby, Stream}
+use Rattle.meaning.specs.Expression.{Expression, integer, name, first, next, negation, binary, conditional, fby, setKind, Stream}
 use Rattle.meaning.specs.Interval.{interval}
 
 abbrev to : ℤ → ℤ → Interval
@@ -16,7 +16,7 @@ minus n = negℤ (pos n)
 
 -- x is −7 to 3 and y is 0 to 2.
 abbrev streams : List Stream
-streams = record { name = []; range = to (minus 7) (pos 3) } ∷ record { name = []; range = to (pos 0) (pos 2) } ∷ []
+streams = record { name = []; kind = setKind; range = to (minus 7) (pos 3) } ∷ record { name = []; kind = setKind; range = to (pos 0) (pos 2) } ∷ []
 
 abbrev x : Expression
 x = name 0

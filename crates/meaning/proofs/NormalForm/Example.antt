@@ -5,20 +5,20 @@ use mathlib.Core.List.{[], _∷_}
 use lib.IntN.{pos}
 use Rattle.meaning.specs.Value.{equal}
 use Rattle.meaning.specs.Arithmetic.{add}
-use Rattle.meaning.specs.Expression.{Expression, integer, name, first, next, binary, fby, comparison, always, until, Stream, Sheet}
+use Rattle.meaning.specs.Expression.{Expression, integer, name, first, next, binary, fby, comparison, always, until, readKind, setKind, Stream, Sheet}
 use Rattle.meaning.specs.Interval.{interval}
 use Rattle.meaning.specs.NormalForm.{added, rewritten, equation, addedEntries, addedBy, rewrittenConstraint, entriesBy, allAdded, allRewritten, allEntries, normalForm}
 
--- An added stream.
+-- An added stream, which is set.
 abbrev stream : ℕ → ℕ → Stream
-stream low high = record { name = []; range = record { low = pos low; high = pos high } }
+stream low high = record { name = []; kind = setKind; range = record { low = pos low; high = pos high } }
 
 abbrev x+1 : Expression
 x+1 = binary add (name 0) (integer (pos 1))
 
--- The stream x, 0 to 1; its name is the byte 120.
+-- The stream x, 0 to 1, which is read; its name is the byte 120.
 abbrev x : Stream
-x = record { name = 120 ∷ []; range = record { low = pos 0; high = pos 1 } }
+x = record { name = 120 ∷ []; kind = readKind; range = record { low = pos 0; high = pos 1 } }
 
 -- The stream x and the constraints `( next x ) fby ( next ( x + 1 ) ) == x` and `x until next x`.
 abbrev sheet : Sheet

@@ -78,11 +78,20 @@ part-read-lines-start-4 c = search needs
 part-read-lines-end-4 : tie.Need-part-read-lines-end-4
 part-read-lines-end-4 c = search needs
 
+sub-read-lines-5 : tie.Need-sub-read-lines-5
+sub-read-lines-5 c = search needs
+
+part-read-lines-start-5 : tie.Need-part-read-lines-start-5
+part-read-lines-start-5 c = search needs
+
+part-read-lines-end-5 : tie.Need-part-read-lines-end-5
+part-read-lines-end-5 c = search needs
+
 read-lines-requires : tie.Need-read-lines-requires
-read-lines-requires c κs = lines-few (known (c .before .before .before .before .before .before))
+read-lines-requires c κs = lines-few (known (c .before .before .before .before .before .before .before))
 
 returns-4 : tie.Need-returns-4
-returns-4 c = c .read-lines .ensures ∙ whole-reading (known (c .before .before .before .before .before .before .before)) (not-false _ (c .before .before .before .before .before .if3 .left))
+returns-4 c = c .read-lines .ensures ∙ whole-reading (known (c .before .before .before .before .before .before .before .before)) (not-false _ (c .before .before .before .before .before .before .if3 .left))
 
 pub read-spec : {M : Type 1} → statement M
 read-spec =
@@ -109,5 +118,8 @@ read-spec =
     sub-read-lines-4
     part-read-lines-start-4
     part-read-lines-end-4
+    sub-read-lines-5
+    part-read-lines-start-5
+    part-read-lines-end-5
     read-lines-requires
     returns-4)

@@ -1,13 +1,15 @@
 -- `reader::read_lines` meets its contract: at each place where it ends, what was read of the lines decides the answer.
-use mathlib.Core.Path.{ap, _∙_}
-use mathlib.Core.Bool.{not}
+use mathlib.Core.Path.{refl, ap, _∙_}
+use mathlib.Core.Bool.{not, _&&_}
 use borrow.Author.Needs.{needs}
 use borrow.Author.Tests.{not-true, not-false}
+use Rattle.text.specs.Bytes.{lines, tokens}
 use Rattle.nodes.specs.Evaluate.{stored}
+use Rattle.refusals.specs.Places.{saidTokens}
 use Rattle.reader.specs.Constraints.{State, state}
 use Rattle.reader.specs.Streams.{StreamTables, streamTables}
 use Rattle.refusals.specs.Names.{formRefusal}
-use Rattle.reader.proofs.Answers.{no-streams-reading, no-stream-reading, LinesRead, form-refused, held-sheet, held-reading}
+use Rattle.reader.proofs.Answers.{streams-few, no-streams-reading, no-stream-reading, LinesRead, form-refused, held-sheet, held-reading}
 use Rattle.reader.proofs.read_lines.Statement.{statement}
 use Rattle.reader.proofs.read_lines.Tie as tie
 
@@ -18,13 +20,22 @@ refused-requires : tie.Need-refused-requires
 refused-requires c κs = search needs
 
 returns : tie.Need-returns
-returns c = c .refused .ensures ∙ no-streams-reading _ (c .before .before .before .read-streams .ensures) (not-true _ (c .before .if1 .taken))
+returns c =
+    let start = c .before .before .before .before .before .before .before .before .before .before .before .before .before in
+    c .refused .ensures ∙ no-streams-reading (saidTokens (tokens (start .args .kinds-line .now))) (lines (start .args .text .now)) (c .before .before .before .read-streams .ensures) (not-true _ (c .before .if1 .taken))
 
 refused-requires-2 : tie.Need-refused-requires-2
 refused-requires-2 c κs = search needs
 
 returns-2 : tie.Need-returns-2
-returns-2 c = c .refused2 .ensures ∙ no-stream-reading (c .before .before .before .before .before .read-streams .ensures) (not-false _ (c .before .before .before .if1 .left)) _ (c .before .if2 .taken)
+returns-2 c =
+    let start = c .before .before .before .before .before .before .before .before .before .before .before .before .before .before .before in
+    c .refused2 .ensures ∙ no-stream-reading (c .before .before .before .before .before .read-streams .ensures) (not-false _ (c .before .before .before .if1 .left)) (saidTokens (tokens (start .args .kinds-line .now))) (lines (start .args .text .now)) (c .before .if2 .taken)
+
+read-kinds-requires : tie.Need-read-kinds-requires
+read-kinds-requires c κs =
+    let start = c .before .before .before .before .before .before .before .before .before .before .before .before .before .before .before in
+    (streams-few (c .before .before .before .before .before .read-streams .ensures) (not-false _ (c .before .before .before .if1 .left)) (start .pre .0), refl)
 
 read-constraints-requires : tie.Need-read-constraints-requires
 read-constraints-requires c κs = search needs
@@ -39,13 +50,16 @@ form-refusal-requires c κs = search needs
 
 -- Places passed: there is some stream, the streams are read, the function starts.
 abbrev some-stream-of : tie.After-form-refusal → tie.Else2
-some-stream-of c = c .before .before .before .before .before .before .before .before .before .before .before
+some-stream-of c = c .before .before .before .before .before .before .before .before .before .before .before .before .before
 
 abbrev streams-of : tie.After-form-refusal → tie.After-read-streams
 streams-of c = some-stream-of c .before .before .before .before
 
 abbrev start-of : tie.After-form-refusal → tie.Start
-start-of c = streams-of c .before .before .before .before .before .before .before .before .before
+start-of c = streams-of c .before .before .before .before .before .before .before .before .before .before
+
+abbrev kinds-of : tie.After-form-refusal → tie.After-read-kinds
+kinds-of c = c .before .before .before .before .before .before .before .before .before .before .before
 
 -- What the tables hold.
 abbrev tables-of : tie.After-form-refusal → StreamTables
@@ -57,15 +71,16 @@ constraints-of c =
     let last = read .last .1 .1 .1 in
     state (stored (last .0) (last .1 .0) (last .1 .1 .0)) (last .1 .1 .1 .0) (last .1 .1 .1 .1 .0) (last .1 .1 .1 .1 .1 .0) (read .result)
 
-lines-read : (c : tie.After-form-refusal) → LinesRead (start-of c .args .names-line .now) (start-of c .args .lows-line .now) (start-of c .args .highs-line .now) (start-of c .args .text .now) (streams-of c .read-streams .result) (tables-of c) (constraints-of c) (c .form-refusal .result)
+lines-read : (c : tie.After-form-refusal) → LinesRead (start-of c .args .names-line .now) (start-of c .args .lows-line .now) (start-of c .args .highs-line .now) (start-of c .args .kinds-line .now) (start-of c .args .text .now) (streams-of c .read-streams .result) (tables-of c) (kinds-of c .read-kinds .result) (kinds-of c .read-kinds .last .1 .1 .0) (constraints-of c) (c .form-refusal .result)
 lines-read c =
     record {
       few = start-of c .pre;
       streams = streams-of c .read-streams .ensures;
       ok = not-false _ (some-stream-of c .before .before .if1 .left);
       someStream = some-stream-of c .if2 .left;
+      streamKinds = kinds-of c .read-kinds .ensures;
       constraints = c .before .before .before .read-constraints .ensures;
-      judged = c .form-refusal .ensures ∙ ap (formRefusal (not (c .before .before .before .read-constraints .result .ok))) (c .before .names-refused .ensures);
+      judged = c .form-refusal .ensures ∙ ap (formRefusal (not (kinds-of c .read-kinds .result && c .before .before .before .read-constraints .result .ok))) (c .before .names-refused .ensures);
     }
 
 refused-requires-3 : tie.Need-refused-requires-3
@@ -89,6 +104,7 @@ read-lines-spec =
     returns
     refused-requires-2
     returns-2
+    read-kinds-requires
     read-constraints-requires
     names-refused-requires
     form-refusal-requires

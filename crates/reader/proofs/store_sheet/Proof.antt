@@ -9,7 +9,7 @@ use Rattle.reader.proofs.store_sheet.Tie as tie
 
 -- The function starts, before the arrays are taken out of their structs.
 abbrev start-of : tie.After-rights → tie.Start
-start-of c = c .before .before .before .before .before .before .before .before .before .before
+start-of c = c .before .before .before .before .before .before .before .before .before .before .before
 
 array-share-prefix-kinds : tie.Need-array-share-prefix-kinds
 array-share-prefix-kinds c = let z = sizes (start-of c .pre .held) in omega arith
@@ -82,11 +82,11 @@ find-firsts-requires c κs =
     let held = start-of (c .before .before .before .before .before .before .before .before .before .before .before .before .before .before) .pre .held in
     firsts-fit held (told held (c .before .before .before .before .before .before .either .ensures) (c .before .before .before .before .before .test-stored .ensures)) (c .before .before .before .if1 .left)
 
-cast-t52 : tie.Need-cast-t52
-cast-t52 c = search needs
-
 cast-t53 : tie.Need-cast-t53
 cast-t53 c = search needs
+
+cast-t54 : tie.Need-cast-t54
+cast-t54 c = search needs
 
 returns-2 : tie.Need-returns-2
 returns-2 c = record { gives = λ s h. sheet-reading h (told h (c .before .before .before .before .before .before .before .before .before .either .ensures) (c .before .before .before .before .before .before .before .before .test-stored .ensures)) (c .before .before .before .before .before .before .if1 .left) (c .before .before .find-firsts .ensures) }
@@ -118,6 +118,6 @@ store-sheet-spec =
     array-share-prefix-values-2
     slice-aggregate-find-firsts-2
     find-firsts-requires
-    cast-t52
     cast-t53
+    cast-t54
     returns-2)

@@ -6,10 +6,10 @@ use Rattle.reader_vectors.proofs.print_streams.Statement.{statement}
 use Rattle.reader_vectors.proofs.print_streams.Tie as tie
 
 abbrev Inv-loop : tie.InvT-loop
-Inv-loop names lengths lows highs count i₀ i = i ≤ 8
+Inv-loop names lengths lows highs stream-kinds count i₀ i = i ≤ 8
 
 abbrev μ-loop : tie.MeasureT-loop
-μ-loop names lengths lows highs count i₀ i = 8 - i
+μ-loop names lengths lows highs stream-kinds count i₀ i = 8 - i
 
 loop-holds : tie.Need-loop-holds Inv-loop μ-loop
 loop-holds c = search needs
@@ -28,6 +28,9 @@ mul-high c = search needs
 
 element-copy-out-high : tie.Need-element-copy-out-high Inv-loop μ-loop
 element-copy-out-high c = search needs
+
+element-copy-out-kind : tie.Need-element-copy-out-kind Inv-loop μ-loop
+element-copy-out-kind c = search needs
 
 mul-print-stream : tie.Need-mul-print-stream Inv-loop μ-loop
 mul-print-stream c = search needs
@@ -59,6 +62,7 @@ print-streams-spec =
     element-copy-out-low
     mul-high
     element-copy-out-high
+    element-copy-out-kind
     mul-print-stream
     print-stream-requires
     add-i

@@ -19,7 +19,7 @@ word-place-requires c κs = search needs
 
 returns : tie.Need-returns
 unfolding reservedWords isReserved wordNumber
-returns c = ap (λ p. ltb p 16) (c .word-place .ensures) ∙ member-place (c .before .before .word-number .ensures) reservedWords tt
+returns c = ap (λ p. ltb p 18) (c .word-place .ensures) ∙ member-place (c .before .before .word-number .ensures) reservedWords tt
 
 pub is-reserved-spec : {M : Type 1} → statement M
 is-reserved-spec = tie.close (tie.spec word-number-requires slice-aggregate-word-place word-place-requires returns)

@@ -1,10 +1,11 @@
 -- `spans::spans` meets its contract.
 use Prim.Native.Nat.{suc, _≤_, _<_}
 use native.Mathlib.Omega.{arith}
-use mathlib.Core.Path.{sym, ap, _∙_}
+use mathlib.Core.Path.{_≡_, sym, ap, _∙_}
 use lib.ListN.{length}
 use borrow.Author.Needs.{needs}
-use Rattle.spans.specs.Spans.{constraintsTo, spansIn}
+use Rattle.sheet.specs.Form.{layoutIn}
+use Rattle.spans.specs.Spans.{lineOffset, constraintsTo, spansIn}
 use Rattle.spans.specs.Stored.{spanBound, putSpans, noSpans}
 use Rattle.spans.proofs.Tables.{table-few, table-many}
 use Rattle.spans.proofs.Lines.{start-within, spans-long, spans-short}
@@ -18,33 +19,40 @@ returns c =
     let few : length (spansIn text) ≤ spanBound = omega (arith, ap length none) in
     sym (table-few text few ∙ ap (putSpans noSpans 0) none)
 
-behind-header-requires : tie.Need-behind-header-requires
-behind-header-requires c κs = search needs
+header-lines-requires : tie.Need-header-lines-requires
+header-lines-requires c κs = search needs
+
+behind-lines-requires : tie.Need-behind-lines-requires
+behind-lines-requires c κs = search needs
+
+-- Where the constraint lines begin.
+begins : (c : tie.After-behind-lines) → c .behind-lines .result ≡ lineOffset (layoutIn (c .before .before .before .before .args .text .now) .constraintsFrom) (c .before .before .before .before .args .text .now)
+begins c = c .behind-lines .ensures ∙ ap (λ n. lineOffset n (c .before .before .before .before .args .text .now)) (c .before .header-lines .ensures)
 
 constraints-requires : tie.Need-constraints-requires
 constraints-requires c κs =
-    let text = c .before .before .before .before .args .text .now in
+    let text = c .before .before .before .before .before .args .text .now in
     record {
-      short = omega (arith, c .before .before .if1 .left);
-      inside = omega (arith, start-within 3 text, c .before .behind-header .ensures);
+      short = omega (arith, c .before .before .before .if1 .left);
+      inside = omega (arith, start-within (layoutIn text .constraintsFrom) text, begins (c .before));
       few = omega arith;
     }
 
 returns-2 : tie.Need-returns-2
 returns-2 c =
-    let text = c .before .before .before .before .before .before .args .text .now in
-    let short : length text ≤ 65535 = omega (arith, c .before .before .before .before .if1 .left) in
-    let all = ap (constraintsTo text (suc (length text))) (c .before .before .before .behind-header .ensures) ∙ sym (spans-short text short) in
+    let text = c .before .before .before .before .before .before .before .args .text .now in
+    let short : length text ≤ 65535 = omega (arith, c .before .before .before .before .before .if1 .left) in
+    let all = ap (constraintsTo text (suc (length text))) (begins (c .before .before .before)) ∙ sym (spans-short text short) in
     let many : spanBound < length (spansIn text) = omega (arith, c .before .constraints .ensures .0, ap length all, c .if2 .taken) in
     sym (table-many text many)
 
 returns-3 : tie.Need-returns-3
 returns-3 c =
-    let text = c .before .before .before .before .before .before .args .text .now in
-    let short : length text ≤ 65535 = omega (arith, c .before .before .before .before .if1 .left) in
-    let all = ap (constraintsTo text (suc (length text))) (c .before .before .before .behind-header .ensures) ∙ sym (spans-short text short) in
+    let text = c .before .before .before .before .before .before .before .args .text .now in
+    let short : length text ≤ 65535 = omega (arith, c .before .before .before .before .before .if1 .left) in
+    let all = ap (constraintsTo text (suc (length text))) (begins (c .before .before .before)) ∙ sym (spans-short text short) in
     let few : length (spansIn text) ≤ spanBound = omega (arith, c .before .constraints .ensures .0, ap length all, c .if2 .left) in
     c .before .constraints .ensures .1 (omega (arith, c .if2 .left)) ∙ ap (putSpans noSpans 0) all ∙ sym (table-few text few)
 
 pub spans-spec : {M : Type 1} → statement M
-spans-spec = tie.close (tie.spec returns behind-header-requires constraints-requires returns-2 returns-3)
+spans-spec = tie.close (tie.spec returns header-lines-requires behind-lines-requires constraints-requires returns-2 returns-3)

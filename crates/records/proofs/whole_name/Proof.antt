@@ -1,13 +1,13 @@
--- `records::stored_name` meets its contract: as many of the eight bytes as the length says, and none where there are not eight or no length.
+-- `records::whole_name` meets its contract: as many of the eight bytes as the length says, and none where there are not eight or no length.
 use Prim.Native.Nat.{_+_, _-_, _*_, min}
 use mathlib.Core.Path.{_≡_, sym, ap, _∙_}
 use native.Mathlib.Omega.{arith}
 use lib.ListN.{take, drop, getD, List·getD-eq-default}
 use borrow.Author.Tests.{lt-ltb, le-ltb}
-use Rattle.records.specs.Machine.{storedName}
+use Rattle.records.specs.Machine.{wholeName}
 use borrow.Author.Needs.{needs}
-use Rattle.records.proofs.stored_name.Statement.{statement}
-use Rattle.records.proofs.stored_name.Tie as tie
+use Rattle.records.proofs.whole_name.Statement.{statement}
+use Rattle.records.proofs.whole_name.Tie as tie
 
 sub-result : tie.Need-sub-result
 sub-result c = search needs
@@ -19,7 +19,7 @@ part-result-end : tie.Need-part-result-end
 part-result-end c = search needs
 
 returns : tie.Need-returns
-unfolding storedName
+unfolding wholeName
 returns c = sym (simp (le-ltb _ _ (c .before .if1 .taken)))
 
 sub-result-2 : tie.Need-sub-result-2
@@ -32,7 +32,7 @@ part-result-end-2 : tie.Need-part-result-end-2
 part-result-end-2 c = search needs
 
 returns-2 : tie.Need-returns-2
-unfolding storedName
+unfolding wholeName
 returns-2 c = let s = c .before .before .before .before .before in sym (simp (lt-ltb _ _ (c .before .before .if1 .left), List·getD-eq-default (s .args .lengths .now) 0 {n = s .args .i} (c .before .if2 .taken)))
 
 mul-start : tie.Need-mul-start
@@ -60,14 +60,14 @@ part-result-end-3 : tie.Need-part-result-end-3
 part-result-end-3 c = search needs
 
 returns-3 : tie.Need-returns-3
-unfolding storedName
+unfolding wholeName
 returns-3 c =
     let s = c .before .before .before .before .before .before .before in
     let n : s .args .i * 8 + c .before .fewer .result - s .args .i * 8 ≡ min (getD (s .args .lengths .now) (s .args .i) 0) 8 = omega (arith, c .before .fewer .ensures) in
     ap (λ k. take k (drop (s .args .i * 8) (s .args .names .now))) n ∙ sym (simp (lt-ltb _ _ (c .before .before .before .before .if1 .left)))
 
-pub stored-name-spec : {M : Type 1} → statement M
-stored-name-spec =
+pub whole-name-spec : {M : Type 1} → statement M
+whole-name-spec =
     tie.close
     (tie.spec
     sub-result

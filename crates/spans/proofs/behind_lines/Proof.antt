@@ -1,4 +1,4 @@
--- `spans::behind_header` meets its contract: the place of the loop, and the place behind as many lines as are left among the bytes from there on.
+-- `spans::behind_lines` meets its contract: the place of the loop, and the place behind as many lines as are left among the bytes from there on.
 use Prim.Native.Nat.{_+_, _-_, _≤_}
 use native.Mathlib.Omega.{arith}
 use mathlib.Core.Path.{_≡_, ap, _∙_}
@@ -7,14 +7,14 @@ use lib.ListN.{length, drop}
 use borrow.Author.Needs.{needs}
 use Rattle.spans.specs.Spans.{lineOffset}
 use Rattle.spans.proofs.Lines.{start-none, start-over, start-ends, start-goes-on}
-use Rattle.spans.proofs.behind_header.Statement.{statement}
-use Rattle.spans.proofs.behind_header.Tie as tie
+use Rattle.spans.proofs.behind_lines.Statement.{statement}
+use Rattle.spans.proofs.behind_lines.Tie as tie
 
 abbrev Inv-loop : tie.InvT-loop
-Inv-loop text left₀ i₀ left i = (i ≤ length text) × (lineOffset 3 text ≡ i + lineOffset left (drop i text))
+Inv-loop text count left₀ i₀ left i = (i ≤ length text) × (lineOffset count text ≡ i + lineOffset left (drop i text))
 
 abbrev μ-loop : tie.MeasureT-loop
-μ-loop text left₀ i₀ left i = length text - i
+μ-loop text count left₀ i₀ left i = length text - i
 
 loop-holds : tie.Need-loop-holds Inv-loop μ-loop
 loop-holds c = (omega arith, omega arith)
@@ -54,8 +54,8 @@ returns-2 c =
     let over = start-over (c .before .loop .left) text (c .before .loop .i) (omega arith) in
     omega arith
 
-pub behind-header-spec : {M : Type 1} → statement M
-behind-header-spec =
+pub behind-lines-spec : {M : Type 1} → statement M
+behind-lines-spec =
     tie.close
     (tie.spec
     Inv-loop

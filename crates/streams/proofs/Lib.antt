@@ -1,0 +1,4 @@
+pub mod Fit
+pub mod Names
+pub mod Ranges
+pub mod Stored

@@ -1,0 +1,67 @@
+/* A desk program: it compiles the sheet on standard input, says what the streams are, and takes one step from the start for each
+ * letter. It knows nothing of the sheet but what the compile tells: the letters and the streams.
+ */
+#include <inttypes.h>
+#include <stdio.h>
+
+#include "compile.h"
+#include "step.h"
+
+enum { MOST_BYTES = 16384, MOST_LETTERS = 1024, ROWS = 64 };
+
+static uint8_t text[MOST_BYTES + 1];
+static uint16_t entries[ROWS * MOST_LETTERS];
+static uint8_t finals[ROWS];
+static uint32_t keys[ROWS * COMPILE_KEY], live[ROWS], class_names[ROWS], next[ROWS], heads[ROWS], links[ROWS], shared[ROWS];
+
+static void print_name(const struct streams *streams, size_t stream)
+{
+    printf("%.*s", streams->lengths[stream], (const char *)streams->names + STREAMS_NAME * stream);
+}
+
+/* the value of a stream in a letter: the last stream counts fastest, values rise from the lowest */
+static int64_t value_in(const struct streams *streams, uint32_t letter, size_t stream)
+{
+    for (size_t k = streams->count; --k > stream;)
+        letter /= (uint32_t)(streams->highs[k] - streams->lows[k] + 1);
+    return streams->lows[stream] + letter % (uint32_t)(streams->highs[stream] - streams->lows[stream] + 1);
+}
+
+static void print_streams(const struct streams *streams)
+{
+    for (size_t k = 0; k < streams->count; k++) {
+        print_name(streams, k);
+        printf(" from %" PRId64 " to %" PRId64 ", %s\n", streams->lows[k], streams->highs[k], streams->kinds[k] == STREAM_READ ? "read" : "set");
+    }
+}
+
+static void print_step(const struct compile_answer *answer, uint32_t letter)
+{
+    /* the used rows alone; on x86-64 a number's low byte comes first, as the step wants it */
+    size_t used = (size_t)2 * answer->states * answer->letters;
+    uint32_t state = step((const uint8_t *)entries, used, answer->letters, 0, letter);
+    for (size_t k = 0; k < answer->streams.count; k++) {
+        print_name(&answer->streams, k);
+        printf(" %" PRId64 " ", value_in(&answer->streams, letter, k));
+    }
+    if (state < STEP_REFUSED)
+        printf("leads to state %" PRIu32 "\n", state);
+    else
+        printf("is not allowed\n");
+}
+
+int main(void)
+{
+    size_t length = fread(text, 1, sizeof text, stdin);
+    struct compile_answer answer = compile_c(text, length, entries, ROWS * MOST_LETTERS, finals, ROWS, keys, ROWS * COMPILE_KEY, live, ROWS,
+        class_names, ROWS, next, ROWS, heads, ROWS, links, ROWS, shared, ROWS);
+    if (answer.refusal != 0) {
+        printf("refused %" PRIu32 "\n", answer.refusal);
+        return 0;
+    }
+    print_streams(&answer.streams);
+    printf("%" PRIu32 " letters, %" PRIu32 " states\n", answer.letters, answer.states);
+    for (uint32_t letter = 0; letter < answer.letters; letter++)
+        print_step(&answer, letter);
+    return 0;
+}
