@@ -17,6 +17,8 @@ from collections import Counter, deque, namedtuple
 from course_check import difference as course_difference
 from damage import damaged_sheets
 from examples import EXAMPLES, example_faults
+from game_check import (sheet_difference as game_difference, table_difference,
+                        worked_fault)
 from generate import bound_sheets, division_sheets, random_sheets
 from grammar import all_subexpressions, expression_text
 from intervals import interval
@@ -32,6 +34,7 @@ from shortest_check import difference as shortest_difference
 from situations import explore, is_lawful, judge_of, situation
 from spellings import spelling_sheets
 from step import step, table_bytes
+from strategy_check import difference as strategy_difference
 from table import (Partition, final_situations, followed_forever,
                    live_situations, live_successors, partition, same_pairs,
                    table_of)
@@ -43,6 +46,9 @@ REPLAYS = 2000
 COURSES = 1000
 SHEET_COURSES = 500
 KINDS_SHEETS = 60
+GAME_TABLES = 1000
+GAME_SHEETS = 300
+STRATEGIES = 300
 PAIR_BOUND = 150
 PARTITION_BOUND = 30
 NORMAL_FORM_WORDS = 4
@@ -503,6 +509,26 @@ def check_courses(rng, counts):
         counts["courses of sheets found by rows and by lines of the table"] += 1
 
 
+def check_games(rng, counts):
+    """Which states the controller wins, play tables and what is printed of
+    them, by sets of states, by situations, strategies and endless words."""
+    fault = worked_fault()
+    if fault:
+        raise Difference("game", *fault)
+    for draws, difference, what in (
+            (GAME_TABLES, table_difference,
+             "games of tables solved by sets and by strategies"),
+            (GAME_SHEETS, game_difference,
+             "games of sheets solved by states and by situations and words"),
+            (STRATEGIES, strategy_difference,
+             "play tables printed and judged by lines of the table")):
+        for _ in range(draws):
+            case = difference(rng)
+            if case:
+                raise Difference("game", *case)
+            counts[what] += 1
+
+
 def main(seed, count):
     counts = Counter()
     rng = random.Random(seed)
@@ -515,6 +541,7 @@ def main(seed, count):
         check_kinds(random.Random("kinds %d" % seed), counts)
         check_replays(rng, counts)
         check_courses(rng, counts)
+        check_games(random.Random("game %d" % seed), counts)
         sheets = [(wanted.name, wanted.sheet) for wanted in EXAMPLES
                   if "letters" not in wanted.name]
         sheets += random_sheets(seed, count, 6) + division_sheets(seed, count, 6)

@@ -128,6 +128,39 @@ def compile_program(vectors, sheets):
     return b"".join(case[0] for case in cases), "".join(case[1] for case in cases).encode()
 
 
+def game_case(vector, call, fewest):
+    """The bytes of one compile with a play table and the line that it must print; none where the tables are too large for the program.
+
+    A heading of four numbers of four bytes, low first: how many bytes follow, the sheet's length, its letters and its choices, both 0 where the sheet is refused by 1 to 7.
+    Then the lengths of entries, finals, keys, live, class, next, heads, links, shared and of the play table, ten numbers of four bytes; the sheet's bytes; and the choice of
+    each letter, two bytes, low first. The line has refusal, states and situations; the used entries; the used final bytes; for each state + if no number of its row of the
+    play table is 65,535 and - if all are, and how many faults the used rows of the play table have; and how many numbers beyond the used rows and in work tables are not 0.
+    A fault is a row that is neither, a letter that does not have the choice, an entry of such a letter that is 65,535 or leads to a state with -, and a state with + from
+    which some play along the play table meets no final state within as many letters as there are states."""
+    rows, length, refusal = call
+    letters = vector.get("letters", 0)
+    own = lengths(rows, letters, fewest)
+    if rows > ROW_ROOM or own[0] > ENTRY_ROOM or length > ENTRY_ROOM:
+        return None
+    text = vector["sheet"].encode("latin-1")
+    behind = b"".join(map(word, [*own, length])) + text + b"".join(choice.to_bytes(2, "little") for choice in vector.get("letter_choices", []))
+    heading = [len(behind), len(text), letters, vector.get("choices", 0)]
+    parts = [[refusal, 0, 0], [], [], [0]]
+    if refusal == 0:
+        entries = [entry for row in vector["entries"] for entry in row]
+        parts = [[0, vector["states"], vector["situations"]], entries, vector["finals"], [*vector["keeps"], 0]]
+    line = ": ".join("".join("%s " % number for number in part) for part in parts)
+    return b"".join(map(word, heading)) + behind, line + ": 0\n"
+
+
+def game_program(vectors):
+    """Every call that the program has room for and whose table is stored, in order; each table of the compile in turn holds the fewest of their rows."""
+    calls = [(vector, call) for vector in vectors for call in vector["calls"] if type(vector.get("entries")) is not str]
+    cases = [game_case(*call, place % 9) for place, call in enumerate(calls)]
+    cases = [case for case in cases if case]
+    return b"".join(case[0] for case in cases), "".join(case[1] for case in cases).encode()
+
+
 def sluice_program(vectors):
     """The first sheet, P1, and what `sluice` prints for it."""
     sheet = vectors[0]["sheet"].encode("latin-1")
@@ -214,6 +247,18 @@ def shortest_program(vectors):
             "stdout": first["printed"].encode()}
 
 
+def strategy_vectors_program(vectors):
+    """Every sheet with its length before it, and what `strategy` prints for each."""
+    sheets = [vector["sheet"].encode("latin-1") for vector in vectors]
+    return b"".join(word(len(sheet)) + sheet for sheet in sheets), b"".join(vector["printed"].encode() for vector in vectors)
+
+
+def strategy_program(vectors):
+    """The first case that has a play table, as a file, and what `strategy` prints for it."""
+    first = next(vector for vector in vectors if not vector["printed"].startswith("refused"))
+    return {"args": b"sheet\n", "data/sheet": first["sheet"].encode("latin-1"), "stdout": first["printed"].encode()}
+
+
 def write_files(folder, crate, files):
     for name, content in files.items():
         path = os.path.join(folder, crate, name)
@@ -243,6 +288,10 @@ def main(vectors, crates):
     printed = load(vectors, "shortest.jsonl")
     write_files(crates, "shortest", shortest_program(printed))
     write(crates, "shortest_vectors", shortest_vectors_program(printed))
+    write(crates, "game_vectors", game_program(load(vectors, "game.jsonl")))
+    settled = load(vectors, "strategy.jsonl")
+    write_files(crates, "strategy", strategy_program(settled))
+    write(crates, "strategy_vectors", strategy_vectors_program(settled))
 
 
 if __name__ == "__main__":

@@ -5,6 +5,7 @@
 The same program always writes the same bytes.
 """
 
+import hashlib
 import json
 import sys
 from collections import Counter
@@ -15,6 +16,8 @@ from course import course
 from course_cases import course_cases
 from damage import damaged_sheets
 from examples import EXAMPLES
+from game import choices, game_analysed, kept_rows, letter_choices, play_table
+from game_cases import game_cases
 from generate import (bound_sheets, counted_sheets, division_sheets,
                       large_table_sheets, random_kinds_sheets, random_sheets)
 from grammar import constraint_text
@@ -28,8 +31,10 @@ from shortest import shortest
 from shortest_cases import shortest_cases
 from sluice import sluice_output
 from spellings import spelling_sheets
-from step import move
+from step import move, table_bytes
 from step_cases import step_cases
+from strategy import strategy
+from strategy_cases import strategy_cases
 
 DEFAULT_DIRECTORY = Path(__file__).resolve().parent.parent / "vectors"
 SEED = 1
@@ -45,6 +50,9 @@ LAWFUL_REPLAYS = 30
 COURSES = 140
 # Of so many drawn sheets, the first so many whose course has letters.
 COURSE_SHEETS = (200, 24)
+GAME_SHEETS = 60
+# Larger tables have a digest in place of their entries.
+GAME_ENTRIES = 2000
 # Drawn sheets with larger tables are left out, to keep the files short.
 RANDOM_ENTRIES = 600
 
@@ -167,6 +175,40 @@ def shortest_vector(sheet, start):
             "printed": shortest(sheet, start).decode()}
 
 
+def played_table(analysis):
+    """The table of the compile, also where the river can prevent a solution
+    from state 0, and for each state + if it keeps a row of the play table."""
+    entries = analysis.table.entries
+    finals = [int(final) for final in analysis.table.finals]
+    play = play_table(entries, finals, letter_choices(analysis.sheet))
+    digest = hashlib.sha256(table_bytes(entries)).hexdigest()
+    is_large = len(entries) * len(entries[0]) > GAME_ENTRIES
+    return {"states": len(entries), "situations": analysis.situations,
+            "entries": digest if is_large else entries, "finals": finals,
+            "keeps": "".join("+" if kept else "-" for kept in kept_rows(play))}
+
+
+def game_vector(case):
+    """One sheet with its calls: rows, length of the play table and refusal."""
+    analysis = analyse(case.sheet, SITUATIONS)
+    vector = {"name": case.name, "sheet": case.sheet.decode("latin-1"),
+              "calls": [(*room, game_analysed(analysis, *room).refusal)
+                        for room in case.rooms]}
+    if not analysis.refusal:
+        sheet = analysis.sheet
+        vector.update({"letters": letter_count(sheet),
+                       "choices": len(choices(sheet)),
+                       "letter_choices": letter_choices(sheet)})
+    if analysis.table is not None:
+        vector.update(played_table(analysis))
+    return vector
+
+
+def strategy_vector(sheet):
+    return {"sheet": sheet.decode("latin-1"),
+            "printed": strategy(sheet).decode()}
+
+
 def write_lines(directory, name, vectors):
     lines = [json.dumps(vector, sort_keys=True) for vector in vectors]
     (directory / name).write_text("".join(line + "\n" for line in lines))
@@ -195,10 +237,13 @@ def main(directory):
     courses = [course_vector(case) for case in course_cases(SEED, COURSES)]
     printed = [shortest_vector(*case)
                for case in shortest_cases(SEED, *COURSE_SHEETS)]
+    games = [game_vector(case) for case in game_cases(SEED, GAME_SHEETS)]
+    settled = [strategy_vector(sheet) for sheet in strategy_cases()]
     for name, vectors in (("sheets", sheets), ("compile", compiles),
                           ("normal", normals), ("step", steps),
                           ("replay", replays), ("course", courses),
-                          ("shortest", printed)):
+                          ("shortest", printed), ("game", games),
+                          ("strategy", settled)):
         write_lines(directory, name + ".jsonl", vectors)
     print_counts("sheets", (vector["refusal"] for vector in sheets))
     print_counts("compiles", (vector["refusal"] for vector in compiles))
@@ -208,6 +253,9 @@ def main(directory):
     print("replays: %d" % len(replays))
     print_counts("courses", (vector["refusal"] for vector in courses))
     print("shortest courses of sheets: %d" % len(printed))
+    print_counts("compiles with a play table", (
+        refusal for vector in games for _, _, refusal in vector["calls"]))
+    print("play tables of sheets: %d" % len(settled))
 
 
 if __name__ == "__main__":

@@ -1,13 +1,17 @@
 """What the tests of programs that take file names share: runs on files of a
-folder of their own, and a read that fails."""
+folder of their own, a read that fails, and the stored vectors."""
 
+import json
 import os
 import pathlib
 import subprocess
 import sys
+import tempfile
 
 ROOT = pathlib.Path(__file__).resolve().parents[1]
 LONGEST_RUN = 60
+# The bytes that a program which reads one sheet has for it.
+SHEET_ROOM = 16385
 
 # The read after one that gave bytes of the text that begins so fails; the arguments are those bytes and their number.
 FAILING_READ = """
@@ -35,11 +39,18 @@ def built(name):
     return str(program)
 
 
+def vectors(name):
+    """The stored cases of a file of `vectors/`, each with its texts as bytes."""
+    with open(ROOT / "vectors" / name, encoding="latin-1") as lines:
+        cases = [json.loads(line) for line in lines]
+    return [{key: value.encode("latin-1") if type(value) is str else value for key, value in case.items()} for case in cases]
+
+
 class Runs:
     """A program on files of a folder of its own."""
 
-    def __init__(self, test, program, folder):
-        self.test, self.program, self.folder, self.count = test, program, pathlib.Path(folder), 0
+    def __init__(self, name, program, folder):
+        self.test, self.program, self.folder, self.count = "tests/%s/run.py" % name, program, pathlib.Path(folder), 0
 
     def file(self, name, content):
         path = self.folder / name
@@ -63,3 +74,40 @@ class Runs:
         source, shim = self.file("shim.c", text.encode()), str(self.folder / "shim.so")
         subprocess.run([os.environ.get("CC", "cc"), "-shared", "-fPIC", source, "-o", shim, "-ldl"], check=True)
         return shim
+
+
+def unreadable_sheets(runs, not_read):
+    """Sheets that cannot be read count as empty, which is told; an endless one is not read to its end."""
+    missing, folder = str(runs.folder / "missing"), str(runs.folder)
+    for name, arguments, wanted in (
+            ("no arguments", [], (b"refused 3\n", not_read)),
+            ("a missing sheet", [missing], (b"refused 3\n", not_read)),
+            ("a folder for a sheet", [folder], (b"refused 3\n", not_read)),
+            ("a path that is too long", ["s" * 5000], (b"refused 3\n", not_read)),
+            ("an empty sheet", [runs.file("empty", b"")], (b"refused 3\n", b"")),
+            ("an endless sheet", ["/dev/zero"], (b"refused 1\n", b""))):
+        runs.expect(name, runs.run(arguments), wanted)
+
+
+def later_read_of_a_sheet_fails(runs, sheet, not_read):
+    """A sheet whose later read fails counts as empty."""
+    shim = runs.failing_read(sheet[:3].decode(), SHEET_ROOM)
+    got = runs.run([runs.file("sheet", sheet)], shim=shim)
+    runs.expect("a read that fails within a sheet", got, (b"refused 3\n", not_read))
+
+
+def full_device(runs, cases, not_written):
+    """What cannot be written is told; each case has a name and arguments."""
+    with open("/dev/full", "wb") as device:
+        for name, arguments in cases:
+            runs.expect("a full device, " + name, runs.run(arguments, device)[1], not_written)
+
+
+def run_parts(name, runs, parts):
+    """Runs each part of a test on the program of this name, or on that which the first argument names; `runs` is a kind of Runs."""
+    program = str(pathlib.Path(sys.argv[1]).resolve()) if len(sys.argv) > 1 else built(name)
+    with tempfile.TemporaryDirectory() as folder:
+        done = runs(name, program, folder)
+        for part in parts:
+            part(done)
+        print("%d comparisons of `%s`, with no difference" % (done.count, name))

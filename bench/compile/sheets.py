@@ -2,24 +2,14 @@
 
     python3 bench/compile/sheets.py DIRECTORY
 
-Each sheet is NAME.sheet. The file `list` has a line for each: its name, letters, tokens
-in the constraint lines, situations and states. The plain C compile counts the last two,
-and a sheet that it refuses stops the run.
+The files and the list are those of bench/sheet_files.py.
 """
 
-import ctypes
 import pathlib
 import sys
 
-from check import KEY, built
-
-MOST_SITUATIONS = 4096
-
-
-def sheet(streams, constraints):
-    """The text of a sheet from (name, low, high) for each stream."""
-    header = [" ".join(str(stream[i]) for stream in streams) for i in range(3)]
-    return "\n".join(header + constraints) + "\n"
+sys.path.insert(0, str(pathlib.Path(__file__).resolve().parents[1]))
+from sheet_files import sheet, write_sheets  # noqa: E402
 
 
 # ---- timers
@@ -123,42 +113,5 @@ def sheets():
         yield "missionaries-%d-%d" % (people, boat), missionaries(people, boat)
 
 
-def letters_of(text):
-    lows, highs = ([int(word) for word in line.split()] for line in text.split("\n")[1:3])
-    count = 1
-    for low, high in zip(lows, highs):
-        count *= high - low + 1
-    return count
-
-
-def tokens_of(text):
-    lines = text.split("\n")[3:]
-    return sum(len(line.replace("(", " ( ").replace(")", " ) ").split()) for line in lines)
-
-
-def compiled(function, text, letters):
-    entries = (ctypes.c_uint16 * (MOST_SITUATIONS * letters))()
-    tables = [entries, (ctypes.c_uint8 * MOST_SITUATIONS)(), (ctypes.c_uint32 * (MOST_SITUATIONS * KEY))()]
-    tables += [(ctypes.c_uint32 * MOST_SITUATIONS)() for _ in range(6)]
-    words = [ctypes.c_char_p(text.encode()), ctypes.c_size_t(len(text))]
-    for table in tables:
-        words += [table, ctypes.c_size_t(len(table))]
-    return function(*words)
-
-
-def main(directory):
-    directory.mkdir(parents=True, exist_ok=True)
-    function = built(False)
-    lines = []
-    for name, text in sheets():
-        letters = letters_of(text)
-        answer = compiled(function, text, letters)
-        if answer.refusal:
-            sys.exit("%s is refused by %d" % (name, answer.refusal))
-        (directory / (name + ".sheet")).write_text(text)
-        lines.append("%s %d %d %d %d\n" % (name, letters, tokens_of(text), answer.situations, answer.states))
-    (directory / "list").write_text("".join(lines))
-
-
 if __name__ == "__main__":
-    main(pathlib.Path(sys.argv[1]))
+    write_sheets(pathlib.Path(sys.argv[1]), sheets())

@@ -2,6 +2,7 @@
 #include "compile.h"
 #include "normal_form.h"
 #include "step.h"
+#include "strategy.h"
 #include "streams.h"
 
 #if defined(__cplusplus)

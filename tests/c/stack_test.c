@@ -1,9 +1,10 @@
-/* The stack that a call takes. Each sheet is compiled, and its normal form is made, twice: on a large stack, and in a thread whose whole stack is
- * the figure that the header states, with a page below it that cannot be touched. Both calls must give the same answer and the same tables,
- * and the first may use no more than the figure. The stack of two steps is measured too. It prints the most that was used, and ends with status 1
- * at a difference.
+/* The stack that a call takes. Each sheet is compiled, without and with a play table, and its normal form is made, twice: on a large stack, and in a thread
+ * whose whole stack is the figure that the header states, with a page below it that cannot be touched. Both calls must give the same answer and the same tables,
+ * and the first may use no more than the figure. The stack of two steps is measured too. It prints the most that was used, and ends
+ * with status 1 at a difference.
  *
- *     stack_test all          prints what each of its sheets takes: bytes of the compile and of the normal form, their refusals, the sheet
+ *     stack_test all          prints what each of its sheets takes: bytes of the compile, of that with a play table and of the normal form, their
+ *                             refusals, the sheet
  *     stack_test FILE ..      the same of the sheets in these files
  */
 #define _GNU_SOURCE
@@ -18,6 +19,7 @@
 #include "compile.h"
 #include "normal_form.h"
 #include "step.h"
+#include "strategy.h"
 
 static void fail(const char *what)
 {
@@ -75,6 +77,7 @@ struct tables {
     uint8_t finals[ROWS];
     uint32_t keys[ROWS * COMPILE_KEY];
     uint32_t work[6][ROWS];
+    uint16_t play[ROWS * MOST_LETTERS];
 };
 
 static const uint8_t *text;
@@ -91,6 +94,13 @@ static void call_compile(void)
     struct tables *t = &compiled;
     compile_answer = compile_c(text, length, t->entries, ROWS * MOST_LETTERS, t->finals, ROWS, t->keys, ROWS * COMPILE_KEY, t->work[0], ROWS,
         t->work[1], ROWS, t->work[2], ROWS, t->work[3], ROWS, t->work[4], ROWS, t->work[5], ROWS);
+}
+
+static void call_strategy(void)
+{
+    struct tables *t = &compiled;
+    compile_answer = strategy_c(text, length, t->entries, ROWS * MOST_LETTERS, t->finals, ROWS, t->keys, ROWS * COMPILE_KEY, t->work[0], ROWS,
+        t->work[1], ROWS, t->work[2], ROWS, t->work[3], ROWS, t->work[4], ROWS, t->work[5], ROWS, t->play, ROWS * MOST_LETTERS);
 }
 
 static void call_normal_form(void)
@@ -140,6 +150,8 @@ static const char *const small = "level gate\n0 0\n2 1\n( level ge 2 ) -> gate\n
 static const char *const one_stream = "x\n0\n1\n";
 static const char *const most_letters = "x\n0\n1023\n";
 static const char *const most_streams = "a b c d e f g h\n0 0 0 0 0 0 0 0\n1 1 1 1 1 1 1 1\n";
+static const char *const most_choices = "x\n0\n1023\nread\n";
+static const char *const choices_and_letters = "x y\n0 0\n31 31\nread set\n";
 
 /* Writes the sheet with this number, and gives its name; no name behind the last. Most come twice, with few letters and with as many as there may
  * be. */
@@ -249,6 +261,12 @@ static const char *write_sheet(size_t number)
         put_nested("x or ", 0, "", "x", " )");
         put(" == 0");
         return "816 `not` before 32 levels of `x or`";
+    case 20:
+        put(number % 2 ? most_choices : choices_and_letters);
+        put("1 and not ");
+        put_nested("1 and ", 26, "not ", "x", " )");
+        put(" >= 0");
+        return number % 2 ? "33 levels, of a gauge with 1,024 values" : "33 levels, of a gauge and a gate with 32 values";
     default:
         return NULL;
     }
@@ -256,25 +274,28 @@ static const char *write_sheet(size_t number)
 
 /* ---- comparing */
 
-static uint8_t *large, *stated_compile, *stated_normal_form, *stated_step;
-static size_t most_compile, most_normal_form;
+static uint8_t *large, *stated_compile, *stated_strategy, *stated_normal_form, *stated_step;
+static size_t most_compile, most_strategy, most_normal_form;
 
-static void check_compile(const char *name)
+/* A call that fills the tables: on a large stack, and on one of the figure. */
+static void check_tables(const char *call_name, const char *name, void (*call)(void), uint8_t *stated, size_t figure, size_t *most)
 {
     memset(&compiled, 0xff, sizeof compiled);
-    size_t bytes = used(large, LARGE, call_compile);
+    size_t bytes = used(large, LARGE, call);
     struct compile_answer answer = compile_answer;
     memcpy(&compiled_again, &compiled, sizeof compiled);
-    if (bytes > most_compile)
-        most_compile = bytes;
-    if (bytes > COMPILE_STACK) {
-        fprintf(stderr, "%s: the compile takes %zu bytes of stack\n", name, bytes);
+    if (bytes > *most)
+        *most = bytes;
+    if (bytes > figure) {
+        fprintf(stderr, "%s: %s takes %zu bytes of stack\n", name, call_name, bytes);
         fail("more than the header states");
     }
     memset(&compiled, 0xff, sizeof compiled);
-    used(stated_compile, COMPILE_STACK, call_compile);
-    if (memcmp(&answer, &compile_answer, sizeof answer) || memcmp(&compiled, &compiled_again, sizeof compiled))
-        fail("the compile differs on a smaller stack");
+    used(stated, figure, call);
+    if (memcmp(&answer, &compile_answer, sizeof answer) || memcmp(&compiled, &compiled_again, sizeof compiled)) {
+        fprintf(stderr, "%s: %s\n", name, call_name);
+        fail("a call differs on a smaller stack");
+    }
 }
 
 static void check_normal_form(const char *name)
@@ -308,8 +329,11 @@ static void check_steps(void)
 static void measure(const char *name)
 {
     size_t compile_bytes = used(large, LARGE, call_compile);
+    uint32_t compile_refusal = compile_answer.refusal;
+    size_t strategy_bytes = used(large, LARGE, call_strategy);
     size_t normal_form_bytes = used(large, LARGE, call_normal_form);
-    printf("%7zu %7zu  %2u %2u  %s\n", compile_bytes, normal_form_bytes, compile_answer.refusal, normal_form_answer.refusal, name);
+    printf("%7zu %7zu %7zu  %2u %2u %2u  %s\n", compile_bytes, strategy_bytes, normal_form_bytes, compile_refusal, compile_answer.refusal,
+        normal_form_answer.refusal, name);
 }
 
 static void measure_file(const char *name)
@@ -327,6 +351,7 @@ int main(int count, char **words)
 {
     large = room(LARGE);
     stated_compile = room(COMPILE_STACK);
+    stated_strategy = room(STRATEGY_STACK);
     stated_normal_form = room(NORMAL_FORM_STACK);
     stated_step = room(PTHREAD_STACK_MIN);
     bool print = count == 2 && strcmp(words[1], "all") == 0;
@@ -341,13 +366,15 @@ int main(int count, char **words)
         if (print) {
             measure(name);
         } else {
-            check_compile(name);
+            check_tables("the compile", name, call_compile, stated_compile, COMPILE_STACK, &most_compile);
+            check_tables("the play table", name, call_strategy, stated_strategy, STRATEGY_STACK, &most_strategy);
             check_normal_form(name);
         }
     }
     if (print)
         return 0;
     check_steps();
-    printf("stack: of %zu sheets, the compile takes at most %zu bytes of %d, the normal form %zu of %d\n", sheets, most_compile, COMPILE_STACK, most_normal_form, NORMAL_FORM_STACK);
+    printf("stack: of %zu sheets, the compile takes at most %zu bytes of %d, the play table %zu of %d, the normal form %zu of %d\n", sheets, most_compile,
+        COMPILE_STACK, most_strategy, STRATEGY_STACK, most_normal_form, NORMAL_FORM_STACK);
     return 0;
 }

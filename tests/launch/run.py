@@ -2,8 +2,8 @@
 
     python3 tests/launch/run.py
 
-Uses target/bin/sluice, which `rt check sluice` makes, and target/bin/replay and target/bin/shortest where they are there. How a program is built, what is passed on and how
-long it is kept is tested in a folder of its own, with stand-ins for `rt` and for the program.
+Uses target/bin/sluice, which `rt check sluice` makes, and target/bin/replay, target/bin/shortest and target/bin/strategy where they are there. How a
+program is built, what is passed on and how long it is kept is tested in a folder of its own, with stand-ins for `rt` and for the program.
 """
 
 import os
@@ -142,6 +142,22 @@ def shortest_cases(folder):
     expect("a sheet without a course", run([tool, sheet]), "refused 9\n", 1, "")
 
 
+def strategy_cases(folder):
+    tool = ROOT / "tools" / "strategy"
+    help_and_usage("strategy", 0, 2)
+    if not is_there("strategy"):
+        return
+    sheet, missing = folder / "answer.sheet", folder / "none"
+    sheet.write_text("r g\n0 0\n1 1\nread set\ng == r\n")
+    expect("a play table", run([tool, sheet]), "state final r g next\n0 1 0 0 0\n0 1 1 1 0\n", 0, "")
+    expect("no such sheet for a play table", run([tool, missing]), "refused 3\n", 2, "cannot be read")
+    expect("a full device for a play table", full_device([tool, sheet]), None, 2, "cannot be written")
+    sheet.write_text("r g\n0 0\n1 1\nread set\nr == 0\n")
+    expect("a sheet that the river can break", run([tool, sheet]), "refused 16\n", 1, "")
+    sheet.write_text(NO_SOLUTION)
+    expect("a sheet without a play table", run([tool, sheet]), "refused 9\n", 1, "")
+
+
 def stand_in(path, text):
     path.write_text("#!/usr/bin/env bash\n" + text)
     path.chmod(0o755)
@@ -202,14 +218,14 @@ def stand_in_cases(folder):
 
 def build():
     """A program that is older than a source is built by its first call, which says so on standard error."""
-    for name, arguments in [("sluice", []), ("replay", ["", ""]), ("shortest", [""])]:
+    for name, arguments in [("sluice", []), ("replay", ["", ""]), ("shortest", [""]), ("strategy", [""])]:
         if (ROOT / "target" / "bin" / name).exists():
             subprocess.run([str(ROOT / "tools" / name), *arguments], stdin=subprocess.DEVNULL, capture_output=True)
 
 
 def main():
     build()
-    for cases in [sluice_cases, replay_cases, shortest_cases, stand_in_cases]:
+    for cases in [sluice_cases, replay_cases, shortest_cases, strategy_cases, stand_in_cases]:
         with tempfile.TemporaryDirectory() as folder:
             cases(pathlib.Path(folder))
     print(f"{done} cases: help, usage, statuses, links, reads and writes that fail, the first call")

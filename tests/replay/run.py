@@ -8,17 +8,15 @@ PROGRAM is target/bin/replay, which `rt check replay` makes. CC may name another
 C compiler.
 """
 
-import json
 import os
 import pathlib
 import random
 import sys
-import tempfile
 import threading
 
 ROOT = pathlib.Path(__file__).resolve().parents[2]
 sys.path[:0] = [str(ROOT / "enumerator"), str(ROOT / "tests")]
-from programs import LONGEST_RUN, Runs, built  # noqa: E402
+from programs import LONGEST_RUN, Runs, full_device, run_parts, vectors  # noqa: E402
 from replay import replay  # noqa: E402
 
 UNTIL = b"x y\n0 0\n1 1\nx until y"
@@ -41,12 +39,9 @@ class ReplayRuns(Runs):
 
 
 def stored_cases(runs):
-    with open(ROOT / "vectors" / "replay.jsonl", encoding="latin-1") as lines:
-        for number, line in enumerate(lines):
-            case = json.loads(line)
-            texts = [None if case[key] is None else case[key].encode("latin-1") for key in ("sheet", "record", "start")]
-            printed = runs.compare("stored case %d" % number, *texts)
-            runs.expect("stored case %d, as stored" % number, printed, case["printed"].encode())
+    for number, case in enumerate(vectors("replay.jsonl")):
+        printed = runs.compare("stored case %d" % number, case["sheet"], case["record"], case["start"])
+        runs.expect("stored case %d, as stored" % number, printed, case["printed"])
     runs.compare("a start of 5,000 nines", UNTIL, b"x y\n0 1", b"9" * 5000)
 
 
@@ -105,11 +100,9 @@ def later_read_fails(runs):
         runs.expect("a read that fails " + name, got, (printed, told))
 
 
-def full_device(runs):
+def writes_that_fail(runs):
     sheet, record = runs.file("sheet", UNTIL), runs.file("record", b"x y\n" + b"1 1\n" * 20000)
-    with open("/dev/full", "wb") as device:
-        for name, arguments in (("lines", [sheet, record]), ("a refusal", [sheet, record, "2"])):
-            runs.expect("a full device, " + name, runs.run(arguments, device)[1], NOT_WRITTEN)
+    full_device(runs, (("lines", [sheet, record]), ("a refusal", [sheet, record, "2"])), NOT_WRITTEN)
 
 
 def stops_at_a_refusal(runs):
@@ -133,13 +126,4 @@ def stops_at_a_refusal(runs):
     thread.join(LONGEST_RUN)
 
 
-def main():
-    program = str(pathlib.Path(sys.argv[1]).resolve()) if len(sys.argv) > 1 else built("replay")
-    with tempfile.TemporaryDirectory() as folder:
-        runs = ReplayRuns("tests/replay/run.py", program, folder)
-        for part in (stored_cases, year, unreadable, later_read_fails, full_device, stops_at_a_refusal):
-            part(runs)
-        print("%d comparisons of `replay`, with no difference" % runs.count)
-
-
-main()
+run_parts("replay", ReplayRuns, (stored_cases, year, unreadable, later_read_fails, writes_that_fail, stops_at_a_refusal))

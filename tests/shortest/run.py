@@ -9,20 +9,16 @@ target/bin/shortest; it and target/bin/replay are made by `rt check shortest
 replay`. CC may name another C compiler.
 """
 
-import json
 import pathlib
 import sys
-import tempfile
 
 ROOT = pathlib.Path(__file__).resolve().parents[2]
 sys.path[:0] = [str(ROOT / "enumerator"), str(ROOT / "tests")]
-from programs import Runs, built  # noqa: E402
+from programs import Runs, built, full_device, later_read_of_a_sheet_fails, run_parts, unreadable_sheets, vectors  # noqa: E402
 from replay import opened  # noqa: E402
 from shortest import shortest  # noqa: E402
 
 UNTIL = b"x y\n0 0\n1 1\nx until y"
-# The bytes that the program has for a sheet.
-SHEET_ROOM = 16385
 NOT_READ = b"shortest: the sheet cannot be read\n"
 NOT_WRITTEN = b"shortest: the course cannot be written whole\n"
 
@@ -36,16 +32,10 @@ class CourseRuns(Runs):
         return wanted
 
 
-def lines(name):
-    with open(ROOT / "vectors" / name, encoding="latin-1") as vectors:
-        return [json.loads(line) for line in vectors]
-
-
 def stored_cases(runs):
-    for number, case in enumerate(lines("shortest.jsonl")):
-        sheet, start = (None if case[key] is None else case[key].encode("latin-1") for key in ("sheet", "start"))
-        printed = runs.compare("stored case %d" % number, sheet, start)
-        runs.expect("stored case %d, as stored" % number, printed, case["printed"].encode())
+    for number, case in enumerate(vectors("shortest.jsonl")):
+        printed = runs.compare("stored case %d" % number, case["sheet"], case["start"])
+        runs.expect("stored case %d, as stored" % number, printed, case["printed"])
 
 
 def played(runs, name, sheet, compiled, state, printed):
@@ -58,16 +48,16 @@ def played(runs, name, sheet, compiled, state, printed):
 
 
 def stored_sheets(runs):
-    for case in lines("sheets.jsonl"):
-        sheet = case["sheet"].encode("latin-1")
-        printed = runs.compare(case["name"], sheet)
+    for case in vectors("sheets.jsonl"):
+        name, sheet = case["name"].decode(), case["sheet"]
+        printed = runs.compare(name, sheet)
         refusal, _, compiled, _ = opened(sheet, None)
         if refusal:
             continue
-        played(runs, case["name"], sheet, compiled, 0, printed)
+        played(runs, name, sheet, compiled, 0, printed)
         last = compiled.states - 1
-        printed = runs.compare(case["name"] + ", from its last state", sheet, b"%d" % last)
-        played(runs, case["name"] + ", from its last state", sheet, compiled, last, printed)
+        printed = runs.compare(name + ", from its last state", sheet, b"%d" % last)
+        played(runs, name + ", from its last state", sheet, compiled, last, printed)
 
 
 def states(runs):
@@ -75,42 +65,18 @@ def states(runs):
         runs.compare("the state %r" % start[:40], UNTIL, start)
 
 
-def unreadable(runs):
-    sheet, missing, folder = runs.file("sheet", UNTIL), str(runs.folder / "missing"), str(runs.folder)
-    for name, arguments, wanted in (
-            ("no arguments", [], (b"refused 3\n", NOT_READ)),
-            ("a missing sheet", [missing], (b"refused 3\n", NOT_READ)),
-            ("a missing sheet and a state", [missing, "7"], (b"refused 3\n", NOT_READ)),
-            ("a folder for a sheet", [folder], (b"refused 3\n", NOT_READ)),
-            ("a path that is too long", ["s" * 5000], (b"refused 3\n", NOT_READ)),
-            ("an empty sheet", [runs.file("empty", b"")], (b"refused 3\n", b"")),
-            ("an endless sheet", ["/dev/zero"], (b"refused 1\n", b"")),
-            ("further arguments", [sheet, "1", "x"], (b"x y\n", b""))):
-        runs.expect(name, runs.run(arguments), wanted)
+def reads_that_fail(runs):
+    sheet = runs.file("sheet", UNTIL)
+    unreadable_sheets(runs, NOT_READ)
+    runs.expect("a missing sheet and a state", runs.run([str(runs.folder / "missing"), "7"]), (b"refused 3\n", NOT_READ))
+    runs.expect("further arguments", runs.run([sheet, "1", "x"]), (b"x y\n", b""))
+    later_read_of_a_sheet_fails(runs, UNTIL, NOT_READ)
 
 
-def later_read_fails(runs):
-    """A sheet whose later read fails counts as empty."""
-    shim = runs.failing_read("x y", SHEET_ROOM)
-    got = runs.run([runs.file("sheet", UNTIL)], shim=shim)
-    runs.expect("a read that fails within a sheet", got, (b"refused 3\n", NOT_READ))
+def writes_that_fail(runs):
+    sheet = runs.file("sheet", UNTIL)
+    long = runs.file("long", next(case["sheet"] for case in vectors("shortest.jsonl") if len(case["printed"]) > 4096))
+    full_device(runs, (("a course", [sheet]), ("a long course", [long]), ("a refusal", [sheet, "2"])), NOT_WRITTEN)
 
 
-def full_device(runs):
-    long = next(case["sheet"].encode("latin-1") for case in lines("shortest.jsonl") if len(case["printed"]) > 4096)
-    with open("/dev/full", "wb") as device:
-        for name, arguments in (("a course", [runs.file("sheet", UNTIL)]), ("a long course", [runs.file("long", long)]),
-                                ("a refusal", [runs.file("sheet", UNTIL), "2"])):
-            runs.expect("a full device, " + name, runs.run(arguments, device)[1], NOT_WRITTEN)
-
-
-def main():
-    program = str(pathlib.Path(sys.argv[1]).resolve()) if len(sys.argv) > 1 else built("shortest")
-    with tempfile.TemporaryDirectory() as folder:
-        runs = CourseRuns("tests/shortest/run.py", program, folder)
-        for part in (stored_cases, stored_sheets, states, unreadable, later_read_fails, full_device):
-            part(runs)
-        print("%d comparisons of `shortest`, with no difference" % runs.count)
-
-
-main()
+run_parts("shortest", CourseRuns, (stored_cases, stored_sheets, states, reads_that_fail, writes_that_fail))

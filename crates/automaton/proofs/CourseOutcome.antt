@@ -3,7 +3,6 @@
 use mathlib.Core.Path.{_≡_, refl, sym, ap, _∙_}
 use mathlib.Core.List.{List, [], _∷_, _++_}
 use Prim.Native.Nat.{ℕ, _+_, _-_, _<_}
-use native.Mathlib.Nat.{zero-add, suc-add}
 use native.Mathlib.Omega.{arith}
 use native.Mathlib.Decide.{decLt}
 use lib.ListN.{length, replicate}
@@ -13,10 +12,9 @@ use Rattle.automaton.specs.Table.{walk, run, Follows, IsTable}
 use Rattle.automaton.specs.Stored.{entryAt, finalAt}
 use Rattle.automaton.specs.WellFormed.{RowEntries, WellFormedState}
 use Rattle.automaton.specs.Course.{IsCourse, IsBest, CourseOutcome, unfit, endless, short, found, ShortestCourse}
-use Rattle.automaton.proofs.Words.{in-range-append, all-below-prefix}
-use Rattle.automaton.proofs.Solutions.{prefix-begins}
-use Rattle.automaton.proofs.Paths.{run-walk, begins-state, follows↔begins, follows↔paths}
-use Rattle.automaton.proofs.Acceptance.{solution-final}
+use Rattle.automaton.proofs.Words.{all-below-prefix}
+use Rattle.automaton.proofs.Paths.{run-walk, follows↔paths}
+use Rattle.automaton.proofs.States.{continuation-followed, continuation-final}
 use Rattle.automaton.proofs.WellFormed.{well-formed-entries, well-formed-state-decided, table-entries}
 use Rattle.automaton.proofs.Course.{best-unique, best-exists, best-short, Decided, has-best, has-none, course-decided}
 
@@ -79,56 +77,21 @@ module _ (k : ℕ) (entries finals : List ℕ) where
 
 -- compiled tables
 
-run-over-append : (entry : ℕ → ℕ → ℕ) (r : List ℕ) (i : ℕ) (w : Word) (t : ℕ)
-    → run entry i (append r w) (length r + t) ≡ run entry (walk entry i r) w t
-run-over-append entry [] i w t = ap (run entry i w) (zero-add t)
-run-over-append entry (a ∷ r) i w t =
-    ap (run entry i (append (a ∷ r) w)) (suc-add (length r) t) ∙ run-over-append entry r (entry i a) w t
-
 module _ {Sol : Word → Type 0} {k n : ℕ} {entry : ℕ → ℕ → ℕ} {final : ℕ → ℕ} (A : IsTable Sol k n entry final) where
-  -- the representative of a state leads to it
-  pub representative-leads : (i : ℕ) → i < n → walk entry 0 (A .representative i) ≡ i
-  representative-leads i hi =
-      let x = begins-state A (A .representative i) (A .letters i hi) (A .not-empty i hi) in
-      sym (A .distinct i (walk entry 0 (A .representative i)) hi (x .0) (x .1))
-
   module _ (S : Settles Sol k) where
     -- from every state some record leads to a final one
     pub state-course : (i : ℕ) → i < n → (r : List ℕ) × IsCourse k entry final i r
-    state-course i hi = (prefix w u, record { letters = all-below-prefix u w b; path = follows↔paths A i w hi b .0 follows u; ends = ends })
-      where
-        p : List ℕ
-        p = A .representative i
-
-        w : Word
-        w = A .not-empty i hi .word
-
-        b : InRange k w
-        b = A .not-empty i hi .in-range
-
-        z : Word
-        z = append p w
-
-        bz : InRange k z
-        bz = in-range-append p (A .letters i hi) b
-
-        x : Sol z
-        x = A .not-empty i hi .continues .solves
-
-        u : ℕ
-        u = S .time z bz x
-
-        f : Follows n entry 0 z
-        f = follows↔begins A z bz .1 λ t. prefix-begins t z bz x
-
-        at : (t : ℕ) → run entry 0 z (length p + t) ≡ run entry i w t
-        at t = run-over-append entry p 0 w t ∙ ap (λ j. run entry j w t) (representative-leads i hi)
-
-        follows : Follows n entry i w
-        follows t = rw (at t) at (f (length p + t))
-
-        ends : final (walk entry i (prefix w u)) ≡ 1
-        ends = ap final (sym (at u ∙ run-walk entry u i w)) ∙ solution-final A S z bz x (length p + u) (omega arith)
+    state-course i hi =
+        let x = A .not-empty i hi in
+        let f = continuation-followed A i hi (x .word) (x .in-range) (x .continues) in
+        let u = continuation-final A i hi (x .word) (x .in-range) (x .continues) S in (
+          prefix (x .word) (u .0),
+          record {
+            letters = all-below-prefix (u .0) (x .word) (x .in-range);
+            path = follows↔paths A i (x .word) hi (x .in-range) .0 f (u .0);
+            ends = ap final (sym (run-walk entry (u .0) i (x .word))) ∙ u .1;
+          },
+        )
 
     -- the best course from a state of a compiled table has fewer letters than there are states
     pub compiled-course : (changes : ℕ → ℕ → ℕ) (i : ℕ) → i < n → (r : List ℕ) × IsBest changes k entry final i r × (length r < n)

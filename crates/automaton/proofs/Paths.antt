@@ -130,7 +130,13 @@ module _ {Sol : Word → Type 0} {k n : ℕ} {entry : ℕ → ℕ → ℕ} {fina
     λ g. follows↔paths 0 w (A .some-state) b .1 λ t. path↔begins (prefix w t) (all-below-prefix t w b) .1 (g t),
   )
 
-  -- the state met on an endless path has the continuations of the letters so far
+  -- the state met on an endless path from the state i has the continuations of the letters so far, after those of a record that leads to i
+  pub run-from-state : (i t : ℕ) (w : Word) → i < n → InRange k w → Follows n entry i w
+      → SameContinuations Sol k (A .representative i ++ prefix w t) (A .representative (run entry i w t))
+  run-from-state i t w hi b f = rw (run-walk entry t i w)
+      (path-leads (prefix w t) {r = A .representative i} {i = i} (all-below-prefix t w b) (record { below = hi; same = solutions-refl }) (follows-path t i w f) .same)
+
+  -- so from the start
   pub run-state : (t : ℕ) (w : Word) → InRange k w → Follows n entry 0 w
       → SameContinuations Sol k (prefix w t) (A .representative (run entry 0 w t))
-  run-state t w b f = rw (run-walk entry t 0 w) (path-leads (prefix w t) (all-below-prefix t w b) leads-start (follows-path t 0 w f) .same)
+  run-state t w b f = rw (A .start) at (run-from-state 0 t w (A .some-state) b f)

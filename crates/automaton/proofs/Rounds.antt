@@ -13,7 +13,7 @@ use lib.ListN.{length, getD, set}
 use Rattle.automaton.specs.Graph.{Graph, Member}
 use Rattle.automaton.specs.Fixpoints.{Terminating, ends, Reaches, there, Inevitable, later}
 use Rattle.automaton.specs.Fixpoints.{Distinguished, swap, by-final, by-edge, by-letter, SameStep, IsPartition}
-use Rattle.automaton.specs.Rounds.{isSet, AllSet, AllCleared, total, SameClass, HasReasons, SameGraphSignature}
+use Rattle.automaton.specs.Rounds.{isSet, AllSet, AllCleared, sumOf, SameClass, HasReasons, SameGraphSignature}
 use Rattle.automaton.proofs.Graph.{member-decide}
 
 -- one store to a list
@@ -27,11 +27,11 @@ set-all P (y ∷ l) zero x d all p (suc j) = all (suc j)
 set-all P (y ∷ l) (suc i) x d all p zero = all zero
 set-all P (y ∷ l) (suc i) x d all p (suc j) = set-all (λ k. P (suc k)) l i x d (λ k. all (suc k)) p j
 
-pub total-set : (l : List ℕ) (i x : ℕ) → i < length l → total (set l i x) + getD l i 0 ≡ total l + x
-unfolding total
-total-set [] i x h = absurd (not-suc-le-zero h)
-total-set (y ∷ l) zero x h = omega arith
-total-set (y ∷ l) (suc i) x h = omega (arith, total-set l i x (le-of-suc-le-suc h))
+pub sum-set : (l : List ℕ) (i x : ℕ) → i < length l → sumOf (set l i x) + getD l i 0 ≡ sumOf l + x
+unfolding sumOf
+sum-set [] i x h = absurd (not-suc-le-zero h)
+sum-set (y ∷ l) zero x h = omega arith
+sum-set (y ∷ l) (suc i) x h = omega (arith, sum-set l i x (le-of-suc-le-suc h))
 
 -- reasons for marks
 
@@ -59,7 +59,7 @@ module _ {G : Graph} (l : List ℕ) (s : ℕ) where
 -- reasons for classes
 
 -- each of m cases has P, or one gives Q
-each-or : {Q : Type 0} (P : ℕ → Type 0) (m : ℕ) → ((a : ℕ) → a < m → P a ⊎ Q) → ((a : ℕ) → a < m → P a) ⊎ Q
+pub each-or : {Q : Type 0} (P : ℕ → Type 0) (m : ℕ) → ((a : ℕ) → a < m → P a ⊎ Q) → ((a : ℕ) → a < m → P a) ⊎ Q
 each-or P zero f = inl λ a ha. absurd (not-suc-le-zero ha)
 each-or {Q} P (suc m) f = go (each-or P m (λ a ha. f a (omega arith))) (f m (omega arith))
   where

@@ -13,5 +13,8 @@ pub mod Listed
 pub mod WellFormed
 pub mod Course
 pub mod Layers
+pub mod Strategies
+pub mod PlayTable
+pub mod Ranking
 pub mod Reachable
 pub mod ReachedRows

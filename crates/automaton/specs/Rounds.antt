@@ -25,9 +25,9 @@ abbrev pub AllCleared : (n : ℕ) (P : ℕ → Type 0) (bytes : List ℕ) → Ty
 AllCleared n P bytes = (s : ℕ) → s < n → T (not (isSet bytes s)) → P s
 
 -- the sum of the bytes: it falls when a mark is cleared, and rises when one is set
-unfoldable pub total : List ℕ → ℕ
-total [] = 0
-total (x ∷ l) = x + total l
+unfoldable pub sumOf : List ℕ → ℕ
+sumOf [] = 0
+sumOf (x ∷ l) = x + sumOf l
 
 -- classes as numbers
 

@@ -1,15 +1,19 @@
--- Laws of lists: properties of every member and of some member, what stands at a place, and pieces that are written one behind the other.
-use Prim.Native.Nat.{ℕ, zero, suc, _+_, _-_, _<_, _*_, _≤_}
+-- Laws of lists: properties of every member and of some member, what stands at a place, pieces that are written one behind the other, and parts that reach
+-- beyond the end.
+use Prim.Native.Nat.{ℕ, zero, suc, _+_, _-_, _<_, _*_, _≤_, min}
 use native.Mathlib.Omega.{arith}
 use native.Mathlib.Decide.{decLt, ℕ-discrete}
 use native.Mathlib.Nat.{le-of-suc-le-suc, not-suc-le-zero, mul-le-mul-right, suc-mul}
 use native.Mathlib.Numerals.{add-one}
 use mathlib.Core.Path.{_≡_, refl, sym, _∙_, ap, subst}
 use mathlib.Core.Logic.{_↔_, inl, inr, _≢_}
+use mathlib.Core.Bool.{Bool, true, false}
 use mathlib.Core.List.{List, [], _∷_, _++_, map, List·Memᴰ, List·Memᴰ·head, List·Memᴰ·tail}
-use lib.ListN.{length, getD, set, drop, replicate}
-use lib.Seq.{sets, getD-set-same, getD-set-other}
+use lib.Dec.{leb}
+use lib.ListN.{length, getD, set, take, drop, replicate, length-drop, drop-of-length-le}
+use lib.Seq.{sets, take-all, take-nil, getD-set-same, getD-set-other}
 use borrow.Author.Count.{below-more}
+use borrow.Author.Tests.{leb-true, leb-false}
 use Rattle.basics.specs.Lists.{All, Some}
 
 -- ---- a property of every member
@@ -130,3 +134,27 @@ row-fits s n letters room h g =
     let step : suc s * letters ≤ n * letters = mul-le-mul-right letters h in
     let e : suc s * letters ≡ s * letters + letters = suc-mul s letters in
     omega arith
+
+-- ---- a part of a list that may reach beyond it
+
+pub clipped : {X : Type 0} (l : List X) (s k : ℕ) {a e : ℕ} → a ≡ min s (length l) → e ≡ min (s + k) (length l) → take (e - a) (drop a l) ≡ take k (drop s l)
+clipped l s k {a} {e} p q = by (leb s (length l)) refl
+  where
+    inside : s ≤ length l → (t : Bool) → leb (s + k) (length l) ≡ t → take (e - a) (drop a l) ≡ take k (drop s l)
+    inside h true x =
+        let y = leb-true (s + k) (length l) x in
+        let u : e - a ≡ k = omega arith in
+        let v : a ≡ s = omega arith in
+        ap (λ n. take n (drop a l)) u ∙ ap (λ n. take k (drop n l)) v
+    inside h false x =
+        let y = leb-false (s + k) (length l) x in
+        let v : a ≡ s = omega arith in
+        let d = length-drop a l in
+        let d′ = length-drop s l in
+        take-all (e - a) (drop a l) (omega arith) ∙ ap (λ n. drop n l) v ∙ sym (take-all k (drop s l) (omega arith))
+
+    by : (t : Bool) → leb s (length l) ≡ t → take (e - a) (drop a l) ≡ take k (drop s l)
+    by true x = inside (leb-true s (length l) x) (leb (s + k) (length l)) refl
+    by false x =
+        let y = leb-false s (length l) x in
+        ap (take (e - a)) (drop-of-length-le l {i = a} (omega arith)) ∙ take-nil (e - a) ∙ sym (ap (take k) (drop-of-length-le l {i = s} (omega arith)) ∙ take-nil k)

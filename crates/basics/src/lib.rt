@@ -54,6 +54,17 @@ pub fn fill(list: &mut [u32], value: u32)
     }
 }
 
+// Sets every entry of the list to `value`.
+pub fn fill_entries(list: &mut [u16], value: u16)
+    ensures { λ r. ⌜ now (list .exit) ≡ replicate (length (now (list .entry))) value ⌝ }
+{
+    let mut i = 0;
+    while i < list.len() {
+        list[i] = value;
+        i += 1;
+    }
+}
+
 // Copies numbers into the list from a place on. If they do not fit there, nothing changes.
 pub fn put(list: &mut [u32], at: usize, numbers: &[u32])
     ensures { λ r. ⌜ Put (now (list .entry)) at (now (numbers .entry)) (now (list .exit)) ⌝ }

@@ -29,5 +29,5 @@ nonzeros (zero ∷ ns) = nonzeros ns
 nonzeros (suc n ∷ ns) = suc (nonzeros ns)
 
 -- What printing a number gives back: how many digits it has, or 0 where a write did not take all of its bytes.
-abbrev pub Printed : ℕ → ℕ → Type 0
-Printed n r = 0 < r → Fewest 10 1 n r
+abbrev pub DigitsPrinted : ℕ → ℕ → Type 0
+DigitsPrinted n r = 0 < r → Fewest 10 1 n r

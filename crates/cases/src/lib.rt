@@ -10,7 +10,7 @@ ghost use lib.IntN.{natAbs};
 ghost use lib.ListN.{length, getD, replicate, take};
 ghost use Rattle.io.specs.Counts.{Counts};
 ghost use Rattle.stored.specs.Number.{numberAt};
-ghost use Rattle.cases.specs.Cases.{IsCase, taken, IsTaken, nonzeros, Printed};
+ghost use Rattle.cases.specs.Cases.{IsCase, taken, IsTaken, nonzeros, DigitsPrinted};
 
 // ---- a case
 
@@ -195,7 +195,7 @@ fn magnitude(value: i64) -> u64
 
 // Prints a number and what stands after it; how many digits it has, or 0 where a write did not take all of its bytes.
 pub fn print(n: u64, end: &[u8]) -> usize
-    ensures { λ r. ⌜ Printed n r ⌝ }
+    ensures { λ r. ⌜ DigitsPrinted n r ⌝ }
 {
     let mut text = [0u8; 20];
     let digits = io::decimal(n, &mut text);
@@ -211,7 +211,7 @@ pub fn print(n: u64, end: &[u8]) -> usize
 
 // The same for a signed number, whose digits stand behind `-` where it is below 0.
 pub fn print_signed(value: i64, end: &[u8]) -> usize
-    ensures { λ r. ⌜ Printed (natAbs value) r ⌝ }
+    ensures { λ r. ⌜ DigitsPrinted (natAbs value) r ⌝ }
 {
     if value < 0 {
         if !io::write_all(STDOUT_FILENO, b"-") {

@@ -16,11 +16,10 @@ use Rattle.sheet.proofs.Reading.{answer-complete}
 use Rattle.sheet.proofs.Accepted.{accepted-facts}
 use Rattle.sheet.proofs.Names.{short-names}
 use Rattle.nodes.specs.Bounds.{lowsOf, highsOf}
-use Rattle.outcome.specs.Compile.{Room, Tables}
 use Rattle.reader.specs.Stored.{nameBytes, nameLengths, streamKindCodes, storedSheet, readingOf}
 use Rattle.streams.specs.Description.{descriptionOf, StreamsFit}
 use Rattle.streams.proofs.Stored.{describing, description-stored, stored-fit}
-use Rattle.compiled_sheet.specs.Told.{sheetStreams, toldWith, noStreams, told, compiledIn, SheetCall}
+use Rattle.compiled_sheet.specs.Told.{sheetStreams, toldWith, noStreams, told, compiledIn, Tells}
 use Rattle.compiled_sheet.specs.declared.CompiledSheet.{CompiledSheet}
 
 -- The streams of a stored sheet, with the zeros behind them.
@@ -39,10 +38,10 @@ module _ (s : Sheet) where
   pub stored-streams-fit : Accepted s → StreamsFit (sheetStreams (storedSheet s)) (letterCount (s .streams))
   stored-streams-fit a = subst (λ x. StreamsFit x (letterCount ss)) (sym stored-are) (stored-fit _ _ _ _ _ ss (a .streams) (a .letters))
 
-module _ {text : List ℕ} {room : Room} {r : CompiledSheet} {t : Tables} (call : SheetCall text room r t) (accepted : r .refusal ≡ 0) {s : Sheet} (read : AnswerTo text (sheet s)) where
+module _ {text : List ℕ} {r : CompiledSheet} (tells : Tells text r) (accepted : r .refusal ≡ 0) {s : Sheet} (read : AnswerTo text (sheet s)) where
   tells-sheet : r ≡ toldWith (compiledIn r) (storedSheet s .letters) (sheetStreams (storedSheet s))
   tells-sheet =
-      call .tells ∙ ap (λ a. told (readingOf a .sheet) (compiledIn r)) (answer-complete read)
+      tells ∙ ap (λ a. told (readingOf a .sheet) (compiledIn r)) (answer-complete read)
       ∙ ap (λ b. cond b (toldWith (compiledIn r) (storedSheet s .letters) (sheetStreams (storedSheet s))) (toldWith (compiledIn r) 0 noStreams)) (eq-eqb (r .refusal) 0 accepted)
 
   -- "The kinds travel with every description of a stream": a call without refusal tells the sheet's letters and streams, kinds and all.

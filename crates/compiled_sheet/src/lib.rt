@@ -1,8 +1,8 @@
 // The answer of a compile with what a host needs of the sheet to follow its table: the number of letters, and the streams.
 use compiled::Compiled;
-use streams::Streams;
+use streams::StreamsDescription;
 ghost use mathlib.Core.Path.{_≡_};
-ghost use Rattle.compiled_sheet.specs.Told.{noStreams, sheetStreams, toldWith, told, compiledIn};
+ghost use Rattle.compiled_sheet.specs.Told.{noStreams, sheetStreams, toldWith, told, toldWithPlay, compiledIn};
 
 // The refusal's number or 0, the numbers of states and situations, and with refusal 0 the number of letters and the streams. Laid out as in C, so that an
 // exported function can give it back.
@@ -12,13 +12,13 @@ pub struct CompiledSheet {
     pub states: u32,
     pub situations: u32,
     pub letters: u32,
-    pub streams: Streams,
+    pub streams: StreamsDescription,
 }
 
-fn no_streams() -> Streams
+fn no_streams() -> StreamsDescription
     ensures { λ r. ⌜ r ≡ noStreams ⌝ }
 {
-    Streams {
+    StreamsDescription {
         count: 0,
         names: [0; 64],
         lengths: [0; 8],
@@ -29,7 +29,7 @@ fn no_streams() -> Streams
 }
 
 // The streams of a stored sheet.
-fn stored_streams(sheet: reader::Sheet) -> Streams
+pub fn stored_streams(sheet: reader::StoredSheet) -> StreamsDescription
     ensures { λ r. ⌜ r ≡ sheetStreams sheet ⌝ }
 {
     let names = sheet.names;
@@ -37,7 +37,7 @@ fn stored_streams(sheet: reader::Sheet) -> Streams
     let lows = sheet.lows;
     let highs = sheet.highs;
     let kinds = sheet.stream_kinds;
-    Streams {
+    StreamsDescription {
         count: sheet.streams,
         names: names,
         lengths: lengths,
@@ -47,7 +47,7 @@ fn stored_streams(sheet: reader::Sheet) -> Streams
     }
 }
 
-fn with_streams(compiled: Compiled, letters: u32, streams: Streams) -> CompiledSheet
+fn with_streams(compiled: Compiled, letters: u32, streams: StreamsDescription) -> CompiledSheet
     ensures { λ r. ⌜ r ≡ toldWith compiled letters streams ⌝ }
 {
     CompiledSheet {
@@ -60,7 +60,7 @@ fn with_streams(compiled: Compiled, letters: u32, streams: Streams) -> CompiledS
 }
 
 // The answer of a compile with what is told of the sheet.
-pub fn with_sheet(sheet: reader::Sheet, compiled: Compiled) -> CompiledSheet
+pub fn with_sheet(sheet: reader::StoredSheet, compiled: Compiled) -> CompiledSheet
     ensures { λ r. ⌜ r ≡ told sheet compiled ⌝ }
 {
     if compiled.refusal == 0 {
@@ -78,4 +78,17 @@ pub fn answer(told: CompiledSheet) -> Compiled
         states: told.states,
         situations: told.situations,
     }
+}
+
+// The answer of a compile with a play table: after the compile's own numbers 16, with which nothing is told, where no solution can be forced.
+pub fn with_play(told: CompiledSheet, forced: bool) -> CompiledSheet
+    ensures { λ r. ⌜ r ≡ toldWithPlay told forced ⌝ }
+{
+    if told.refusal != 0 {
+        return told;
+    }
+    if forced {
+        return told;
+    }
+    with_streams(compiled::refused(16), 0, no_streams())
 }

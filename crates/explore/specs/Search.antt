@@ -60,7 +60,7 @@ module _ (K : Store) where
     pub is-prepared : PreparedFor K (rowAt keys s) prepared
 
   -- The letter is followed, and what is prepared for the row stays so.
-  pub record Follows (limit every n s a : ℕ) (keys flags heads′ links′ keys′ flags′ : List ℕ) (prepared′ : List ℤ) (r : ℕ) : Type 0 where
+  pub record FollowsLetter (limit every n s a : ℕ) (keys flags heads′ links′ keys′ flags′ : List ℕ) (prepared′ : List ℤ) (r : ℕ) : Type 0 where
     pub followed : LetterFollowed limit every n s a keys flags heads′ links′ keys′ flags′ r
     pub is-prepared : PreparedFor K (rowAt keys′ s) prepared′
 

@@ -22,7 +22,7 @@ ghost use Rattle.sizes.specs.Room.{keySize};
 ghost use Rattle.extend.specs.Key.{digit};
 ghost use Rattle.extend.specs.Step.{storeOf, Prepared, IsPreparable};
 ghost use Rattle.explore.specs.Chains.{rowAt, KeyTables};
-ghost use Rattle.explore.specs.Search.{everyMark, Settled, CanFollow, Follows, CanSearch, Searched, KeptBehind};
+ghost use Rattle.explore.specs.Search.{everyMark, Settled, CanFollow, FollowsLetter, CanSearch, Searched, KeptBehind};
 ghost use Rattle.explore.specs.Exploration.{exploreTables, Explores, Discards, ExploresStored};
 
 // The number of situations, or that there are more than the limit.
@@ -117,7 +117,7 @@ fn follow(
     prepared: &mut [i64; PREPARED_SIZE],
 ) -> usize
     requires { ⌜ CanFollow (storeOf (now kinds) (now values) (now starts) (now relations) (now lefts) (now rights) (now «first_nodes») (now «letter_values») (dimensions .streams) (dimensions .ahead) (dimensions .width)) (bounds .limit) n s a (now keys) (now heads) (now links) (now flags) (now prepared) ⌝ }
-    ensures { λ r. ⌜ Follows (storeOf (now (kinds .entry)) (now (values .entry)) (now (starts .entry)) (now (relations .entry)) (now (lefts .entry)) (now (rights .entry)) (now («first_nodes» .entry)) (now («letter_values» .entry)) (dimensions .streams) (dimensions .ahead) (dimensions .width)) (bounds .limit) (bounds .every) n s a (now (keys .entry)) (now (flags .entry)) (now (heads .exit)) (now (links .exit)) (now (keys .exit)) (now (flags .exit)) (now (prepared .exit)) r ⌝ }
+    ensures { λ r. ⌜ FollowsLetter (storeOf (now (kinds .entry)) (now (values .entry)) (now (starts .entry)) (now (relations .entry)) (now (lefts .entry)) (now (rights .entry)) (now («first_nodes» .entry)) (now («letter_values» .entry)) (dimensions .streams) (dimensions .ahead) (dimensions .width)) (bounds .limit) (bounds .every) n s a (now (keys .entry)) (now (flags .entry)) (now (heads .exit)) (now (links .exit)) (now (keys .exit)) (now (flags .exit)) (now (prepared .exit)) r ⌝ }
 {
     let start = s * KEY_SIZE;
     let end = start + KEY_SIZE;

@@ -8,18 +8,11 @@ use lib.ListN.{length, take, drop, take-append-drop, length-take, length-drop, l
 use lib.Seq.{take-at, drop-at, getD-drop}
 use Rattle.basics.specs.Clearing.{ClearedFrom}
 use Rattle.basics.proofs.Clearing.{all-zero}
-use Rattle.outcome.specs.Room.{LentTable, zeros, zeroTables}
-use Rattle.outcome.specs.Compile.{CompileAnswer, Room, Tables, CompileCall, tooManySituations, tooFewRows, noSolution, compiled, unread, read}
+use Rattle.outcome.specs.Room.{LentTable, zeros}
+use Rattle.outcome.specs.Compile.{CompileAnswer, CompileCall}
+use Rattle.outcome.proofs.Leaves.{compile-leaves, refused-zero as refused-tables}
 use Rattle.lend.specs.Lend.{rowsLent, roomOfRows, tablesOfRows, LentCall}
 use Rattle.lend.proofs.Rows.{lent-entries, lent-rows}
-
--- "work tables are zero after every call"
-work-zero : {text : List ℕ} {room : Room} {a : CompileAnswer} {t : Tables} → CompileCall text room a t → t .work ≡ zeroTables (room .work)
-work-zero (unread r) = refl
-work-zero (read r (tooManySituations h x)) = refl
-work-zero (read r (tooFewRows h x)) = refl
-work-zero (read r (noSolution x f)) = refl
-work-zero (read r (compiled x h)) = h .workZero
 
 -- ---- a call in the tables of so many rows
 
@@ -28,17 +21,22 @@ abbrev single : ℕ → LentTable
 single size = record { perRow = 1; size = size }
 
 -- The work tables with these many numbers.
-abbrev sizedWork : (keys live class next heads links shared : ℕ) → List LentTable
+abbrev pub sizedWork : (keys live class next heads links shared : ℕ) → List LentTable
 sizedWork keys live class next heads links shared =
     record { perRow = 16; size = keys } ∷ (single live ∷ (single class ∷ (single next ∷ (single heads ∷ (single links ∷ (single shared ∷ []))))))
+
+-- Those with the numbers that so many rows take are the work tables of these rows.
+pub work-of-rows : {rows keys live class next heads links shared : ℕ} → rows * 16 ≡ keys → rows ≡ live → rows ≡ class → rows ≡ next → rows ≡ heads → rows ≡ links → rows ≡ shared
+    → sizedWork keys live class next heads links shared ≡ roomOfRows 0 0 rows .work
+work-of-rows hk hl hc hn hh hi hs = λ i. sizedWork (sym hk i) (sym hl i) (sym hc i) (sym hn i) (sym hh i) (sym hi i) (sym hs i)
 
 pub in-rows : {text : List ℕ} {a : CompileAnswer} {m n rows keys live class next heads links shared : ℕ} {entries finals : List ℕ} {work : List (List ℕ)}
     → rows * 16 ≡ keys → rows ≡ live → rows ≡ class → rows ≡ next → rows ≡ heads → rows ≡ links → rows ≡ shared
     → CompileCall text (record { entries = m; finals = n; work = sizedWork keys live class next heads links shared }) a (record { entries = entries; finals = finals; work = work })
     → CompileCall text (roomOfRows m n rows) a (tablesOfRows rows entries finals)
 in-rows {text} {a} {m} {n} {rows} {entries = entries} {finals} {work} hk hl hc hn hh hi hs call =
-    let sized = subst (λ w. CompileCall text (record { entries = m; finals = n; work = w }) a (record { entries = entries; finals = finals; work = work })) (λ i. sizedWork (sym hk i) (sym hl i) (sym hc i) (sym hn i) (sym hh i) (sym hi i) (sym hs i)) call in
-    subst (λ w. CompileCall text (roomOfRows m n rows) a (record { entries = entries; finals = finals; work = w })) (work-zero sized) sized
+    let sized = subst (λ w. CompileCall text (record { entries = m; finals = n; work = w }) a (record { entries = entries; finals = finals; work = work })) (work-of-rows hk hl hc hn hh hi hs) call in
+    subst (λ w. CompileCall text (roomOfRows m n rows) a (record { entries = entries; finals = finals; work = w })) (compile-leaves sized .workZero) sized
 
 -- ---- a call in the first parts of arrays
 
@@ -69,29 +67,14 @@ module _ {text : List ℕ} {a : CompileAnswer} {entries cleared back finals clea
 
 -- ---- the arrays are as long as they were
 
-call-sizes : {text : List ℕ} {room : Room} {a : CompileAnswer} {t : Tables} → CompileCall text room a t → (length (t .entries) ≡ room .entries) × (length (t .finals) ≡ room .finals)
-call-sizes {room = room} (unread r) = (length-replicate (room .entries) 0, length-replicate (room .finals) 0)
-call-sizes {room = room} (read r (tooManySituations h x)) = (length-replicate (room .entries) 0, length-replicate (room .finals) 0)
-call-sizes {room = room} (read r (tooFewRows h x)) = (length-replicate (room .entries) 0, length-replicate (room .finals) 0)
-call-sizes {room = room} (read r (noSolution x f)) = (length-replicate (room .entries) 0, length-replicate (room .finals) 0)
-call-sizes (read r (compiled x h)) = (h .entriesSize, h .finalsSize)
-
--- "After a refused compile every lent table is zero".
-refused-tables : {text : List ℕ} {room : Room} {a : CompileAnswer} {t : Tables} → CompileCall text room a t → 0 < a .refusal → (t .entries ≡ zeros (room .entries)) × (t .finals ≡ zeros (room .finals))
-refused-tables (unread r) h = (refl, refl)
-refused-tables (read r (tooManySituations k x)) h = (refl, refl)
-refused-tables (read r (tooFewRows k x)) h = (refl, refl)
-refused-tables (read r (noSolution x f)) h = (refl, refl)
-refused-tables (read r (compiled x k)) h = absurd (omega arith)
-
 whole-size : (part size : ℕ) (list : List ℕ) → part ≤ size → length (take part list) ≡ part → drop part list ≡ zeros (size - part) → length list ≡ size
 whole-size part size list fits first rest =
     omega (arith, length-take part list, length-drop part list, ap length rest, length-replicate {A = ℕ} (size - part) 0)
 
 pub lent-sizes : {text : List ℕ} {letters : ℕ} {a : CompileAnswer} {entries finals : List ℕ} → LentCall text letters a entries finals → (length entries ≡ 32768) × (length finals ≡ 256)
 lent-sizes {letters = letters} {entries = entries} {finals} c =
-    let sizes = call-sizes (c .call) in
-    (whole-size (rowsLent letters * letters) 32768 entries (lent-entries letters) (sizes .0) (c .entriesBehind), whole-size (rowsLent letters) 256 finals (lent-rows letters) (sizes .1) (c .finalsBehind))
+    let leaves = compile-leaves (c .call) in
+    (whole-size (rowsLent letters * letters) 32768 entries (lent-entries letters) (leaves .entriesSize) (c .entriesBehind), whole-size (rowsLent letters) 256 finals (lent-rows letters) (leaves .finalsSize) (c .finalsBehind))
 
 -- ---- what the arrays hold
 
@@ -101,23 +84,23 @@ module _ {text : List ℕ} {letters : ℕ} {a : CompileAnswer} {entries finals :
 
   -- The entries lent, and zeros.
   pub lent-then-zeros : entries ≡ take part entries ++ zeros (32768 - length (take part entries))
-  lent-then-zeros = sym (take-append-drop part entries) ∙ ap (take part entries ++_) (c .entriesBehind ∙ ap (λ n. zeros (32768 - n)) (sym (call-sizes (c .call) .0)))
+  lent-then-zeros = sym (take-append-drop part entries) ∙ ap (take part entries ++_) (c .entriesBehind ∙ ap (λ n. zeros (32768 - n)) (sym (compile-leaves (c .call) .entriesSize)))
 
   -- The final bytes lent, and zeros.
   pub finals-then-zeros : finals ≡ take (rowsLent letters) finals ++ zeros (256 - length (take (rowsLent letters) finals))
   finals-then-zeros =
-      sym (take-append-drop (rowsLent letters) finals) ∙ ap (take (rowsLent letters) finals ++_) (c .finalsBehind ∙ ap (λ n. zeros (256 - n)) (sym (call-sizes (c .call) .1)))
+      sym (take-append-drop (rowsLent letters) finals) ∙ ap (take (rowsLent letters) finals ++_) (c .finalsBehind ∙ ap (λ n. zeros (256 - n)) (sym (compile-leaves (c .call) .finalsSize)))
 
   -- After a refusal every entry and every final byte is zero.
   pub refused-zero : 0 < a .refusal → entries ≡ zeros 32768
   refused-zero h =
       let fits = lent-entries letters in
       let whole : part + (32768 - part) ≡ 32768 = omega arith in
-      sym (take-append-drop part entries) ∙ ap₂ _++_ (refused-tables (c .call) h .0) (c .entriesBehind) ∙ replicate-append-replicate part (32768 - part) 0 ∙ ap zeros whole
+      sym (take-append-drop part entries) ∙ ap₂ _++_ (ap (λ t. t .entries) (refused-tables (c .call) h .1)) (c .entriesBehind) ∙ replicate-append-replicate part (32768 - part) 0 ∙ ap zeros whole
 
   pub refused-finals-zero : 0 < a .refusal → finals ≡ zeros 256
   refused-finals-zero h =
       let rows = rowsLent letters in
       let fits = lent-rows letters in
       let whole : rows + (256 - rows) ≡ 256 = omega arith in
-      sym (take-append-drop rows finals) ∙ ap₂ _++_ (refused-tables (c .call) h .1) (c .finalsBehind) ∙ replicate-append-replicate rows (256 - rows) 0 ∙ ap zeros whole
+      sym (take-append-drop rows finals) ∙ ap₂ _++_ (ap (λ t. t .finals) (refused-tables (c .call) h .1)) (c .finalsBehind) ∙ replicate-append-replicate rows (256 - rows) 0 ∙ ap zeros whole

@@ -3,7 +3,7 @@ use basics::fewer;
 use compiled::Compiled;
 ghost use mathlib.Core.Path.{_≡_};
 ghost use Prim.Native.Nat.{_≤_};
-ghost use lib.ListN.{length};
+ghost use lib.ListN.{length, replicate};
 ghost use Rattle.outcome.specs.Compile.{CompileCall};
 ghost use Rattle.compiled.specs.Answer.{answerOf};
 ghost use Rattle.lend.specs.Lend.{rowsLent, roomOfRows, tablesOfRows, LentCall};
@@ -19,14 +19,14 @@ pub fn rows_lent(letters: usize) -> usize
 }
 
 // Room for the keys, with 16 numbers a row, and for a work table with one.
-fn key_room() -> [u32; 4096]
-    ensures { λ r. ⌜ 4096 ≡ length r ⌝ }
+pub fn key_room() -> [u32; 4096]
+    ensures { λ r. ⌜ (4096 ≡ length r) × (r ≡ replicate 4096 0) ⌝ }
 {
     [0; 4096]
 }
 
-fn work_room() -> [u32; 256]
-    ensures { λ r. ⌜ 256 ≡ length r ⌝ }
+pub fn work_room() -> [u32; 256]
+    ensures { λ r. ⌜ (256 ≡ length r) × (r ≡ replicate 256 0) ⌝ }
 {
     [0; 256]
 }

@@ -1,7 +1,7 @@
 -- Letters and their numbers, stream after stream: a number's digits from the last stream to the first, and a letter's number from the first to the last.
 use Prim.Native.Nat.{ℕ, zero, suc, _+_, _*_, _/_, _%_, _≤_, _<_, min}
 use native.Mathlib.Omega.{arith}
-use native.Mathlib.Nat.{le-trans, le-refl, mul-le-mul-left, mul-le-mul-right, mul-comm, mul-assoc, mul-one, one-mul, mul-zero, zero-mul, add-mul, add-assoc, mod-lt, mod-eq-of-lt, div-add-mod', div-div-eq-div-mul, div-one}
+use native.Mathlib.Nat.{le-trans, le-refl, mul-le-mul-left, mul-le-mul-right, mul-comm, mul-assoc, mul-one, one-mul, zero-mul, add-mul, add-assoc, mod-lt, mod-eq-of-lt, div-add-mod', div-div-eq-div-mul, div-one}
 use mathlib.Core.Path.{_≡_, refl, sym, _∙_, ap, ap₂, subst}
 use mathlib.Core.Bool.{Bool, true, false, cond, _&&_}
 use mathlib.Core.List.{List, [], _∷_, _++_, append-assoc}
@@ -17,7 +17,7 @@ use mir.Val.{SFits}
 use Rattle.basics.proofs.Reflects.{from-true, to-true, to-false}
 use Rattle.meaning.specs.Expression.{Stream}
 use Rattle.meaning.specs.Letter.{size, letterCount, letterNumber, letterOf}
-use Rattle.meaning.proofs.Letter.{size-within, within-size, letterNumber-bound}
+use Rattle.meaning.proofs.Letter.{size-within, within-size, letterNumber-bound, positive-left, positive-right}
 use Rattle.nodes.proofs.Record.{letter-length}
 use Rattle.sheet.specs.Refusal.{letterBound}
 use Rattle.arithmetic.proofs.Machine.{held, held-both}
@@ -38,26 +38,18 @@ module _ (size c n : ℕ) (p : 0 < size) (q : 0 < c) where
       ap (λ x. x % (size * c)) e ∙ digits-mod (n / c / size) (digits-lt (mod-lt (n / c) p) (mod-lt n q))
 
   -- The quotient and the remainder by c of a number below size times c.
-  digit-high : n % (size * c) / c ≡ n / c % size
+  pub digit-high : n % (size * c) / c ≡ n / c % size
   digit-high = ap (λ x. x / c) low-part ∙ digits-div (n / c % size) (mod-lt n q)
 
-  digit-low : n % (size * c) % c ≡ n % c
+  pub digit-low : n % (size * c) % c ≡ n % c
   digit-low = ap (λ x. x % c) low-part ∙ digits-mod (n / c % size) (mod-lt n q)
 
 -- ---- the counts of the streams from i on
 
-positive-left : (a b : ℕ) → 0 < a * b → 0 < a
-positive-left zero b h = omega (arith, zero-mul b)
-positive-left (suc a) b h = omega arith
-
-positive-right : (a b : ℕ) → 0 < a * b → 0 < b
-positive-right a zero h = omega (arith, mul-zero a)
-positive-right a (suc b) h = omega arith
-
-right-≤ : (a b : ℕ) → 0 < a → b ≤ a * b
+pub right-≤ : (a b : ℕ) → 0 < a → b ≤ a * b
 right-≤ a b p = subst (λ x. x ≤ a * b) (one-mul b) (mul-le-mul-right b p)
 
-left-≤ : (a b : ℕ) → 0 < b → a ≤ a * b
+pub left-≤ : (a b : ℕ) → 0 < b → a ≤ a * b
 left-≤ a b p = subst (λ x. x ≤ a * b) (mul-one a) (mul-le-mul-left a p)
 
 module _ (lows highs : List ℤ) where

@@ -24,7 +24,7 @@ fn distance(low: i64, high: i64) -> u32
 }
 
 // How many values a stream has; 1,025 where they are more.
-fn values(low: i64, high: i64) -> u32
+pub fn values(low: i64, high: i64) -> u32
     ensures { λ r. ⌜ r ≡ cutCount (size (ranged low high .range)) ⌝ }
 {
     if high < low {

@@ -8,9 +8,9 @@ use native.Mathlib.Omega.{arith}
 use native.Mathlib.Decide.{ℕ-discrete, decLt}
 use lib.ListN.{getD, length, set, replicate, length-set, List·getD-eq-default}
 use Rattle.automaton.specs.Table.{IsFlag}
-use Rattle.marks.specs.Marks.{Marked, Pruned, Grown, IfFits}
+use Rattle.marks.specs.Marks.{Marked, Pruned, Grown, IsFlagged, IfFits}
 use Rattle.basics.proofs.Lists.{below-set, set-other}
-use Rattle.live_rows.specs.Sets.{IsFlagged, FindsLive, IsSet, LiveWithout, SameBeyond, FindsFinals}
+use Rattle.live_rows.specs.Sets.{FindsLive, IsSet, LiveWithout, SameBeyond, FindsFinals}
 
 -- a set gets its next row
 pub set-next : {P : ℕ → Type 0} {list : List ℕ} {n v : ℕ} → n < length list → IsFlag (P n) v → IsSet list n P → IsSet (set list n v) (n + 1) P
@@ -22,38 +22,6 @@ set-none list = record { row = λ s h. absurd (omega arith) }
 -- the number of row n is set, so those beyond it are as they were
 pub beyond-next : {old new : List ℕ} {n : ℕ} (v : ℕ) → SameBeyond old new n → SameBeyond old (set new n v) (n + 1)
 beyond-next {old} {new} {n} v b = record { row = λ s h. set-other new n v s (omega arith) ∙ b .row s (omega arith) }
-
--- the marks of the first n rows are kept where the row is flagged
-pub record Flagging (flags old new : List ℕ) (n : ℕ) : Type 0 where
-  pub same : length new ≡ length old
-  pub kept : (s : ℕ) → s < n → Marked flags s → getD new s 0 ≡ getD old s 0
-  pub cleared : (s : ℕ) → s < n → ¬ Marked flags s → getD new s 0 ≡ 0
-  pub beyond : SameBeyond old new n
-
-pub flagging-start : (flags marks : List ℕ) → Flagging flags marks marks 0
-flagging-start flags marks = record { same = refl; kept = λ s h f. refl; cleared = λ s h n. absurd (omega arith); beyond = record { row = λ s h. refl } }
-
-pub flagging-keep : {flags old new : List ℕ} {n : ℕ} → Marked flags n → Flagging flags old new n → Flagging flags old new (n + 1)
-flagging-keep {flags} {old} {new} {n} f I = record {
-  same = I .same;
-  kept = λ s h m. elim (ℕ-discrete s n) [ yes q ↦ I .beyond .row s (omega arith) | no q ↦ I .kept s (omega arith) m ];
-  cleared = λ s h m. elim (ℕ-discrete s n) [ yes q ↦ absurd (m (rw q f)) | no q ↦ I .cleared s (omega arith) m ];
-  beyond = record { row = λ s h. I .beyond .row s (omega arith) };
-}
-
-pub flagging-clear : {flags old new : List ℕ} {n : ℕ} → n < length new → ¬ Marked flags n → Flagging flags old new n → Flagging flags old (set new n 0) (n + 1)
-flagging-clear {flags} {old} {new} {n} h f I = record {
-  same = simp length-set (I .same);
-  kept = below-set (λ s x. Marked flags s → x ≡ getD old s 0) new n 0 h (I .kept) (λ m. absurd (f m));
-  cleared = below-set (λ s x. ¬ Marked flags s → x ≡ 0) new n 0 h (I .cleared) (λ m. refl);
-  beyond = beyond-next 0 (I .beyond);
-}
-
-pub flagging-end : {flags old new : List ℕ} {n : ℕ} → length new ≤ n → Flagging flags old new n → IsFlagged flags old new
-flagging-end {flags} {old} {new} {n} h I = record {
-  kept = λ s m. elim (decLt s n) [ yes l ↦ I .kept s l m | no l ↦ I .beyond .row s (omega arith) ];
-  cleared = λ s m. elim (decLt s n) [ yes l ↦ I .cleared s l m | no l ↦ List·getD-eq-default new 0 (omega arith) ];
-}
 
 -- a row is marked then if it was and is flagged
 pub flagged-both : {flags old new : List ℕ} → IsFlagged flags old new → (s : ℕ) → Marked new s ↔ (Marked old s × Marked flags s)

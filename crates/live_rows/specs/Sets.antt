@@ -4,12 +4,7 @@ use mathlib.Core.List.{List}
 use Prim.Native.Nat.{ℕ, _*_, _<_, _≤_}
 use lib.ListN.{getD, length, replicate}
 use Rattle.automaton.specs.Table.{IsFlag}
-use Rattle.marks.specs.Marks.{Marked, Pruned, Grown}
-
--- the numbers of the rows whose flag is 1, and 0 for each other row
-pub record IsFlagged (flags old new : List ℕ) : Type 0 where
-  pub kept : (s : ℕ) → Marked flags s → getD new s 0 ≡ getD old s 0
-  pub cleared : (s : ℕ) → ¬ Marked flags s → getD new s 0 ≡ 0
+use Rattle.marks.specs.Marks.{Marked, Pruned, Grown, IsFlagged}
 
 -- rows with an endless path; of these the flagged ones; and the rows from which a path leads to such a row
 pub record FindsLive (letters : ℕ) (entries flags live : List ℕ) : Type 0 where

@@ -4,7 +4,7 @@ ghost use mathlib.Core.Path.{_≡_};
 ghost use Prim.Native.Nat.{_*_, _≤_};
 ghost use lib.ListN.{length};
 ghost use Rattle.basics.specs.Answers.{Says};
-ghost use Rattle.live_rows.specs.Sets.{IsFlagged, IsSet, LiveWithout, SameBeyond, LiveOutcome, FinalsOutcome};
+ghost use Rattle.live_rows.specs.Sets.{IsSet, LiveWithout, SameBeyond, LiveOutcome, FinalsOutcome};
 
 // Whether tables of `entries` and `flags` numbers have room for the rows.
 fn has_room(rows: usize, letters: usize, entries: usize, flags: usize) -> bool
@@ -16,21 +16,6 @@ fn has_room(rows: usize, letters: usize, entries: usize, flags: usize) -> bool
     basics::rows_fit(rows, letters, entries)
 }
 
-// Clears the mark of each row whose flag is not 1.
-fn keep_flagged(flags: &[u8], marks: &mut [u32])
-    requires { ⌜ length (now marks) ≤ length (now flags) ⌝ }
-    ensures { λ r. ⌜ IsFlagged (now (flags .entry)) (now (marks .entry)) (now (marks .exit)) ⌝ }
-{
-    let mut row = 0;
-    while row < marks.len() {
-        let at = row;
-        row += 1;
-        if flags[at] != 1 {
-            marks[at] = 0;
-        }
-    }
-}
-
 // Marks the live rows. If the rows are more than the entries or the flags have, nothing changes.
 pub fn find_live(entries: &[u16], flags: &[u8], letters: usize, live: &mut [u32])
     ensures { λ r. ⌜ LiveOutcome letters (now (entries .entry)) (now (flags .entry)) (now (live .entry)) (now (live .exit)) ⌝ }
@@ -40,7 +25,7 @@ pub fn find_live(entries: &[u16], flags: &[u8], letters: usize, live: &mut [u32]
     }
     basics::fill(live, 1);
     marks::prune(entries, letters, live);
-    keep_flagged(flags, live);
+    marks::keep_flagged(flags, live);
     marks::grow(entries, letters, live);
 }
 

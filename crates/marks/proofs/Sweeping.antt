@@ -20,13 +20,13 @@ use Rattle.marks.proofs.Laws.{marked-inside, cleared-refl, cleared-tran
 
 -- ---- tests and counts
 
-beq-same : (a b : Bool) → Bool·beq a b ≡ true → a ≡ b
+pub beq-same : (a b : Bool) → Bool·beq a b ≡ true → a ≡ b
 beq-same true true e = refl
 beq-same true false e = sym e
 beq-same false true e = e
 beq-same false false e = refl
 
-beq-other : (a b : Bool) → Bool·beq a b ≡ false → a ≡ not b
+pub beq-other : (a b : Bool) → Bool·beq a b ≡ false → a ≡ not b
 beq-other true true e = e
 beq-other true false e = refl
 beq-other false true e = refl

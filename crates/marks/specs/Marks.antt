@@ -54,6 +54,11 @@ pub record Grown (letters : ℕ) (entries old new : List ℕ) : Type 0 where
   pub closed : (s : ℕ) → s < length new → Supported letters entries new s → Marked new s
   pub reason : (s : ℕ) → Marked new s → LeadsToMarked letters entries old s
 
+-- the numbers of the rows whose flag is 1, and 0 for each other row
+pub record IsFlagged (flags old new : List ℕ) : Type 0 where
+  pub kept : (s : ℕ) → Marked flags s → getD new s 0 ≡ getD old s 0
+  pub cleared : (s : ℕ) → ¬ Marked flags s → getD new s 0 ≡ 0
+
 -- What holds in either case of a condition that is tested: P where the rows fit, and else nothing changed.
 pub record IfFits (letters : ℕ) (entries old new : List ℕ) (P : Type 0) : Type 0 where
   pub fits : length old * letters ≤ length entries → P

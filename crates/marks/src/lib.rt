@@ -5,7 +5,7 @@ ghost use mathlib.Core.Path.{_≡_};
 ghost use Prim.Native.Nat.{_+_, _*_, _<_, _≤_};
 ghost use lib.ListN.{length, getD, replicate};
 ghost use Rattle.basics.specs.Answers.{Says};
-ghost use Rattle.marks.specs.Marks.{HasMarked, Pruned, Grown, IfFits};
+ghost use Rattle.marks.specs.Marks.{HasMarked, Pruned, Grown, IsFlagged, IfFits};
 ghost use Rattle.marks.specs.Sweeps.{Swept, Closed};
 
 // The number of the row that an entry names, 0 for none.
@@ -113,5 +113,21 @@ pub fn grow(entries: &[u16], letters: usize, marks: &mut [u32])
 {
     if rows_fit(marks.len(), letters, entries.len()) {
         sweeps(entries, letters, true, marks);
+    }
+}
+
+// Clears the mark of each row whose flag is not 1. A row without a flag is not flagged.
+pub fn keep_flagged(flags: &[u8], marks: &mut [u32])
+    ensures { λ r. ⌜ IsFlagged (now (flags .entry)) (now (marks .entry)) (now (marks .exit)) ⌝ }
+{
+    let mut row: usize = 0;
+    while row < marks.len() {
+        let at = row;
+        row += 1;
+        if flags.len() <= at {
+            marks[at] = 0;
+        } else if flags[at] != 1 {
+            marks[at] = 0;
+        }
     }
 }

@@ -57,15 +57,19 @@ letterOf-letterNumber (more {s} {ss} {v} {l} w h) =
     let b = letterNumber-bound h in
     ap₂ _∷_ (ap (λ n. s .range .low +ℤ pos n) (digits-div q b) ∙ +ℤ-pos-distance (w .above)) (ap (letterOf ss) (digits-mod q b) ∙ letterOf-letterNumber h)
 
-positive-factor : {n : ℕ} (a c : ℕ) → n < a * c → 0 < c
-positive-factor a zero h = omega arith
-positive-factor a (suc c) h = omega arith
+pub positive-left : {n : ℕ} (a c : ℕ) → n < a * c → 0 < a
+positive-left zero c h = omega arith
+positive-left (suc a) c h = omega arith
+
+pub positive-right : {n : ℕ} (a c : ℕ) → n < a * c → 0 < c
+positive-right a zero h = omega arith
+positive-right a (suc c) h = omega arith
 
 pub letterOf-letter : (ss : List Stream) (n : ℕ) → n < letterCount ss → IsLetter ss (letterOf ss n)
 unfolding letterCount letterOf
 letterOf-letter [] n h = none
 letterOf-letter (s ∷ ss) n h =
-    let p = positive-factor (size (s .range)) (letterCount ss) h in
+    let p = positive-right (size (s .range)) (letterCount ss) h in
     more (size-within (s .range) (n / letterCount ss) (div-lt-iff-lt-mul p .1 h)) (letterOf-letter ss (n % letterCount ss) (mod-lt n p))
 
 pub letterNumber-letterOf : (ss : List Stream) (n : ℕ) → n < letterCount ss → letterNumber ss (letterOf ss n) ≡ n
@@ -73,7 +77,7 @@ unfolding letterCount letterNumber letterOf
 letterNumber-letterOf [] n h = omega arith
 letterNumber-letterOf (s ∷ ss) n h =
     let c = letterCount ss in
-    let p = positive-factor (size (s .range)) c h in
+    let p = positive-right (size (s .range)) c h in
     ap₂ (λ q r. q * c + r) (distance-+ℤ-pos (s .range .low) (n / c)) (letterNumber-letterOf ss (n % c) (mod-lt n p)) ∙ div-add-mod' n c
 
 -- Where there is a stream, a number that is not below the count gives no letter.

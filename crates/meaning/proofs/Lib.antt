@@ -11,6 +11,7 @@ pub mod SameRanges
 pub mod StreamKinds
 pub mod Lawful
 pub mod Letter
+pub mod Choice
 pub mod Meaning
 pub mod Meets
 pub mod NormalForm

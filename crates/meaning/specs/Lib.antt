@@ -5,6 +5,7 @@ pub mod StreamKinds
 pub mod Interval
 pub mod Scope
 pub mod Letter
+pub mod Choice
 pub mod Window
 pub mod Situation
 pub mod NormalForm

@@ -22,7 +22,7 @@ use Rattle.stored_graph.specs.StoredGraph.{IsStoredGraph, storedGraph}
 use Rattle.live_rows.specs.Sets.{FindsLive, LiveWithout, FindsFinals}
 use Rattle.minimise.specs.Compacting.{IsNumbered, IsNameable, IsCompacted}
 use Rattle.minimise.specs.Outcome.{WorkHasRoom}
-use Rattle.minimise.specs.Reducing.{Wordless, HasWord, Judged, Tabled, ReductionRefused, Ran}
+use Rattle.minimise.specs.Reducing.{Wordless, HasWord, RowsJudged, Tabled, ReductionRefused, Ran}
 use Rattle.minimise.proofs.Analysis.{kept-endless, live-set, class-partition, passes-analysis}
 use Rattle.minimise.proofs.Renumbering.{renumbering}
 
@@ -88,7 +88,7 @@ module _ {entries flags : List ℕ} {letters rows : ℕ} (g : IsStoredGraph entr
           go s (inr x) = inr (x .0, λ t. omega (arith, test-marked finals s t, x .0))
 
 -- a graph that has a word is not refused
-pub judged-word : {entries flags live : List ℕ} {letters rows refusal : ℕ} → refusal ≡ 0 → Judged entries flags letters rows refusal live → HasWord entries flags letters rows live
+pub judged-word : {entries flags live : List ℕ} {letters rows refusal : ℕ} → refusal ≡ 0 → RowsJudged entries flags letters rows refusal live → HasWord entries flags letters rows live
 judged-word e (inl x) = absurd (omega (arith, x .refused))
 judged-word e (inr (inl x)) = absurd (omega (arith, x .refused))
 judged-word e (inr (inr x)) = x .1
@@ -99,10 +99,10 @@ word-rows {entries} {flags} {live} {letters} w = record { graph = subst (λ n. I
 
 -- what the passes leave, where all work tables have room for the rows
 module _ {entries flags : List ℕ} {letters r rows : ℕ} {work : List (List ℕ)} (e : r ≡ rows) (h : WorkHasRoom rows work) where
-  pub judged-ran : {refusal : ℕ} {live entries′ flags′ : List ℕ} → ¬ (refusal ≡ 0) → Judged entries flags letters r refusal live → Ran entries flags letters rows work refusal 0 entries′ flags′
-  judged-ran {refusal} {live} n J = inl (refl, go (subst (λ x. Judged entries flags letters x refusal live) e J))
+  pub judged-ran : {refusal : ℕ} {live entries′ flags′ : List ℕ} → ¬ (refusal ≡ 0) → RowsJudged entries flags letters r refusal live → Ran entries flags letters rows work refusal 0 entries′ flags′
+  judged-ran {refusal} {live} n J = inl (refl, go (subst (λ x. RowsJudged entries flags letters x refusal live) e J))
     where
-      go : Judged entries flags letters rows refusal live → ReductionRefused entries flags letters rows work refusal
+      go : RowsJudged entries flags letters rows refusal live → ReductionRefused entries flags letters rows work refusal
       go (inl x) = inl (record { no-room = λ a. x .no-graph (a .0); refused = x .refused })
       go (inr (inl x)) = inr (h, x)
       go (inr (inr x)) = absurd (n (x .0))

@@ -29,8 +29,8 @@ pub record HasWord (entries flags : List ℕ) (letters rows : ℕ) (live : List 
   pub found : FindsLive letters entries flags live
   pub start : Marked live 0
 
-abbrev pub Judged : (entries flags : List ℕ) (letters rows refusal : ℕ) (live : List ℕ) → Type 0
-Judged entries flags letters rows refusal live =
+abbrev pub RowsJudged : (entries flags : List ℕ) (letters rows refusal : ℕ) (live : List ℕ) → Type 0
+RowsJudged entries flags letters rows refusal live =
     Unfit entries flags letters rows refusal ⊎ (Wordless entries flags letters rows refusal ⊎ ((refusal ≡ 0) × HasWord entries flags letters rows live))
 
 pub record Tabled (entries flags : List ℕ) (letters rows states : ℕ) (entries′ flags′ : List ℕ) : Type 0 where

@@ -7,7 +7,7 @@ ghost use lib.ListN.{length};
 ghost use Rattle.basics.specs.Answers.{Says};
 ghost use Rattle.minimise.specs.Outcome.{MinimiseOutcome};
 ghost use Rattle.minimise.specs.Compacting.{IsNumbered, IsState, IsNameable, IsMoved, IsCompacted};
-ghost use Rattle.minimise.specs.Reducing.{Judged, HasWord, Tabled, Ran};
+ghost use Rattle.minimise.specs.Reducing.{RowsJudged, HasWord, Tabled, Ran};
 
 // The answer: 0 and the number of states, or a refusal and 0. Laid out as in C, so that an exported function can give it back.
 #[repr(C)]
@@ -100,7 +100,7 @@ fn move_rows(
 // The refusal: 11 if the tables hold no graph of as many rows as `live` has, 9 if the graph's language has no word. Or 0; then the live
 // rows are marked.
 fn find_refusal(entries: &[u16], flags: &[u8], letters: usize, live: &mut [u32]) -> u32
-    ensures { λ r. ⌜ Judged (now (entries .entry)) (now (flags .entry)) letters (length (now (live .entry))) r (now (live .exit)) ⌝ }
+    ensures { λ r. ⌜ RowsJudged (now (entries .entry)) (now (flags .entry)) letters (length (now (live .entry))) r (now (live .exit)) ⌝ }
 {
     if !stored_graph::is_graph(entries, flags, letters, live.len()) {
         return 11;

@@ -14,7 +14,7 @@ use Rattle.normal.specs.Rows.{Row, Rewriting, bothRewritings, untilRow, 
 use Rattle.normal.specs.Stored.{rewritingBefore, storedLine, storedLines}
 use Rattle.normal.specs.Table.{rowBound, streamLimit, flat, putRows, RewritingFits, Wrote, WroteLine, WroteLines, LinesHaveRoom, endsUpTo, refusedMade, numbersWith, withSpans, madeTables}
 use Rattle.normal.specs.declared.Made.{Made}
-use Rattle.normal.specs.declared.Written.{Written}
+use Rattle.normal.specs.declared.RowsWritten.{RowsWritten}
 use Rattle.nodes.specs.declared.Range.{Range}
 use Rattle.normal.proofs.Writing.{length-flat, put-append, put-more, rowOf, written, room-left, room-right}
 
@@ -72,7 +72,7 @@ module _ (kinds starts : List ℕ) (relation left right : ℕ) where
         by (yes e) = let g = until-room e in let k = until-length n in record { rows = omega (arith, g .rows); streams = omega (arith, g .streams) }
         by (no e) = room-left a b refl (always-room e)
 
-    module _ {t u : List ℕ} {r : Written} (x : Wrote a row n t u r) where
+    module _ {t u : List ℕ} {r : RowsWritten} (x : Wrote a row n t u r) where
       pub until-own : relation ≡ 7 → (r .row + 2 ≤ rowBound) × (r .stream + 2 ≤ streamLimit) × (n ≤ streamLimit)
       until-own e =
           let g = until-room e in
@@ -93,8 +93,8 @@ module _ (kinds starts : List ℕ) (relation left right : ℕ) where
       pub always-own : (relation ≡ 7 → ⊥) → (row ≤ rowBound) × (n ≤ streamLimit) × (r .stream ≤ streamLimit)
       always-own e = let g = always-right e in let l = line-left in (omega (arith, l .rows), omega (arith, l .streams), omega (arith, g .streams))
 
-  module _ {row n own : ℕ} (l : own < row) {t u : List ℕ} {r : Written} (x : Wrote a row n t u r) where
-    pub wrote-until : relation ≡ 7 → {v z : List ℕ} {q : Written} → v ≡ putRows (putRows u own (untilRow (r .stream) (left + 1) ∷ [])) (r .row) (untilEntries (left + 1) (right + 1) n (r .stream))
+  module _ {row n own : ℕ} (l : own < row) {t u : List ℕ} {r : RowsWritten} (x : Wrote a row n t u r) where
+    pub wrote-until : relation ≡ 7 → {v z : List ℕ} {q : RowsWritten} → v ≡ putRows (putRows u own (untilRow (r .stream) (left + 1) ∷ [])) (r .row) (untilEntries (left + 1) (right + 1) n (r .stream))
         → Wrote b (r .row + 2) (r .stream + 2) v z q → WroteLine (storedLine kinds starts relation left right) own row n t z q
     wrote-until e {v} {z} {q} p y =
         let k = until-length n in
@@ -112,7 +112,7 @@ module _ (kinds starts : List ℕ) (relation left right : ℕ) where
               ∙ (λ i. putRows (putRows t own (untilRow (x .streams i) (left + 1) ∷ [])) row (a .rows n ++ (untilEntries (left + 1) (right + 1) n (x .streams i) ++ b .rows (s i))));
         })
 
-    pub wrote-always : (relation ≡ 7 → ⊥) → {v z : List ℕ} {q : Written} → v ≡ putRows u own (rowOf 1 relation left n right (r .stream) 0 ∷ [])
+    pub wrote-always : (relation ≡ 7 → ⊥) → {v z : List ℕ} {q : RowsWritten} → v ≡ putRows u own (rowOf 1 relation left n right (r .stream) 0 ∷ [])
         → Wrote b (r .row) (r .stream) v z q → WroteLine (storedLine kinds starts relation left right) own row n t z q
     wrote-always e {v} {z} {q} p y =
         let k = length-append (a .rows n) (b .rows (n + a .added)) in
@@ -147,7 +147,7 @@ module _ (l : Line) (ls : List Line) {row n : ℕ} (h : LinesHaveRoom (l ∷ ls)
       let e = length-append (l .adds .rows n) (addedRows (n + l .adds .added) ls) in
       record { rows = omega (arith, h .rows); streams = omega (arith, h .streams, streams-more (n + l .adds .added) ls) }
 
-  pub lines-rest : {own : ℕ} {t u : List ℕ} {r : Written} → WroteLine l own row n t u r → LinesHaveRoom ls (r .row) (r .stream)
+  pub lines-rest : {own : ℕ} {t u : List ℕ} {r : RowsWritten} → WroteLine l own row n t u r → LinesHaveRoom ls (r .row) (r .stream)
   unfolding addedRows streamsAfter
   lines-rest {r = r} w =
       let e = length-append (l .adds .rows n) (addedRows (n + l .adds .added) ls) in
@@ -158,7 +158,7 @@ pub wrote-none : (own row n : ℕ) (t : List ℕ) → WroteLines [] own row n t 
 unfolding ownRows addedRows streamsAfter
 wrote-none own row n t = record { rows = omega arith; streams = refl; table = refl }
 
-pub wrote-cons : (l : Line) (ls : List Line) {own row n : ℕ} {t u v : List ℕ} {r q : Written} → own + suc (length ls) ≤ row → WroteLine l own row n t u r → WroteLines ls (own + 1) (r .row) (r .stream) u v q
+pub wrote-cons : (l : Line) (ls : List Line) {own row n : ℕ} {t u v : List ℕ} {r q : RowsWritten} → own + suc (length ls) ≤ row → WroteLine l own row n t u r → WroteLines ls (own + 1) (r .row) (r .stream) u v q
     → WroteLines (l ∷ ls) own row n t v q
 unfolding ownRows addedRows streamsAfter
 wrote-cons l ls {own} {row} {n} {t} {u} {v} {r} {q} fits w x =
@@ -203,7 +203,7 @@ stored-count kinds starts (p ∷ relations) (l ∷ lefts) (r ∷ rights) el er =
 
 -- ---- all entries
 
-module _ (ls : List Line) (streams : ℕ) {count : ℕ} (e : length ls ≡ count) {new : List ℕ} {r : Written} (w : WroteLines ls 0 count streams (replicate 30944 0) new r) where
+module _ (ls : List Line) (streams : ℕ) {count : ℕ} (e : length ls ≡ count) {new : List ℕ} {r : RowsWritten} (w : WroteLines ls 0 count streams (replicate 30944 0) new r) where
   pub rows-counted : r .row ≡ length (allRows streams ls)
   rows-counted = w .rows ∙ omega (arith, length-append (ownRows streams ls) (addedRows streams ls), length-ownRows streams ls)
 

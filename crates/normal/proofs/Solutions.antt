@@ -28,7 +28,7 @@ use Rattle.normal.specs.Table.{blank}
 use Rattle.normal.specs.Rows.{Row, rewritingLines, ownRows, addedRows}
 use Rattle.normal.specs.Encoded.{normalRows, entryRecord, normalEntries}
 use Rattle.normal.specs.Says.{EntrySays, EachSays, LeftStands}
-use Rattle.normal.specs.Solved.{rangeIn, EntryMet, ListSolution, ExtendsTo}
+use Rattle.normal.specs.Solved.{rangeIn, ListEntryMet, ListSolution, ExtendsTo}
 use Rattle.normal.specs.declared.Entry.{Entry}
 use Rattle.normal.proofs.Places.{stand-self}
 use Rattle.normal.proofs.Decoding.{decoded, own-say, added-say, encoded-length}
@@ -80,7 +80,7 @@ module _ {text : List ℕ} {s : Sheet} (answer : AnswerTo text (sheet s)) (v : V
   adds-are = added-say s 0 n (s .constraints) (stand-self (nodeExpressions (s .constraints)))
 
   abbrev RowMet : Row → Type 0
-  RowMet r = EntryMet text v (entryOf r)
+  RowMet r = ListEntryMet text v (entryOf r)
 
   -- The stream that an entry names has a value in its range.
   abbrev RangedBy : Entry → Type 0
@@ -90,7 +90,7 @@ module _ {text : List ℕ} {s : Sheet} (answer : AnswerTo text (sheet s)) (v : V
 
   module _ (h : ListSolution text s (normalEntries text s) v) where
     rows-met : All RowMet own × All RowMet adds
-    rows-met = All-append RowMet own adds .0 (All-unmapped (EntryMet text v) entryOf (normalRows s) (h .met))
+    rows-met = All-append RowMet own adds .0 (All-unmapped (ListEntryMet text v) entryOf (normalRows s) (h .met))
 
     lines-met : All (MeetsFrom v) (allRewritten n (s .constraints))
     lines-met =
@@ -110,7 +110,7 @@ module _ {text : List ℕ} {s : Sheet} (answer : AnswerTo text (sheet s)) (v : V
         by : Dec (k < n) → AnyWithin (rangeOf (N .streams) k) (v k i)
         by (yes q) = subst (λ I. AnyWithin I (v k i)) (sym (range-kept s k q)) (number-any (rangeOf (s .streams) k) (v k i) (h .numbered k i q))
         by (no q) =
-            meet (EntryMet text v) (HasRange s) (NamedBy k)
+            meet (ListEntryMet text v) (HasRange s) (NamedBy k)
             (λ e met has named. subst (λ j. AnyWithin (rangeOf (N .streams) j) (v j i)) (named .left) (subst (λ I. AnyWithin I (v (e .left) i)) (has (named .kind)) (met .ranged (named .kind) i)))
             (normalEntries text s) (h .met) (entries-ranged text s) (streams-named text s k (omega arith) l)
 
@@ -154,7 +154,7 @@ module _ {text : List ℕ} {s : Sheet} (answer : AnswerTo text (sheet s)) (v : V
         let entries = member-All RowMet adds (λ r m. entry-met r (All-member IsAdded (adds-added 0 n (s .constraints)) m) (All-member Told (told .1) m) (All-member (λ r. RangedBy (entryOf r)) (ranged .1) m) (All-member (λ r. MeetsEntry v (decoded s r)) adds-met m)) in
         record {
           numbered = h .numbered;
-          met = All-mapped (EntryMet text v) entryOf (λ r m. m) (normalRows s) (All-append RowMet own adds .1 (lines, entries));
+          met = All-mapped (ListEntryMet text v) entryOf (λ r m. m) (normalRows s) (All-append RowMet own adds .1 (lines, entries));
         }
 
 -- Streams solve what text and entries say exactly if they solve the normal form.

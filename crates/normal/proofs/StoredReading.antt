@@ -20,7 +20,7 @@ use Rattle.nodes.specs.Evaluate.{stored, nodesOf}
 use Rattle.nodes.specs.Bounds.{lowsOf, highsOf}
 use Rattle.nodes.proofs.Postfix.{sides-inside, stored-length}
 use Rattle.reader.specs.Stored.{padded, relationsOf, leftsOf, rightsOf, storedSheet, readingOf}
-use Rattle.reader.specs.declared.Sheet.{Sheet as StoredSheet}
+use Rattle.reader.specs.declared.StoredSheet.{StoredSheet}
 use Rattle.reader.specs.declared.Reading.{Reading}
 use Rattle.spans.specs.Stored.{spanTable}
 use Rattle.normal.specs.Rows.{rewritingLines}

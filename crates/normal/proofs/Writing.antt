@@ -9,7 +9,7 @@ use lib.Seq.{sets}
 use Rattle.basics.proofs.Lists.{sets-append}
 use Rattle.normal.specs.Rows.{Row, Rewriting, equationRow, nothingAdded, bothRewritings, nextEntries, nextRewriting, fbyEntries, fbyRewriting, untilRow, untilEntries}
 use Rattle.normal.specs.Table.{rowBound, streamLimit, numbersOf, flat, putRows, RewritingFits, Wrote}
-use Rattle.normal.specs.declared.Written.{Written}
+use Rattle.normal.specs.declared.RowsWritten.{RowsWritten}
 
 -- ---- stores
 
@@ -85,14 +85,14 @@ until-stored t {u} own row n l r m p q s =
 
 -- ---- what the parts of an expression write
 
-abbrev pub written : ℕ → ℕ → Written
+abbrev pub written : ℕ → ℕ → RowsWritten
 written r n = record { row = r; stream = n }
 
 module _ {w a : Rewriting} (is : w ≡ a) {row n : ℕ} where
   pub room-same : RewritingFits w row n → RewritingFits a row n
   room-same h = subst (λ x. RewritingFits x row n) is h
 
-  pub wrote-same : {t u : List ℕ} {r : Written} → Wrote a row n t u r → Wrote w row n t u r
+  pub wrote-same : {t u : List ℕ} {r : RowsWritten} → Wrote a row n t u r → Wrote w row n t u r
   wrote-same {t} {u} {r} x = subst (λ z. Wrote z row n t u r) (sym is) x
 
 pub wrote-nothing : {w : Rewriting} → w ≡ nothingAdded → (row n : ℕ) (t : List ℕ) → Wrote w row n t t (written row n)
@@ -106,7 +106,7 @@ module _ (a b : Rewriting) {w : Rewriting} (is : w ≡ bothRewritings a b) {row 
   pub room-left : RewritingFits w row n → RewritingFits a row n
   room-left h = let g = joined-room h in let e = length-append (a .rows n) (b .rows (n + a .added)) in record { rows = omega (arith, g .rows); streams = omega (arith, g .streams) }
 
-  module _ {t u : List ℕ} {r : Written} (x : Wrote a row n t u r) where
+  module _ {t u : List ℕ} {r : RowsWritten} (x : Wrote a row n t u r) where
     pub room-right : RewritingFits w row n → RewritingFits b (r .row) (r .stream)
     room-right h =
         let g = joined-room h in
@@ -114,7 +114,7 @@ module _ (a b : Rewriting) {w : Rewriting} (is : w ≡ bothRewritings a b) {row 
         let f = ap (λ k. length (b .rows k)) (x .streams) in
         record { rows = omega (arith, g .rows, x .rows); streams = omega (arith, g .streams, x .streams) }
 
-    pub wrote-joined : {v : List ℕ} {q : Written} → Wrote b (r .row) (r .stream) u v q → Wrote w row n t v q
+    pub wrote-joined : {v : List ℕ} {q : RowsWritten} → Wrote b (r .row) (r .stream) u v q → Wrote w row n t v q
     wrote-joined {v} {q} y =
         let e = length-append (a .rows n) (b .rows (n + a .added)) in
         let f = ap (λ k. length (b .rows k)) (x .streams) in
@@ -138,7 +138,7 @@ module _ (e : ℕ) (b : Rewriting) {w : Rewriting} (is : w ≡ nextRewriting e b
       let f = ap (λ k. length (b .rows k)) (two-more n) in
       record { rows = omega (arith, g .rows); streams = omega (arith, g .streams) }
 
-  pub wrote-next : {t u v : List ℕ} {q : Written} → u ≡ putRows t row (nextEntries e n) → Wrote b (row + 2) (n + 2) u v q → Wrote w row n t v q
+  pub wrote-next : {t u v : List ℕ} {q : RowsWritten} → u ≡ putRows t row (nextEntries e n) → Wrote b (row + 2) (n + 2) u v q → Wrote w row n t v q
   wrote-next {t} {u} {v} {q} p x =
       let f = ap (λ k. length (b .rows k)) (two-more n) in
       subst (λ z. Wrote z row n t v q) (sym is)
@@ -159,7 +159,7 @@ module _ (l e : ℕ) (a b : Rewriting) {w : Rewriting} (is : w ≡ fbyRewriting 
   pub room-fby-left : RewritingFits w row n → RewritingFits a row n
   room-fby-left h = let g = fby-room h in let k = fby-length l e a b n in record { rows = omega (arith, g .rows); streams = omega (arith, g .streams) }
 
-  module _ {t u : List ℕ} {r : Written} (x : Wrote a row n t u r) where
+  module _ {t u : List ℕ} {r : RowsWritten} (x : Wrote a row n t u r) where
     behind : r .stream + 3 ≡ suc (suc (suc (n + a .added)))
     behind = omega (arith, x .streams)
 
@@ -176,7 +176,7 @@ module _ (l e : ℕ) (a b : Rewriting) {w : Rewriting} (is : w ≡ fbyRewriting 
         let f = ap (λ k. length (b .rows k)) behind in
         record { rows = omega (arith, g .rows, x .rows); streams = omega (arith, g .streams, x .streams) }
 
-    pub wrote-fby : {v z : List ℕ} {q : Written} → v ≡ putRows u (r .row) (fbyEntries l e n (r .stream)) → Wrote b (r .row + 4) (r .stream + 3) v z q
+    pub wrote-fby : {v z : List ℕ} {q : RowsWritten} → v ≡ putRows u (r .row) (fbyEntries l e n (r .stream)) → Wrote b (r .row + 4) (r .stream + 3) v z q
         → Wrote w row n t z q
     wrote-fby {v} {z} {q} p y =
         let k = fby-length l e a b n in

@@ -18,7 +18,7 @@ rangeIn e = record { low = e .low; high = e .high }
 
 -- A record is met: its stream has none or a number in its range; kinds 1 and 2 are rewritten constraints, which hold as in a sheet, and kinds 3 to 5 added
 -- entries.
-pub record EntryMet (text : List ℕ) (v : ValueStreams) (e : Entry) : Type 0 where
+pub record ListEntryMet (text : List ℕ) (v : ValueStreams) (e : Entry) : Type 0 where
   pub ranged : 2 ≤ e .kind → (i : ℕ) → AnyWithin (rangeIn e) (v (e .left) i)
   pub line : e .kind ≤ 2 → (c : Constraint) → EntrySays text e c → MeetsFrom v c
   pub entry : 3 ≤ e .kind → (c : Constraint) → EntrySays text e c → MeetsEntry v c
@@ -26,7 +26,7 @@ pub record EntryMet (text : List ℕ) (v : ValueStreams) (e : Entry) : Type 0 wh
 -- The sheet's own streams have numbers in their ranges, and every record is met.
 pub record ListSolution (text : List ℕ) (s : Sheet) (es : List Entry) (v : ValueStreams) : Type 0 where
   pub numbered : (k i : ℕ) → k < length (s .streams) → NumberWithin (rangeOf (s .streams) k) (v k i)
-  pub met : All (EntryMet text v) es
+  pub met : All (ListEntryMet text v) es
 
 -- Exactly one solution of the records, with so many added streams, agrees with w on the sheet's streams.
 pub record ExtendsTo (text : List ℕ) (s : Sheet) (es : List Entry) (added : ℕ) (w : Streams) : Type 0 where

@@ -16,7 +16,7 @@ use Rattle.normal.specs.Rows.{Row, Rewriting, Line, ownRows, addedRows, 
 use Rattle.normal.specs.Fields.{entryWith}
 use Rattle.normal.specs.declared.Entry.{Entry}
 use Rattle.normal.specs.declared.Made.{Made}
-use Rattle.normal.specs.declared.Written.{Written}
+use Rattle.normal.specs.declared.RowsWritten.{RowsWritten}
 
 -- Bounds that no sheet exceeds, of the numbers of rows, 32 + 4 · 1,024, and of streams. They are not the largest numbers that sheets have.
 abbrev pub rowBound : ℕ
@@ -41,19 +41,19 @@ pub record RewritingFits (a : Rewriting) (row stream : ℕ) : Type 0 where
   pub streams : stream + a .added ≤ streamLimit
 
 -- What is added stands in the table from a row on, and the answer has the row and the stream behind the last.
-pub record Wrote (a : Rewriting) (row stream : ℕ) (old new : List ℕ) (r : Written) : Type 0 where
+pub record Wrote (a : Rewriting) (row stream : ℕ) (old new : List ℕ) (r : RowsWritten) : Type 0 where
   pub rows : r .row ≡ row + length (a .rows stream)
   pub streams : r .stream ≡ stream + a .added
   pub table : new ≡ putRows old row (a .rows stream)
 
 -- A line's own entry stands in row `own`, and what it adds from `row` on.
-pub record WroteLine (l : Line) (own row stream : ℕ) (old new : List ℕ) (r : Written) : Type 0 where
+pub record WroteLine (l : Line) (own row stream : ℕ) (old new : List ℕ) (r : RowsWritten) : Type 0 where
   pub rows : r .row ≡ row + length (l .adds .rows stream)
   pub streams : r .stream ≡ stream + l .adds .added
   pub table : new ≡ putRows (putRows old own (l .own stream ∷ [])) row (l .adds .rows stream)
 
 -- All entries stand in the table: the lines' own from row `own` on, and what they add from `row` on.
-pub record WroteLines (ls : List Line) (own row stream : ℕ) (old new : List ℕ) (r : Written) : Type 0 where
+pub record WroteLines (ls : List Line) (own row stream : ℕ) (old new : List ℕ) (r : RowsWritten) : Type 0 where
   pub rows : r .row ≡ row + length (addedRows stream ls)
   pub streams : r .stream ≡ streamsAfter stream ls
   pub table : new ≡ putRows (putRows old own (ownRows stream ls)) row (addedRows stream ls)

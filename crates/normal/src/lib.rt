@@ -46,7 +46,7 @@ pub struct NormalForm {
 }
 
 // The row and the stream behind the last.
-struct Written {
+struct RowsWritten {
     row: usize,
     stream: usize,
 }
@@ -135,12 +135,12 @@ fn write_rows(
     row: usize,
     stream: usize,
     table: &mut [u16; 30944],
-) -> Written
+) -> RowsWritten
     requires { ⌜ (end ≤ length (now kinds)) × (end ≤ 1024) × RewritingFits (rewritingBefore (now kinds) (now starts) end) row stream ⌝ }
     ensures { λ r. ⌜ Wrote (rewritingBefore (now (kinds .entry)) (now (starts .entry)) end) row stream (now (table .entry)) (now (table .exit)) r ⌝ }
 {
     if end == 0 {
-        return Written {
+        return RowsWritten {
             row: row,
             stream: stream,
         };
@@ -148,7 +148,7 @@ fn write_rows(
     let last = end - 1;
     let kind = kinds[last];
     if kind < nodes::FIRST_NODE {
-        return Written {
+        return RowsWritten {
             row: row,
             stream: stream,
         };
@@ -205,7 +205,7 @@ fn write_line(
     row: usize,
     stream: usize,
     table: &mut [u16; 30944],
-) -> Written
+) -> RowsWritten
     requires { ⌜ (left < length (now kinds)) × (right < length (now kinds)) × (length (now kinds) ≤ 1024) × (own < row) × RewritingFits (storedLine (now kinds) (now starts) relation left right .adds) row stream ⌝ }
     ensures { λ r. ⌜ WroteLine (storedLine (now (kinds .entry)) (now (starts .entry)) relation left right) own row stream (now (table .entry)) (now (table .exit)) r ⌝ }
 {
@@ -237,7 +237,7 @@ fn write_lines(
     rights: &[u16],
     streams: usize,
     table: &mut [u16; 30944],
-) -> Written
+) -> RowsWritten
     requires { ⌜ HasLines (now kinds) (now relations) (now lefts) (now rights) ⌝ }
     requires { ⌜ LinesHaveRoom (storedLines (now kinds) (now starts) (now relations) (now lefts) (now rights)) (length (now relations)) streams ⌝ }
     ensures { λ r. ⌜ WroteLines (storedLines (now (kinds .entry)) (now (starts .entry)) (now (relations .entry)) (now (lefts .entry)) (now (rights .entry))) 0 (length (now (relations .entry))) streams (now (table .entry)) (now (table .exit)) r ⌝ }
@@ -261,7 +261,7 @@ fn write_lines(
         stream = next.stream;
         j += 1;
     }
-    Written {
+    RowsWritten {
         row: row,
         stream: stream,
     }

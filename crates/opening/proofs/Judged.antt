@@ -16,30 +16,30 @@ use Rattle.sheet.specs.Refusal.{magnitudeBound}
 use Rattle.sheet.specs.Reading.{isBeyond}
 use Rattle.scan.specs.Integer.{noInteger, integerWithin, integerRead}
 use Rattle.arithmetic.proofs.Machine.{held, number-natural, number-negative}
-use Rattle.opening.specs.Start.{startText, isStateBelow, startState, stateOf}
+use Rattle.opening.specs.Start.{startText, isStateBelow, startState, stateBelow}
 
 -- ---- a number
 
-number-state : {n states : ℕ} → n < states → some n ≡ stateOf states (pos n)
+number-state : {n states : ℕ} → n < states → some n ≡ stateBelow states (pos n)
 number-state {n} {states} h = rw (lt-ltb n states h)
 
-no-state : {n states : ℕ} → states ≤ n → none ≡ stateOf states (pos n)
+no-state : {n states : ℕ} → states ≤ n → none ≡ stateBelow states (pos n)
 no-state {n} {states} h = rw (le-ltb n states h)
 
 module _ (z : ℤ) (f : SFits w64 z) (states : ℕ) where
-  pub negative-none : ltZ (held z) (pos 0) ≡ true → none ≡ stateOf states z
-  negative-none e = let k = number-negative z f e in subst (λ x. none ≡ stateOf states x) (sym (k .1)) refl
+  pub negative-none : ltZ (held z) (pos 0) ≡ true → none ≡ stateBelow states z
+  negative-none e = let k = number-negative z f e in subst (λ x. none ≡ stateBelow states x) (sym (k .1)) refl
 
   module _ (e : ltZ (held z) (pos 0) ≡ false) where
-    pub natural-state : natAbs (held z) < states → some (natAbs (held z)) ≡ stateOf states z
-    natural-state h = subst (λ x. some (natAbs (held z)) ≡ stateOf states x) (sym (number-natural z f e)) (number-state h)
+    pub natural-state : natAbs (held z) < states → some (natAbs (held z)) ≡ stateBelow states z
+    natural-state h = subst (λ x. some (natAbs (held z)) ≡ stateBelow states x) (sym (number-natural z f e)) (number-state h)
 
-    pub natural-none : states ≤ natAbs (held z) → none ≡ stateOf states z
-    natural-none h = subst (λ x. none ≡ stateOf states x) (sym (number-natural z f e)) (no-state h)
+    pub natural-none : states ≤ natAbs (held z) → none ≡ stateBelow states z
+    natural-none h = subst (λ x. none ≡ stateBelow states x) (sym (number-natural z f e)) (no-state h)
 
 -- ---- a text
 
-beyond-none : {states : ℕ} (z : ℤ) → states ≤ magnitudeBound → isBeyond z ≡ true → none ≡ stateOf states z
+beyond-none : {states : ℕ} (z : ℤ) → states ≤ magnitudeBound → isBeyond z ≡ true → none ≡ stateBelow states z
 beyond-none {states} (pos n) h e = no-state {n = n} {states = states} (omega (arith, ltb-true magnitudeBound n e))
 beyond-none (negsuc n) h e = refl
 
@@ -65,12 +65,12 @@ module _ (states : ℕ) (t : Token) where
       by true false p q = not-both q
       by false beyond p q = refl
 
-  pub read-start : integerRead t .ok ≡ true → integerRead t .beyond ≡ false → stateOf states (integerRead t .value) ≡ startState states (some t)
+  pub read-start : integerRead t .ok ≡ true → integerRead t .beyond ≡ false → stateBelow states (integerRead t .value) ≡ startState states (some t)
   unfolding integerRead startState
   read-start e b = by (isInteger t) (isBeyond (integerValue t)) e b
     where
       by : (is beyond : Bool) → cond is (integerWithin beyond (integerValue t)) noInteger .ok ≡ true → cond is (integerWithin beyond (integerValue t)) noInteger .beyond ≡ false
-          → stateOf states (cond is (integerWithin beyond (integerValue t)) noInteger .value) ≡ readAs is (isStateBelow states (integerValue t))
+          → stateBelow states (cond is (integerWithin beyond (integerValue t)) noInteger .value) ≡ readAs is (isStateBelow states (integerValue t))
       by true true p q = not-both (sym q)
       by true false p q = refl
       by false beyond p q = not-both p

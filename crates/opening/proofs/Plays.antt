@@ -21,7 +21,7 @@ use Rattle.records.specs.Line.{ValueLine, malformed, outside, letter, valueLine
 use Rattle.replaying.specs.Replay.{replayHeading, lineThen, outcomeFrom, entered, replayed, replayedLines}
 use Rattle.opening.specs.declared.OpenedTable.{OpenedTable}
 use Rattle.opening.specs.Start.{startState}
-use Rattle.opening.specs.Plays.{Plays, refusedSheet, noStart, played, HasOutput}
+use Rattle.opening.specs.Plays.{Plays, refusedSheet, noStart, played, HasReplayOutput}
 use Rattle.opening.specs.Printing.{PlaysOpened}
 use Rattle.opening.specs.Opens.{openedAs, OpensTable, OpensTable.refusedSheet as givesRefusal, OpensTable.noStart as givesNoStart, OpensTable.opened as opened}
 
@@ -76,14 +76,14 @@ module _ {text : List ℕ} (start : Option Token) where
 
 -- ---- and always one
 
-pub plays-total : (text recordText : List ℕ) (start : Option Token) → HasOutput text recordText start
+pub plays-total : (text recordText : List ℕ) (start : Option Token) → HasReplayOutput text recordText start
 plays-total text recordText start = go (lent-total text)
   where
-    by : {s : Sheet} {a : CompileAnswer} {t : Tables} → CompiledLent text s a t → a .refusal ≡ 0 → (o : Option ℕ) → startState (a .states) start ≡ o → HasOutput text recordText start
+    by : {s : Sheet} {a : CompileAnswer} {t : Tables} → CompiledLent text s a t → a .refusal ≡ 0 → (o : Option ℕ) → startState (a .states) start ≡ o → HasReplayOutput text recordText start
     by c z none e = record { bytes = _; plays = noStart c z e }
     by c z (some state) e = record { bytes = _; plays = played c z e }
 
-    go : HasOutcome text → HasOutput text recordText start
+    go : HasOutcome text → HasReplayOutput text recordText start
     go (isRefused r) = record { bytes = _; plays = refusedSheet r }
     go (isCompiled {a = a} c z) = by c z (startState (a .states) start) refl
 

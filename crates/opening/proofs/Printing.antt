@@ -13,7 +13,7 @@ use Rattle.text.specs.Lines.{allChunks}
 use Rattle.meaning.specs.Expression.{Sheet}
 use Rattle.sheet.specs.Accepted.{Accepted}
 use Rattle.sheet.proofs.Accepted.{accepted-facts}
-use Rattle.reader.specs.declared.Sheet.{Sheet as StoredSheet}
+use Rattle.reader.specs.declared.StoredSheet.{StoredSheet}
 use Rattle.reader.specs.Stored.{nameBytes, nameLengths, storedSheet}
 use Rattle.situations.proofs.Stored.{IsPadded, part-held, held-lows, held-highs}
 use Rattle.replaying.specs.Replay.{replayedLines}

@@ -22,6 +22,6 @@ pub data Plays (sheetText recordText : List ℕ) (start : Option Token) : List �
       → Plays sheetText recordText start (replayedLines (s .streams) (t .entries) state (lines recordText))
 
 -- There is an outcome.
-pub record HasOutput (sheetText recordText : List ℕ) (start : Option Token) : Type 0 where
+pub record HasReplayOutput (sheetText recordText : List ℕ) (start : Option Token) : Type 0 where
   pub bytes : List ℕ
   pub plays : Plays sheetText recordText start bytes

@@ -8,10 +8,10 @@ use Rattle.text.specs.Bytes.{Token, lines}
 use Rattle.text.specs.Lines.{runChunks}
 use Rattle.meaning.specs.Expression.{Sheet}
 use Rattle.sheet.specs.Refusal.{sheet, AnswerTo}
-use Rattle.reader.specs.declared.Sheet.{Sheet as StoredSheet}
+use Rattle.reader.specs.declared.StoredSheet.{StoredSheet}
 use Rattle.reader.specs.Stored.{storedSheet}
 use Rattle.replaying.specs.Replay.{replayedLines}
-use Rattle.replaying.specs.Machine.{PlayedSheet, playedSheet, playing, startReplay, playByte, lastLine, closed}
+use Rattle.replaying.specs.Machine.{PlayedSheet, playedSheet, playing, startReplay, playByte, lastLine, closedReplay}
 use Rattle.opening.specs.declared.OpenedTable.{OpenedTable}
 use Rattle.opening.specs.Plays.{Plays}
 
@@ -23,7 +23,7 @@ passedSheet x entries =
 
 -- What the calls print for the chunks of a record, from a state, with its end.
 abbrev pub printedBy : PlayedSheet → ℕ → List (List ℕ) → List ℕ
-printedBy k state chunks = closed k (lastLine k (runChunks (playByte k) (playing (startReplay state) []) chunks)) .printed
+printedBy k state chunks = closedReplay k (lastLine k (runChunks (playByte k) (playing (startReplay state) []) chunks)) .printed
 
 -- The stored sheet is that of the text, and each record is played along the entries from the state.
 pub record PlaysOpened (text : List ℕ) (start : Option Token) (r : OpenedTable) (entries : List ℕ) : Type 0 where

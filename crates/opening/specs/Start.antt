@@ -28,8 +28,8 @@ startState states (some t) = cond (isInteger t && isStateBelow states (integerVa
 -- ---- a start as it is judged
 
 -- The state that a number is, or none.
-abbrev pub stateOf : ℕ → ℤ → Option ℕ
-stateOf states value = cond (isStateBelow states value) (some (natAbs value)) none
+abbrev pub stateBelow : ℕ → ℤ → Option ℕ
+stateBelow states value = cond (isStateBelow states value) (some (natAbs value)) none
 
 -- Whether there is a state, and which one; 0 where there is none.
 abbrev pub judged : Option ℕ → Start

@@ -3,7 +3,7 @@ ghost use mathlib.Core.Path.{_≡_};
 ghost use mathlib.Core.Option.{none};
 ghost use Prim.Native.Nat.{_≤_};
 ghost use Rattle.sheet.specs.Refusal.{magnitudeBound};
-ghost use Rattle.opening.specs.Start.{startText, startState, stateOf, judged};
+ghost use Rattle.opening.specs.Start.{startText, startState, stateBelow, judged};
 ghost use Rattle.opening.specs.Opens.{OpensTable};
 
 // The refusal's number, or 0 with the number of states and the state to start from; and the sheet as it is read.
@@ -11,7 +11,7 @@ pub struct OpenedTable {
     pub refusal: u32,
     pub states: u32,
     pub state: u32,
-    pub sheet: reader::Sheet,
+    pub sheet: reader::StoredSheet,
 }
 
 // Whether a start is a state of the table, and the state, or 0.
@@ -31,7 +31,7 @@ fn no_start() -> Start
 
 // The state that a number is, of so many states.
 fn state_of(value: i64, states: u32) -> Start
-    ensures { λ r. ⌜ r ≡ judged (stateOf states value) ⌝ }
+    ensures { λ r. ⌜ r ≡ judged (stateBelow states value) ⌝ }
 {
     if value < 0 {
         return no_start();

@@ -33,7 +33,7 @@ use Rattle.outcome.proofs.StateCount.{states-at-most-situations}
 
 -- ---- the rows that the tables hold fit them
 
-fewest-first : (t : LentTable) (ts : List LentTable) → fewestRows t ts ≤ rowsHeld t
+pub fewest-first : (t : LentTable) (ts : List LentTable) → fewestRows t ts ≤ rowsHeld t
 fewest-first t [] = omega arith
 fewest-first t (u ∷ us) = omega arith
 
@@ -143,7 +143,7 @@ module _ {Sol : Word → Type 0} {k : ℕ} {X : Type 0} {Counted : X → Type 0}
       go (no h) = few (omega arith) (counts rows)
 
 -- The words of a sheet, whose situations are counted.
-sheet-total : (s : Sheet) (room : Room) → HasWordsOutcome (SolutionWord s) (letterCount (s .streams)) (IsSituation s) room
+pub sheet-total : (s : Sheet) (room : Room) → HasWordsOutcome (SolutionWord s) (letterCount (s .streams)) (IsSituation s) room
 sheet-total s room = words-total room (counted-or-more s) (λ m c h. settled c (table-or-no-word Situation-discrete s c (omega (arith, h))))
   where
     settled : {m : ℕ} → SituationCount s m → HasTable (SolutionWord s) (letterCount (s .streams)) ⊎ NoSolution (letterCount (s .streams)) (SolutionWord s)

@@ -5,6 +5,9 @@ pub mod SituationGraph
 pub mod CompileUnique
 pub mod StateCount
 pub mod CompileTotal
+pub mod Leaves
+pub mod ForceUnique
+pub mod ForceTotal
 pub mod NormalForm
 pub mod NoRows
 pub mod AcceptedCompile

@@ -1,3 +1,4 @@
 pub mod Room
 pub mod Compile
+pub mod Force
 pub mod NormalForm

@@ -29,6 +29,12 @@ use Rattle.pages.proofs.Refused.{given-text, short-or-refused}
 -- ---- the whole text
 
 module _ (p : Printout) where
+  pub heading : (ss : List Stream) (moreNames moreLengths : List ℕ) → p .names ≡ joinOver eightBytes ss ++ moreNames → p .lengths ≡ map (λ x. length (x .name)) ss ++ moreLengths → p .lows ≡ lowsOf ss
+      → tableLine p 0 ≡ headingLine (storedNames (joinOver eightBytes ss ++ moreNames) (map (λ x. length (x .name)) ss ++ moreLengths) (min (length ss) 8))
+  heading ss moreNames moreLengths names lengths lows =
+      let n : min (length (p .lows)) 8 ≡ min (length ss) 8 = ap (λ l. min (length l) 8) lows ∙ ap (λ k. min k 8) (length-map ss (λ s. s .range .low)) in
+      ap headingLine (ap₂ (λ a b. storedNames a b (min (length (p .lows)) 8)) names lengths ∙ ap (storedNames (joinOver eightBytes ss ++ moreNames) (map (λ x. length (x .name)) ss ++ moreLengths)) n)
+
   module _ (given : p .refusal ≡ 0) {ss : List Stream} (few : length ss ≤ 8) (bounded : letterCount ss ≤ letterBound) (short : ShortNames ss) (moreNames moreLengths : List ℕ)
       (names : p .names ≡ joinOver eightBytes ss ++ moreNames) (lengths : p .lengths ≡ map (λ x. length (x .name)) ss ++ moreLengths) (lows : p .lows ≡ lowsOf ss) (highs : p .highs ≡ highsOf ss)
       (whole : p .states * letterCount ss ≤ length (p .entries)) where
@@ -38,24 +44,19 @@ module _ (p : Printout) where
         let d : cutCount (letterCount (described (p .lows) (p .highs))) ≡ letterCount ss = ap cutCount c ∙ omega arith in
         ap (λ n. min (p .states * n) (length (p .entries))) d ∙ omega arith
 
-    heading : tableLine p 0 ≡ headingLine (storedNames (joinOver eightBytes ss ++ moreNames) (map (λ x. length (x .name)) ss ++ moreLengths) (min (length ss) 8))
-    heading =
-        let n : min (length (p .lows)) 8 ≡ min (length ss) 8 = ap (λ l. min (length l) 8) lows ∙ ap (λ k. min k 8) (length-map ss (λ s. s .range .low)) in
-        ap headingLine (ap₂ (λ a b. storedNames a b (min (length (p .lows)) 8)) names lengths ∙ ap (storedNames (joinOver eightBytes ss ++ moreNames) (map (λ x. length (x .name)) ss ++ moreLengths)) n)
-
     -- "a heading with the names, then a line for each entry that is not 65,535, by state and letter"
     pub table-text : outputText p ≡ printed ss (p .states) (p .entries) (p .finals)
     table-text =
         ap (λ n. linesFrom (outputAt p) 0 (placesOr (p .refusal) (suc n))) used
         ∙ given-text (p .refusal) (tableLine p) given (p .states * letterCount ss)
-        ∙ ap₂ _++_ heading (ap₂ (λ l h. linesFrom (placeText l h (p .entries) (p .finals)) 0 (p .states * letterCount ss)) lows highs)
+        ∙ ap₂ _++_ (heading ss moreNames moreLengths names lengths lows) (ap₂ (λ l h. linesFrom (placeText l h (p .entries) (p .finals)) 0 (p .states * letterCount ss)) lows highs)
         ∙ printed-whole ss (p .entries) (p .finals) few bounded short moreNames moreLengths (p .states)
 
 -- ---- how long a line is
 
 module _ (p : Printout) (refusal : p .refusal < 4294967296) (lows : AllFit (p .lows)) (highs : AllFit (p .highs)) (entries : (i : ℕ) → getD (p .entries) i 0 < 65536)
     (finals : (i : ℕ) → getD (p .finals) i 0 < 256) (size : length (p .entries) < 18446744073709551616) where
-  place-short : (place : ℕ) → length (placeText (p .lows) (p .highs) (p .entries) (p .finals) place) ≤ lineRoom
+  pub place-short : (place : ℕ) → length (placeText (p .lows) (p .highs) (p .entries) (p .finals) place) ≤ lineRoom
   place-short place = by (ltb place (length (p .entries))) refl
     where
       by : (t : Bool) → ltb place (length (p .entries)) ≡ t → length (placeText (p .lows) (p .highs) (p .entries) (p .finals) place) ≤ lineRoom

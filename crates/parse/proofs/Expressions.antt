@@ -21,7 +21,7 @@ use Rattle.parse.specs.declared.NumberedToken.{NumberedToken}
 use Rattle.parse.specs.declared.Read.{Read}
 use Rattle.parse.specs.Numbered.{TokenNumbered}
 use Rattle.parse.specs.Stored.{store}
-use Rattle.parse.specs.Reading.{StoresTree, TreeRead, Reading}
+use Rattle.parse.specs.Reading.{StoresTree, TreeRead, PartReading}
 use Rattle.parse.proofs.Trees.{stores-joined, stores-conditional}
 use Rattle.parse.proofs.Readers.{tokenBytes, word-is, word-is-not, word-number, expression-part, after-ends, Operator-at, part-empty}
 
@@ -33,7 +33,7 @@ expect-first w e = ap (expect w) e ∙ same w
 
 module _ (names : List Token) (text : List ℕ) (rest : ℕ → List Token) (at : ℕ) where
   -- An expression that begins with `if` is what stands after it.
-  pub if-reading : {j : ℕ} {old new : Nodes} {n f : ℕ} {r : Read} → j ≡ at + 1 → rest at ≡ bytesOf "if" ∷ rest j → Reading (λ d. conditionalBy (partTo names d)) rest j old new n f r → Reading (λ d. expressionBy (partTo names d)) rest at old new n f r
+  pub if-reading : {j : ℕ} {old new : Nodes} {n f : ℕ} {r : Read} → j ≡ at + 1 → rest at ≡ bytesOf "if" ∷ rest j → PartReading (λ d. conditionalBy (partTo names d)) rest j old new n f r → PartReading (λ d. expressionBy (partTo names d)) rest at old new n f r
   unfolding expressionBy
   if-reading q e k =
       record {

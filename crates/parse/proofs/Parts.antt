@@ -25,7 +25,7 @@ use Rattle.parse.specs.declared.Read.{Read}
 use Rattle.parse.specs.Stored.{store, SameBelow}
 use Rattle.parse.specs.Bounded.{boundedExpression}
 use Rattle.parse.specs.Numbered.{tokensFrom, Placed, TokenNumbered}
-use Rattle.parse.specs.Reading.{StoresTree, TreeRead, Reading, Leaf, LeafReading, firstsInside, prefixValue}
+use Rattle.parse.specs.Reading.{StoresTree, TreeRead, PartReading, Leaf, LeafReading, firstsInside, prefixValue}
 use Rattle.parse.proofs.Store.{below-store}
 use Rattle.parse.proofs.Trees.{stores-prefix}
 use Rattle.parse.proofs.Numbers.{token-within, token-number, placed-later, left-stored, inner-placed, inner-first, closing-token}
@@ -33,11 +33,11 @@ use Rattle.parse.proofs.Readers.{same-word, tokenBytes, part-by, part-p
 
 module _ {R : ℕ → Reader} {rest : ℕ → List Token} {at : ℕ} {old new : Nodes} {n f : ℕ} {r : Read} where
   -- Nothing was read.
-  pub reading-missing : r .ok ≡ false → ((d : ℕ) → length (rest at) ≤ d → R d (rest at) ≡ none) → SameBelow n new old → Reading R rest at old new n f r
+  pub reading-missing : r .ok ≡ false → ((d : ℕ) → length (rest at) ≤ d → R d (rest at) ≡ none) → SameBelow n new old → PartReading R rest at old new n f r
   reading-missing e h k = record { found = λ t. absurd (true≢false (sym t ∙ e)); missing = λ t. h; kept = k }
 
   -- A tree was read.
-  pub reading-found : r .ok ≡ true → TreeRead R rest at old new n f r → Reading R rest at old new n f r
+  pub reading-found : r .ok ≡ true → TreeRead R rest at old new n f r → PartReading R rest at old new n f r
   reading-found e h =
       record {
         found = λ t. h;
@@ -88,7 +88,7 @@ module _ (names : List Token) (rest : ℕ → List Token) {at next : ℕ} {w : T
   prefix-missing p h = part-prefix-none names e (p .is) h
 
   -- An integer or a name.
-  pub leaf-reading : {old new : Nodes} {n f : ℕ} {r : Read} → prefixOf w ≡ none → sameBytes (bytesOf "(") w ≡ false → LeafReading names w next old new n f r → Reading (partTo names) rest at old new n f r
+  pub leaf-reading : {old new : Nodes} {n f : ℕ} {r : Read} → prefixOf w ≡ none → sameBytes (bytesOf "(") w ≡ false → LeafReading names w next old new n f r → PartReading (partTo names) rest at old new n f r
   leaf-reading {old} {new} {n} {f} {r} p b l = record { found = found; missing = λ t. let (i, s) = l .missing t in part-none names e p i s b; kept = l .kept }
     where
       found : r .ok ≡ true → TreeRead (partTo names) rest at old new n f r

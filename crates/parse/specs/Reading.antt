@@ -47,7 +47,7 @@ pub record TreeRead (R : ℕ → Reader) (rest : ℕ → List Token) (at : ℕ) 
   pub roomFirsts : r .firsts + length (rest (r .next)) ≤ f + length (rest at)
 
 -- What a reader's answer says of the tokens from the number `at` on. Where nothing was read, what stands in the arrays from n on is left open.
-pub record Reading (R : ℕ → Reader) (rest : ℕ → List Token) (at : ℕ) (old new : Nodes) (n f : ℕ) (r : Read) : Type 0 where
+pub record PartReading (R : ℕ → Reader) (rest : ℕ → List Token) (at : ℕ) (old new : Nodes) (n f : ℕ) (r : Read) : Type 0 where
   pub found : r .ok ≡ true → TreeRead R rest at old new n f r
   pub missing : r .ok ≡ false → (d : ℕ) → length (rest at) ≤ d → R d (rest at) ≡ none
   pub kept : SameBelow n new old

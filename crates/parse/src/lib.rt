@@ -17,7 +17,7 @@ ghost use Rattle.sheet.specs.Parser.{partTo, conditionalBy, expressionBy};
 ghost use Rattle.parse.specs.Stored.{store};
 ghost use Rattle.parse.specs.Numbered.{tokensFrom, Placed, TokenNumbered};
 ghost use Rattle.parse.specs.Prefixes.{firstsBefore, Passes, ReadLeads};
-ghost use Rattle.parse.specs.Reading.{LineFits, Reading, LeafReading, firstsInside, prefixValue, unread, Fits, StartsOutcome, ConstraintOutcome};
+ghost use Rattle.parse.specs.Reading.{LineFits, PartReading, LeafReading, firstsInside, prefixValue, unread, Fits, StartsOutcome, ConstraintOutcome};
 
 // What reading a part or an expression gives: whether there is one, the number of the token after it, the numbers of nodes and of `first`s
 // stored so far, and whether an integer in it is beyond the magnitude bound.
@@ -302,7 +302,7 @@ fn part(
 ) -> Read
     requires { ⌜ Placed (now text) origin (now «token_starts») at ⌝ }
     requires { ⌜ LineFits (tokensFrom (now text) origin (now «token_starts») at) nodes firsts ⌝ }
-    ensures { λ r. ⌜ Reading (partTo (tokens (now (names .entry)))) (tokensFrom (now (text .entry)) origin (now («token_starts» .entry))) at (stored (now (kinds .entry)) (now (values .entry)) (now (starts .entry))) (stored (now (kinds .exit)) (now (values .exit)) (now (starts .exit))) nodes firsts r ⌝ }
+    ensures { λ r. ⌜ PartReading (partTo (tokens (now (names .entry)))) (tokensFrom (now (text .entry)) origin (now («token_starts» .entry))) at (stored (now (kinds .entry)) (now (values .entry)) (now (starts .entry))) (stored (now (kinds .exit)) (now (values .exit)) (now (starts .exit))) nodes firsts r ⌝ }
 {
     let token = token_at(text, origin, token_starts, at);
     let start = token.start;
@@ -406,7 +406,7 @@ fn conditional(
 ) -> Read
     requires { ⌜ Placed (now text) origin (now «token_starts») at ⌝ }
     requires { ⌜ LineFits (tokensFrom (now text) origin (now «token_starts») at) nodes firsts ⌝ }
-    ensures { λ r. ⌜ Reading (λ d. conditionalBy (partTo (tokens (now (names .entry))) d)) (tokensFrom (now (text .entry)) origin (now («token_starts» .entry))) at (stored (now (kinds .entry)) (now (values .entry)) (now (starts .entry))) (stored (now (kinds .exit)) (now (values .exit)) (now (starts .exit))) nodes firsts r ⌝ }
+    ensures { λ r. ⌜ PartReading (λ d. conditionalBy (partTo (tokens (now (names .entry))) d)) (tokensFrom (now (text .entry)) origin (now («token_starts» .entry))) at (stored (now (kinds .entry)) (now (values .entry)) (now (starts .entry))) (stored (now (kinds .exit)) (now (values .exit)) (now (starts .exit))) nodes firsts r ⌝ }
 {
     let condition = part(
         names,
@@ -491,7 +491,7 @@ fn expression(
 ) -> Read
     requires { ⌜ Placed (now text) origin (now «token_starts») at ⌝ }
     requires { ⌜ LineFits (tokensFrom (now text) origin (now «token_starts») at) nodes firsts ⌝ }
-    ensures { λ r. ⌜ Reading (λ d. expressionBy (partTo (tokens (now (names .entry))) d)) (tokensFrom (now (text .entry)) origin (now («token_starts» .entry))) at (stored (now (kinds .entry)) (now (values .entry)) (now (starts .entry))) (stored (now (kinds .exit)) (now (values .exit)) (now (starts .exit))) nodes firsts r ⌝ }
+    ensures { λ r. ⌜ PartReading (λ d. expressionBy (partTo (tokens (now (names .entry))) d)) (tokensFrom (now (text .entry)) origin (now («token_starts» .entry))) at (stored (now (kinds .entry)) (now (values .entry)) (now (starts .entry))) (stored (now (kinds .exit)) (now (values .exit)) (now (starts .exit))) nodes firsts r ⌝ }
 {
     let token = token_at(text, origin, token_starts, at);
     let start = token.start;

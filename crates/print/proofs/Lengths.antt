@@ -22,7 +22,8 @@ use Rattle.letters.specs.Described.{described}
 use Rattle.letters.proofs.Above.{between-fits}
 use Rattle.letters.proofs.Streams.{letter-reflects}
 use Rattle.print.specs.Text.{digits, decimal, spaced, line, tokensLine, headingLine, entryLine, refusalLine}
-use Rattle.print.specs.Table.{placeText, storedName, storedNames, AllFit}
+use Rattle.sheet.specs.Names.{nameIn}
+use Rattle.print.specs.Table.{placeText, storedNames, AllFit}
 use Rattle.print.proofs.Decimal.{digits-one, digits-more}
 use Rattle.print.proofs.Lines.{spaced-more}
 use Rattle.print.proofs.Places.{place-cases}
@@ -86,7 +87,7 @@ names-length : (names lengths : List ℕ) (k : ℕ) → length (spaced (storedNa
 unfolding storedNames
 names-length names lengths zero = omega arith
 names-length names lengths (suc k) =
-    let name = storedName names lengths k in
+    let name = nameIn names lengths k in
     let h = names-length names lengths k in
     let e = ap length (spaced-more (storedNames names lengths k) name) in
     let a = length-append (spaced (storedNames names lengths k)) (name ++ (32 ∷ [])) in

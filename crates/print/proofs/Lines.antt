@@ -4,19 +4,18 @@ use native.Mathlib.Omega.{arith}
 use mathlib.Core.Path.{_≡_, refl, sym, _∙_, ap}
 use mathlib.Core.Bool.{Bool, true, false}
 use mathlib.Core.List.{List, [], _∷_, _++_, map, map-append, append-assoc}
-use lib.Dec.{leb}
 use lib.IntN.{ℤ, pos, natAbs}
-use lib.ListN.{length, getD, take, drop, length-drop, drop-of-length-le}
-use lib.Seq.{take-suc, take-all, take-nil}
+use lib.ListN.{length, getD, take}
+use lib.Seq.{take-suc, take-all}
 use lib.Signed.{ltZ}
-use borrow.Author.Tests.{leb-true, leb-false}
 use mir.Syntax.{w64}
 use mir.Val.{SFits}
 use mir.ValLaws.{toZ-ofZ}
 use Rattle.text.specs.Bytes.{Token, bytesOf}
+use Rattle.sheet.specs.Names.{nameIn}
 use Rattle.arithmetic.proofs.Machine.{held, number-negative, number-natural}
 use Rattle.print.specs.Text.{digits, decimal, spaced, line, tokensLine, headingLine, entryLine, refusalLine}
-use Rattle.print.specs.Table.{storedName, storedNames}
+use Rattle.print.specs.Table.{storedNames}
 
 -- ---- one integer
 
@@ -47,38 +46,14 @@ values-more vs i h =
     ap (λ l. spaced (map decimal l)) (take-suc vs i (pos 0) h) ∙ ap spaced (map-append decimal (take i vs) (getD vs i (pos 0) ∷ []))
     ∙ spaced-more (map decimal (take i vs)) (decimal (getD vs i (pos 0)))
 
--- ---- a part of a list that may reach beyond it
-
-pub clipped : (l : List ℕ) (s k : ℕ) {a e : ℕ} → a ≡ min s (length l) → e ≡ min (s + k) (length l) → take (e - a) (drop a l) ≡ take k (drop s l)
-clipped l s k {a} {e} p q = by (leb s (length l)) refl
-  where
-    inside : s ≤ length l → (t : Bool) → leb (s + k) (length l) ≡ t → take (e - a) (drop a l) ≡ take k (drop s l)
-    inside h true x =
-        let y = leb-true (s + k) (length l) x in
-        let u : e - a ≡ k = omega arith in
-        let v : a ≡ s = omega arith in
-        ap (λ n. take n (drop a l)) u ∙ ap (λ n. take k (drop n l)) v
-    inside h false x =
-        let y = leb-false (s + k) (length l) x in
-        let v : a ≡ s = omega arith in
-        let d = length-drop a l in
-        let d′ = length-drop s l in
-        take-all (e - a) (drop a l) (omega arith) ∙ ap (λ n. drop n l) v ∙ sym (take-all k (drop s l) (omega arith))
-
-    by : (t : Bool) → leb s (length l) ≡ t → take (e - a) (drop a l) ≡ take k (drop s l)
-    by true x = inside (leb-true s (length l) x) (leb (s + k) (length l)) refl
-    by false x =
-        let y = leb-false s (length l) x in
-        ap (take (e - a)) (drop-of-length-le l {i = a} (omega arith)) ∙ take-nil (e - a) ∙ sym (ap (take k) (drop-of-length-le l {i = s} (omega arith)) ∙ take-nil k)
-
 -- ---- the lines
 
 -- The names but the last, each with a space, the last one and byte 10.
 pub names-parts : (names lengths : List ℕ) (i : ℕ)
-    → (spaced (storedNames names lengths i) ++ storedName names lengths i) ++ (10 ∷ []) ≡ tokensLine (storedNames names lengths (suc i))
+    → (spaced (storedNames names lengths i) ++ nameIn names lengths i) ++ (10 ∷ []) ≡ tokensLine (storedNames names lengths (suc i))
 unfolding storedNames
 names-parts names lengths i =
-    append-assoc (spaced (storedNames names lengths i)) (storedName names lengths i) (10 ∷ []) ∙ sym (tokens-last (storedNames names lengths i) (storedName names lengths i))
+    append-assoc (spaced (storedNames names lengths i)) (nameIn names lengths i) (10 ∷ []) ∙ sym (tokens-last (storedNames names lengths i) (nameIn names lengths i))
 
 pub no-numbers : (vs : List ℤ) → length vs ≡ 0 → tokensLine (map decimal vs) ≡ 10 ∷ []
 no-numbers [] h = refl

@@ -31,6 +31,13 @@ has-letter ss few bounded letter h =
     let n = length-unnamed ss in
     to-true (letter-reflects (unnamed ss) letter 8) (record { few = omega arith; known = omega arith; fits = omega arith })
 
+-- The heading of the stored names is that of the names.
+pub heading-stored : (ss : List Stream) → length ss ≤ 8 → ShortNames ss → (moreNames moreLengths : List ℕ)
+    → headingLine (storedNames (joinOver eightBytes ss ++ moreNames) (map (λ x. length (x .name)) ss ++ moreLengths) (min (length ss) 8)) ≡ headingLine (map (λ x. x .name) ss)
+heading-stored ss few short moreNames moreLengths =
+    let e : min (length ss) 8 ≡ length ss = omega arith in
+    ap headingLine (ap (storedNames (joinOver eightBytes ss ++ moreNames) (map (λ x. length (x .name)) ss ++ moreLengths)) e ∙ stored-names moreNames moreLengths ss short)
+
 module _ (ss : List Stream) (entries finals : List ℕ) (few : length ss ≤ 8) (bounded : letterCount ss ≤ letterBound) where
   -- The streams' names have no part in an entry's text.
   entry-unnamed : (state letter : ℕ) → entryText (unnamed ss) entries finals state letter ≡ entryText ss entries finals state letter
@@ -38,7 +45,7 @@ module _ (ss : List Stream) (entries finals : List ℕ) (few : length ss ≤ 8) 
       ap₂ (λ n l. cond (eqb (getD entries (state * n + letter) noState) noState) [] (entryLine state (getD finals state 0) l (getD entries (state * n + letter) noState))) (letterCount-unnamed ss)
       (letterOf-unnamed ss letter)
 
-  place-text : (state letter : ℕ) → letter < letterCount ss
+  pub place-text : (state letter : ℕ) → letter < letterCount ss
       → placeText (lowsOf ss) (highsOf ss) entries finals (state * letterCount ss + letter) ≡ entryText ss entries finals state letter
   unfolding placeText
   place-text state letter h =
@@ -72,10 +79,7 @@ module _ (ss : List Stream) (entries finals : List ℕ) (few : length ss ≤ 8) 
       → headingLine (storedNames (joinOver eightBytes ss ++ moreNames) (map (λ x. length (x .name)) ss ++ moreLengths) (min (length ss) 8)) ++ upTo (states * letterCount ss)
       ≡ printed ss states entries finals
   unfolding printed
-  printed-whole short moreNames moreLengths states =
-      let e : min (length ss) 8 ≡ length ss = omega arith in
-      ap₂ (λ l t. headingLine l ++ t)
-      (ap (storedNames (joinOver eightBytes ss ++ moreNames) (map (λ x. length (x .name)) ss ++ moreLengths)) e ∙ stored-names moreNames moreLengths ss short) (table-places states)
+  printed-whole short moreNames moreLengths states = ap₂ _++_ (heading-stored ss few short moreNames moreLengths) (table-places states)
 
 -- What stands behind the rows of the states has no part in the text.
 module _ (ss : List Stream) (entries finals : List ℕ) {states m n : ℕ} (fits : states * letterCount ss ≤ m) (fits′ : states ≤ n) where

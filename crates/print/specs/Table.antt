@@ -1,16 +1,17 @@
 -- The text of a table (document 01, "Sheets with their answers", P1).
-use Prim.Native.Nat.{ℕ, zero, suc, _+_, _*_, _/_, _%_, min}
+use Prim.Native.Nat.{ℕ, zero, suc, _+_, _*_, _/_, _%_}
 use mathlib.Core.Bool.{cond}
 use mathlib.Core.List.{List, [], _∷_, _++_, map}
 use lib.Dec.{eqb}
 use lib.IntN.{ℤ}
-use lib.ListN.{getD, take, drop}
+use lib.ListN.{getD}
 use mir.Syntax.{w64}
 use mir.Val.{SFits}
 use Rattle.text.specs.Bytes.{Token}
 use Rattle.meaning.specs.Expression.{Stream}
 use Rattle.meaning.specs.Letter.{letterCount, letterOf}
 use Rattle.automaton.specs.Table.{noState}
+use Rattle.sheet.specs.Names.{nameIn}
 use Rattle.letters.specs.Described.{described, hasLetter}
 use Rattle.print.specs.Text.{headingLine, entryLine}
 
@@ -47,13 +48,10 @@ unfoldable pub linesFrom : (ℕ → List ℕ) → ℕ → ℕ → List ℕ
 linesFrom line from zero = []
 linesFrom line from (suc n) = linesFrom line from n ++ line (from + n)
 
--- A name that is stored in the first of eight bytes: as many as its length says, or all that there are.
-abbrev pub storedName : List ℕ → List ℕ → ℕ → Token
-storedName names lengths i = take (min (getD lengths i 0) 8) (drop (i * 8) names)
-
+-- The names that are stored in eight bytes each, so many of them.
 unfoldable pub storedNames : List ℕ → List ℕ → ℕ → List Token
 storedNames names lengths zero = []
-storedNames names lengths (suc i) = storedNames names lengths i ++ (storedName names lengths i ∷ [])
+storedNames names lengths (suc i) = storedNames names lengths i ++ (nameIn names lengths i ∷ [])
 
 -- The values are numbers of the machine, so that each has at most 20 bytes in decimal.
 abbrev pub AllFit : List ℤ → Type 0

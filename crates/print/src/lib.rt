@@ -9,7 +9,8 @@ ghost use lib.ListN.{length, getD};
 ghost use lib.Seq.{sets};
 ghost use Rattle.print.specs.Append.{Appends};
 ghost use Rattle.print.specs.Text.{digits, decimal, spaced, line, tokensLine, headingLine, entryLine, refusalLine};
-ghost use Rattle.print.specs.Table.{placeText, storedName, storedNames};
+ghost use Rattle.print.specs.Table.{placeText, storedNames};
+ghost use Rattle.sheet.specs.Names.{nameIn};
 
 // ---- pieces of a line, each from the place where the last one ended
 
@@ -145,7 +146,7 @@ fn byte_at(list: &[u8], i: usize) -> u8
 // A stored name.
 fn append_stored(out: &mut [u8], at: usize, names: &[u8], lengths: &[u8], i: usize) -> usize
     requires { ⌜ (at ≤ suc (length (now out))) × (i < 8) ⌝ }
-    ensures { λ r. ⌜ Appends at (storedName (now (names .entry)) (now (lengths .entry)) i) (now (out .entry)) (now (out .exit)) r ⌝ }
+    ensures { λ r. ⌜ Appends at (nameIn (now (names .entry)) (now (lengths .entry)) i) (now (out .entry)) (now (out .exit)) r ⌝ }
 {
     let length = fewer(byte_at(lengths, i) as usize, 8);
     let start = fewer(i * 8, names.len());
@@ -156,7 +157,7 @@ fn append_stored(out: &mut [u8], at: usize, names: &[u8], lengths: &[u8], i: usi
 // A stored name and a space.
 fn append_name(out: &mut [u8], at: usize, names: &[u8], lengths: &[u8], i: usize) -> usize
     requires { ⌜ (at ≤ suc (length (now out))) × (i < 8) ⌝ }
-    ensures { λ r. ⌜ Appends at (storedName (now (names .entry)) (now (lengths .entry)) i ++ (32 ∷ [])) (now (out .entry)) (now (out .exit)) r ⌝ }
+    ensures { λ r. ⌜ Appends at (nameIn (now (names .entry)) (now (lengths .entry)) i ++ (32 ∷ [])) (now (out .entry)) (now (out .exit)) r ⌝ }
 {
     let to = append_stored(out, at, names, lengths, i);
     append_byte(out, to, 32)

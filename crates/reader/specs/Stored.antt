@@ -13,7 +13,7 @@ use Rattle.nodes.specs.Postfix.{StoredConstraint, allNodes, storedConstraints, 
 use Rattle.nodes.specs.Code.{streamKindCode}
 use Rattle.nodes.specs.FirstPlaces.{allFirstPlaces}
 use Rattle.nodes.specs.Bounds.{lowsOf, highsOf}
-use Rattle.reader.specs.declared.Sheet.{Sheet as StoredSheet}
+use Rattle.reader.specs.declared.StoredSheet.{StoredSheet}
 use Rattle.reader.specs.declared.Reading.{Reading}
 
 -- The list in room for n elements.

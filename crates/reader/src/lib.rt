@@ -22,7 +22,7 @@ ghost use lib.Dec.{eqb};
 ghost use Rattle.text.specs.Bytes.{lines, tokens};
 
 // The stored sheet. Room beyond what is given is zero.
-pub struct Sheet {
+pub struct StoredSheet {
     // streams: eight bytes for each name, the names' lengths, the ranges, and the kinds, 0 for `set` and 1 for `read`
     pub streams: usize,
     pub names: [u8; 64],
@@ -53,7 +53,7 @@ pub struct Sheet {
 // A refusal 1 to 7 with a sheet of zeros, or 0 with the sheet.
 pub struct Reading {
     pub refusal: u32,
-    pub sheet: Sheet,
+    pub sheet: StoredSheet,
 }
 
 // Whether the header lines have the form, how many streams they give, and whether a range is refused.
@@ -113,7 +113,7 @@ fn until_count(relation: u8) -> usize
 fn refused(number: u32) -> Reading
     ensures { λ r. ⌜ r ≡ refusedReading number ⌝ }
 {
-    let sheet = Sheet {
+    let sheet = StoredSheet {
         streams: 0,
         names: [0; 64],
         lengths: [0; 8],
@@ -524,7 +524,7 @@ fn store_sheet(
     }
     let mut first_nodes: [u16; 8] = [0; 8];
     find_firsts(&kinds[..nodes], &values[..nodes], &mut first_nodes);
-    let sheet = Sheet {
+    let sheet = StoredSheet {
         streams: stream_count,
         names: names,
         lengths: lengths,

@@ -1,15 +1,14 @@
 -- A line of names that is read byte by byte passes exactly if its tokens are the sheet's names and no byte is barred: from the laws of tokens
 -- read byte by byte (`text` `Fold`), by induction over the bytes of a token and over the tokens. And the names as the reader stores them.
-use Prim.Native.Nat.{ℕ, zero, suc, _+_, _-_, _*_, _/_, _≤_, _<_, min}
+use Prim.Native.Nat.{ℕ, zero, suc, _+_, _*_, _≤_, _<_, min}
 use native.Mathlib.Omega.{arith}
 use native.Mathlib.Decide.{decLt}
-use native.Mathlib.Nat.{add-div-left}
 use mathlib.Core.Path.{_≡_, refl, sym, _∙_, ap, ap₂}
 use mathlib.Core.Bool.{Bool, true, false, not, cond, _&&_, and-true, and-false, and-assoc, Bool·not-not}
-use mathlib.Core.List.{List, [], _∷_, _++_, map, append-assoc, List·Memᴰ·head, List·Memᴰ·tail}
+use mathlib.Core.List.{List, [], _∷_, _++_, map, append-nil}
 use lib.Dec.{ltb, eqb}
-use lib.ListN.{length, take, drop, getD, replicate, drop-of-length-le, length-append, length-replicate}
-use lib.Seq.{drop-cons, take-append-seam, drop-append-add}
+use lib.ListN.{length, take, drop, getD, drop-of-length-le, length-map, List·getD-eq-default}
+use lib.Seq.{drop-cons}
 use borrow.Author.Tests.{lt-ltb, le-ltb, eq-eqb, ne-eqb}
 use Rattle.basics.proofs.Reflects.{ltb-reflects, reflects-same}
 use Rattle.text.specs.Bytes.{Token, tokens}
@@ -19,10 +18,11 @@ use Rattle.text.proofs.Fold.{line-tokens}
 use Rattle.meaning.specs.Expression.{Stream}
 use Rattle.meaning.specs.Window.{joinOver}
 use Rattle.sheet.specs.Form.{namesOf}
-use Rattle.sheet.specs.Names.{eightBytes, ShortNames}
+use Rattle.sheet.specs.Names.{eightBytes, ShortNames, nameIn}
+use Rattle.sheet.proofs.Names.{name-found}
 use Rattle.records.specs.declared.NameState.{NameState}
 use Rattle.records.specs.Line.{isPlain, sameTokens, isNamesLine}
-use Rattle.records.specs.Machine.{nextCount, wholeName, isByteAt, nameFrom, nameByte, nameEnd, namesStart, namesFrom, namesByte, isWhole, namesEnd}
+use Rattle.records.specs.Machine.{nextCount, isByteAt, nameFrom, nameByte, nameEnd, namesStart, namesFrom, namesByte, isWhole, namesEnd}
 use Rattle.records.proofs.Steps.{reading}
 use Rattle.records.proofs.Plain.{plain-run}
 use Rattle.records.proofs.Counts.{countAfter, count-after}
@@ -108,46 +108,13 @@ module _ (name : ℕ → Token) where
 
 -- ---- the names as they are stored
 
-eight-bytes : (x : Stream) → length (x .name) ≤ 8 → length (eightBytes x) ≡ 8
-eight-bytes x h = simp (length-append, length-replicate) (omega arith)
-
--- Behind the eight bytes of a name.
-module _ (front names : List ℕ) (e : length front ≡ 8) where
-  eighths : (i : ℕ) → ltb (suc i) (length (front ++ names) / 8) ≡ ltb i (length names / 8)
-  eighths i =
-      let d : length (front ++ names) / 8 ≡ length names / 8 + 1 = ap (λ n. n / 8) (length-append front names ∙ ap (λ n. n + length names) e) ∙ add-div-left (length names) {k = 8} (omega arith) in
-      reflects-same (ltb-reflects (suc i) (length (front ++ names) / 8)) (ltb-reflects i (length names / 8)) (λ p. omega arith) (λ p. omega arith)
-
-  behind : (i : ℕ) → drop (suc i * 8) (front ++ names) ≡ drop (i * 8) names
-  behind i =
-      let n : suc i * 8 ≡ length front + i * 8 = omega arith in
-      ap (λ k. drop k (front ++ names)) n ∙ drop-append-add front names (i * 8)
-
-  next-found : (k : ℕ) (lengths : List ℕ) (i : ℕ) → wholeName (front ++ names) (k ∷ lengths) (suc i) ≡ wholeName names lengths i
-  unfolding wholeName
-  next-found k lengths i = ap₂ (λ t l. cond t (take (min (getD lengths i 0) 8) l) []) (eighths i) (behind i)
-
-first-found : (x : Stream) (h : length (x .name) ≤ 8) (names lengths : List ℕ) → wholeName (eightBytes x ++ names) (length (x .name) ∷ lengths) 0 ≡ x .name
-unfolding wholeName
-first-found x h names lengths =
-    let d : length (eightBytes x ++ names) / 8 ≡ length names / 8 + 1 = ap (λ n. n / 8) (length-append (eightBytes x) names ∙ ap (λ n. n + length names) (eight-bytes x h)) ∙ add-div-left (length names) {k = 8} (omega arith) in
-    let n : min (length (x .name)) 8 ≡ length (x .name) = omega arith in
-    ap (λ t. cond t (take (min (length (x .name)) 8) (eightBytes x ++ names)) []) (lt-ltb 0 (length (eightBytes x ++ names) / 8) (omega arith))
-    ∙ ap₂ take n (append-assoc (x .name) (replicate (8 - length (x .name)) 0) names) ∙ take-append-seam (x .name) (replicate (8 - length (x .name)) 0 ++ names)
-
--- In eight bytes for each stream's name, with any bytes behind them, and the lengths of the names, the names are found.
-pub names-found : (ss : List Stream) → ShortNames ss → (rest : List ℕ) (i : ℕ)
-    → wholeName (joinOver eightBytes ss ++ rest) (map (λ x. length (x .name)) ss) i ≡ getD (namesOf ss) i []
-unfolding wholeName
-names-found [] h rest i = by (ltb i (length rest / 8))
+-- In eight bytes for each stream's name, with any bytes behind them, and the lengths of the names, the names are found; no other is.
+pub names-found : (ss : List Stream) → ShortNames ss → (rest : List ℕ) (i : ℕ) → nameIn (joinOver eightBytes ss ++ rest) (map (λ x. length (x .name)) ss) i ≡ getD (namesOf ss) i []
+names-found ss h rest i = by (decLt i (length ss))
   where
-    by : (t : Bool) → _≡_ {A = List ℕ} (cond t [] []) []
-    by true = refl
-    by false = refl
-names-found (x ∷ ss) h rest zero =
-    ap (λ l. wholeName l (length (x .name) ∷ map (λ y. length (y .name)) ss) 0) (append-assoc (eightBytes x) (joinOver eightBytes ss) rest)
-    ∙ first-found x (h x (List·Memᴰ·head refl)) (joinOver eightBytes ss ++ rest) (map (λ y. length (y .name)) ss)
-names-found (x ∷ ss) h rest (suc i) =
-    ap (λ l. wholeName l (length (x .name) ∷ map (λ y. length (y .name)) ss) (suc i)) (append-assoc (eightBytes x) (joinOver eightBytes ss) rest)
-    ∙ next-found (eightBytes x) (joinOver eightBytes ss ++ rest) (eight-bytes x (h x (List·Memᴰ·head refl))) (length (x .name)) (map (λ y. length (y .name)) ss) i
-    ∙ names-found ss (λ y m. h y (List·Memᴰ·tail m)) rest i
+    by : Dec (i < length ss) → nameIn (joinOver eightBytes ss ++ rest) (map (λ x. length (x .name)) ss) i ≡ getD (namesOf ss) i []
+    by (yes l) = ap (λ ns. nameIn (joinOver eightBytes ss ++ rest) ns i) (sym (append-nil (map (λ (x : Stream). length (x .name)) ss))) ∙ name-found rest [] ss h i l
+    by (no l) =
+        let none = List·getD-eq-default (map (λ (x : Stream). length (x .name)) ss) 0 {n = i} (omega (arith, length-map ss (λ x. length (x .name)))) in
+        ap (λ k. take (min k 8) (drop (i * 8) (joinOver eightBytes ss ++ rest))) none
+        ∙ sym (List·getD-eq-default (namesOf ss) [] {n = i} (omega (arith, length-map ss (λ x. x .name))))

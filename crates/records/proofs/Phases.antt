@@ -15,7 +15,7 @@ use Rattle.scan.specs.Integer.{cut, withSign}
 use Rattle.records.specs.declared.Phase.{Phase}
 use Rattle.records.specs.declared.Phase.the-variants.{Empty, Minus, Zero, Digits, MinusDigits, NoInteger}
 use Rattle.records.specs.declared.ValuesState.{ValuesState}
-use Rattle.records.specs.Machine.{digitPhase, nextPhase, endsInteger, isNegative, nextMagnitude, valueFrom, valueByte}
+use Rattle.records.specs.Machine.{digitPhase, nextPhase, endsInteger, isNegative, nextMagnitude, withPhase, valueByte}
 
 -- ---- the phase
 
@@ -125,6 +125,6 @@ magnitude-after (b ∷ l) n =
 
 -- ---- both
 
-pub value-after : (t : List ℕ) (s : ValuesState) → runBytes valueByte s t ≡ valueFrom s (phaseAfter (s .phase) t) (runBytes nextMagnitude (s .magnitude) t)
+pub value-after : (t : List ℕ) (s : ValuesState) → runBytes valueByte s t ≡ withPhase s (phaseAfter (s .phase) t) (runBytes nextMagnitude (s .magnitude) t)
 value-after [] s = refl
 value-after (b ∷ t) s = value-after t (valueByte s b)

@@ -13,12 +13,12 @@ use Rattle.meaning.specs.Expression.{Stream, Sheet}
 use Rattle.meaning.specs.Window.{joinOver}
 use Rattle.sheet.specs.Form.{namesOf}
 use Rattle.sheet.specs.Refusal.{InBounds}
-use Rattle.sheet.specs.Names.{eightBytes, ShortNames}
+use Rattle.sheet.specs.Names.{eightBytes, ShortNames, nameIn}
 use Rattle.sheet.specs.Accepted.{Accepted}
 use Rattle.sheet.proofs.Names.{short-names}
 use Rattle.letters.proofs.Streams.{unnamed, letterCount-unnamed, letterNumber-unnamed, isLetter-unnamed, length-unnamed}
 use Rattle.records.specs.Line.{valueLine, isNamesLine}
-use Rattle.records.specs.Machine.{lineStart, lineByte, lineEnd, endOf, wholeName, namesStart, namesByte, namesEnd}
+use Rattle.records.specs.Machine.{lineStart, lineByte, lineEnd, endOf, namesStart, namesByte, namesEnd}
 use Rattle.records.proofs.Values.{AcceptedRanges, line-read}
 use Rattle.records.proofs.Names.{names-read, names-found}
 
@@ -65,7 +65,7 @@ module _ {s : Sheet} (a : Accepted s) where
 
   module _ (rest : List ℕ) where
     abbrev name : ℕ → Token
-    name = wholeName (joinOver eightBytes streams ++ rest) lengths
+    name = nameIn (joinOver eightBytes streams ++ rest) lengths
 
     -- The line of names, read with the names in eight bytes each, any bytes behind them, and their lengths.
     pub accepted-names : (l : List ℕ) → namesEnd name (length lengths) (runBytes (namesByte name) namesStart l) ≡ isNamesLine (namesOf streams) l

@@ -1,5 +1,5 @@
 -- What is kept of a line whose bytes come one after the other: scalars, whatever the line's length.
-use Prim.Native.Nat.{ℕ, suc, _+_, _-_, _*_, _/_, min}
+use Prim.Native.Nat.{ℕ, suc, _+_, _-_, _*_, min}
 use mathlib.Core.Bool.{Bool, true, false, not, cond, _&&_, _||_}
 use mathlib.Core.List.{List, [], _∷_}
 use lib.Dec.{ltb, eqb}
@@ -71,11 +71,11 @@ abbrev pub nextNumber : List Stream → ℕ → ℤ → ℕ
 nextNumber s n v = cond (ltb n letterBound && ltb (numberOf s (v ∷ [])) letterBound) (n * cutCount (letterCount s) + numberOf s (v ∷ [])) letterBound
 
 -- The state with another token that is begun.
-abbrev pub valueFrom : ValuesState → Phase → ℕ → ValuesState
-valueFrom s p m = record { phase = p; magnitude = m; count = s .count; integers = s .integers; number = s .number }
+abbrev pub withPhase : ValuesState → Phase → ℕ → ValuesState
+withPhase s p m = record { phase = p; magnitude = m; count = s .count; integers = s .integers; number = s .number }
 
 abbrev pub valueByte : ValuesState → ℕ → ValuesState
-valueByte s b = valueFrom s (nextPhase (s .phase) b) (nextMagnitude (s .magnitude) b)
+valueByte s b = withPhase s (nextPhase (s .phase) b) (nextMagnitude (s .magnitude) b)
 
 -- The state between tokens.
 abbrev pub endedFrom : ℕ → Bool → ℕ → ValuesState
@@ -121,10 +121,6 @@ unfoldable pub lineEnd : List Stream → LineState → LineEnd
 lineEnd ss s = endOf (valuesEnd (length ss) (s .barred) (endToken valueByte (valueEnd ss) (s .begun) (s .values)))
 
 -- ---- the names of a line
-
--- The name of stream i in bytes that hold eight for each name; no bytes where it is not there.
-unfoldable pub wholeName : List ℕ → List ℕ → ℕ → Token
-wholeName names lengths i = cond (ltb i (length names / 8)) (take (min (getD lengths i 0) 8) (drop (i * 8) names)) []
 
 -- The byte stands at the place in the name.
 abbrev pub isByteAt : Token → ℕ → ℕ → Bool

@@ -11,7 +11,8 @@ ghost use Rattle.text.specs.Token.{isDigit};
 ghost use Rattle.scan.specs.Integer.{withSign};
 ghost use Rattle.letters.specs.Described.{described};
 ghost use Rattle.records.specs.Line.{isPlain};
-ghost use Rattle.records.specs.Machine.{digitPhase, nextPhase, endsInteger, isNegative, nextMagnitude, nextCount, nextNumber, valueByte, valueEnd, refusedEnd, endOf, valuesEnd, lineStart, lineByte, lineEnd, wholeName, isByteAt, nameByte, nameEnd, namesStart, namesByte, namesEnd};
+ghost use Rattle.sheet.specs.Names.{nameIn};
+ghost use Rattle.records.specs.Machine.{digitPhase, nextPhase, endsInteger, isNegative, nextMagnitude, nextCount, nextNumber, valueByte, valueEnd, refusedEnd, endOf, valuesEnd, lineStart, lineByte, lineEnd, isByteAt, nameByte, nameEnd, namesStart, namesByte, namesEnd};
 
 // What the bytes of a token are so far: none, `-` alone, `0` alone, digits, digits behind `-`, or no beginning of an integer.
 pub enum Phase {
@@ -347,18 +348,18 @@ pub fn line_end(line: LineState, lows: &[i64], highs: &[i64]) -> LineEnd
     values_end(line.barred, ended, fewer(lows.len(), highs.len()))
 }
 
-// The name of stream `i`, where `names` holds eight bytes for each name; no bytes where it is not there.
-fn whole_name<'a>(names: &'a [u8], lengths: &[u8], i: usize) -> &'a [u8]
-    ensures { λ r. ⌜ now r ≡ wholeName (now (names .entry)) (now (lengths .entry)) i ⌝ }
+// The name of stream `i`, where `names` holds eight bytes for each name; what there is of it.
+fn name_in<'a>(names: &'a [u8], lengths: &[u8], i: usize) -> &'a [u8]
+    ensures { λ r. ⌜ now r ≡ nameIn (now (names .entry)) (now (lengths .entry)) i ⌝ }
 {
-    if names.len() / 8 <= i {
+    if names.len() / 8 < i {
         return &names[0..0];
     }
     if lengths.len() <= i {
         return &names[0..0];
     }
     let start = i * 8;
-    let end = start + fewer(lengths[i] as usize, 8);
+    let end = fewer(start + fewer(lengths[i] as usize, 8), names.len());
     &names[start..end]
 }
 
@@ -372,9 +373,9 @@ fn is_byte_at(name: &[u8], place: usize, byte: u8) -> bool
 }
 
 fn name_byte(state: NameState, byte: u8, names: &[u8], lengths: &[u8]) -> NameState
-    ensures { λ r. ⌜ r ≡ nameByte (wholeName (now (names .entry)) (now (lengths .entry))) state byte ⌝ }
+    ensures { λ r. ⌜ r ≡ nameByte (nameIn (now (names .entry)) (now (lengths .entry))) state byte ⌝ }
 {
-    let name = whole_name(names, lengths, state.count);
+    let name = name_in(names, lengths, state.count);
     NameState {
         same: both(state.same, is_byte_at(name, state.place, byte)),
         count: state.count,
@@ -383,10 +384,10 @@ fn name_byte(state: NameState, byte: u8, names: &[u8], lengths: &[u8]) -> NameSt
 }
 
 fn name_end(state: NameState, names: &[u8], lengths: &[u8]) -> NameState
-    ensures { λ r. ⌜ r ≡ nameEnd (wholeName (now (names .entry)) (now (lengths .entry))) state ⌝ }
+    ensures { λ r. ⌜ r ≡ nameEnd (nameIn (now (names .entry)) (now (lengths .entry))) state ⌝ }
 {
     let place = state.place;
-    let name = whole_name(names, lengths, state.count);
+    let name = name_in(names, lengths, state.count);
     NameState {
         same: both(state.same, place == name.len()),
         count: next_count(state.count),
@@ -396,7 +397,7 @@ fn name_end(state: NameState, names: &[u8], lengths: &[u8]) -> NameState
 
 // The names with a token that is begun ended.
 fn end_name(begun: bool, state: NameState, names: &[u8], lengths: &[u8]) -> NameState
-    ensures { λ r. ⌜ r ≡ cond begun (nameEnd (wholeName (now (names .entry)) (now (lengths .entry))) state) state ⌝ }
+    ensures { λ r. ⌜ r ≡ cond begun (nameEnd (nameIn (now (names .entry)) (now (lengths .entry))) state) state ⌝ }
 {
     if begun {
         return name_end(state, names, lengths);
@@ -420,7 +421,7 @@ pub fn names_start() -> NamesState
 
 // The line of names with one byte more, where `names` holds eight bytes for each of the sheet's names and `lengths` their lengths.
 pub fn names_byte(line: NamesState, byte: u8, names: &[u8], lengths: &[u8]) -> NamesState
-    ensures { λ r. ⌜ r ≡ namesByte (wholeName (now (names .entry)) (now (lengths .entry))) line byte ⌝ }
+    ensures { λ r. ⌜ r ≡ namesByte (nameIn (now (names .entry)) (now (lengths .entry))) line byte ⌝ }
 {
     let barred = either(line.barred, !is_plain(byte));
     let state = line.names;
@@ -448,7 +449,7 @@ pub fn names_byte(line: NamesState, byte: u8, names: &[u8], lengths: &[u8]) -> N
 
 // Whether the line that ends has the sheet's names, all of them, and no barred byte.
 pub fn names_end(line: NamesState, names: &[u8], lengths: &[u8]) -> bool
-    ensures { λ r. ⌜ r ≡ namesEnd (wholeName (now (names .entry)) (now (lengths .entry))) (length (now (lengths .entry))) line ⌝ }
+    ensures { λ r. ⌜ r ≡ namesEnd (nameIn (now (names .entry)) (now (lengths .entry))) (length (now (lengths .entry))) line ⌝ }
 {
     let barred = line.barred;
     let state = line.names;

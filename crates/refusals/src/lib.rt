@@ -112,18 +112,6 @@ pub fn header_of(text: &[u8]) -> Header
     }
 }
 
-// How many header lines there are: three, and one more where the fourth line says kinds.
-pub fn header_lines(text: &[u8]) -> usize
-    ensures { λ r. ⌜ r ≡ layoutIn (now (text .entry)) .constraintsFrom ⌝ }
-{
-    let header = header_of(text);
-    if header.kinds_start < header.kinds_end {
-        4
-    } else {
-        3
-    }
-}
-
 // "32 lines after line 3, 1,024 tokens in them, or, up to some place in one of them, more than 32 more `(` than `)`", for the bytes of these lines.
 fn constraint_lines_refused(text: &[u8]) -> bool
     ensures { λ r. ⌜ r ≡ constraintLinesRefused (lines (now (text .entry))) ⌝ }

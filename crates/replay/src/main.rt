@@ -131,7 +131,7 @@ fn play(
 }
 
 // Plays the record that the second argument names; whether all was written.
-fn play_file(sheet: reader::Sheet, state: u32, entries: &[u16]) -> bool {
+fn play_file(sheet: reader::StoredSheet, state: u32, entries: &[u16]) -> bool {
     let names = sheet.names;
     let lengths = sheet.lengths;
     let lows = sheet.lows;

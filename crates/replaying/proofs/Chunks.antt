@@ -26,7 +26,7 @@ use Rattle.records.specs.Machine.{lineStart, lineByte, endOf, namesStart, names
 use Rattle.records.specs.declared.NamesState.{NamesState}
 use Rattle.records.proofs.Sheets.{accepted-line, accepted-names}
 use Rattle.replaying.specs.Replay.{replayHeading, stateLine, LineOutcome, reaches, refuses, entered, lineThen, outcomeFrom, replayed, replayedLines}
-use Rattle.replaying.specs.Machine.{PlayedSheet, playedSheet, Playing, playing, valuesReplay, endedReplay, startReplay, nextLine, outcomeText, nameAt, readIn, byteRead, outcomeOf, lineOutcome, afterOutcome, isNames, endIn, lineEnded, playByte, lastLine, closed}
+use Rattle.replaying.specs.Machine.{PlayedSheet, playedSheet, Playing, playing, valuesReplay, endedReplay, startReplay, nextLine, outcomeText, nameAt, readIn, byteRead, outcomeOf, lineOutcome, afterOutcome, isNames, endIn, lineEnded, playByte, lastLine, closedReplay}
 use Rattle.replaying.specs.declared.Stage.{Stage}
 use Rattle.replaying.specs.declared.Stage.the-variants.{Names, Values, Ended}
 use Rattle.replaying.specs.declared.Replay.{Replay}
@@ -81,11 +81,11 @@ module _ (s : PlayedSheet) where
       stays [] = refl
       stays (c ∷ m) = refl
 
-  ended-lines : (ls : List (List ℕ)) (t : List ℕ) → closed s (read (playing (endedReplay false) t) ls) .printed ≡ t
+  ended-lines : (ls : List (List ℕ)) (t : List ℕ) → closedReplay s (read (playing (endedReplay false) t) ls) .printed ≡ t
   ended-lines [] t = refl
   ended-lines (l ∷ ls) t =
-      ap (λ p. closed s (read (lineEnded s p) ls) .printed) (ended-bytes l false t)
-      ∙ ap (λ u. closed s (read (playing (endedReplay false) u) ls) .printed) (append-nil t) ∙ ended-lines ls t
+      ap (λ p. closedReplay s (read (lineEnded s p) ls) .printed) (ended-bytes l false t)
+      ∙ ap (λ u. closedReplay s (read (playing (endedReplay false) u) ls) .printed) (append-nil t) ∙ ended-lines ls t
 
 -- ---- an accepted sheet
 
@@ -121,14 +121,14 @@ module _ {s : Sheet} (a : Accepted s) (rest entries : List ℕ) where
   abbrev PrintsValues : List (List ℕ) → Type 0
   PrintsValues ls =
       (x : NamesState) (number state : ℕ) (t : List ℕ) → number + length ls ≤ 18446744073709551615
-      → closed stored (read stored (playing (valuesReplay false x lineStart number state) t) ls) .printed ≡ t ++ replayed (s .streams) entries number state ls
+      → closedReplay stored (read stored (playing (valuesReplay false x lineStart number state) t) ls) .printed ≡ t ++ replayed (s .streams) entries number state ls
 
   -- One line, whose outcome is known, and the others.
   after-line : (ls : List (List ℕ)) → PrintsValues ls → (r : Replay) (o : LineOutcome) (t : List ℕ) → r .number + suc (length ls) ≤ 18446744073709551615
-      → closed stored (read stored (playing (afterOutcome stored r o) (t ++ outcomeText (r .number) o)) ls) .printed ≡ t ++ lineThen (r .number) (λ next. replayed (s .streams) entries (suc (r .number)) next ls) o
+      → closedReplay stored (read stored (playing (afterOutcome stored r o) (t ++ outcomeText (r .number) o)) ls) .printed ≡ t ++ lineThen (r .number) (λ next. replayed (s .streams) entries (suc (r .number)) next ls) o
   after-line ls again r (reaches next) t h =
       let e : nextLine (r .number) ≡ suc (r .number) = omega arith in
-      ap (λ n. closed stored (read stored (playing (valuesReplay false (r .names) lineStart n next) (t ++ stateLine (r .number) next)) ls) .printed) e
+      ap (λ n. closedReplay stored (read stored (playing (valuesReplay false (r .names) lineStart n next) (t ++ stateLine (r .number) next)) ls) .printed) e
       ∙ again (r .names) (suc (r .number)) next (t ++ stateLine (r .number) next) (omega arith) ∙ append-assoc t (stateLine (r .number) next) (replayed (s .streams) entries (suc (r .number)) next ls)
   after-line ls again r (refuses n) t h = ended-lines stored ls (t ++ refusalLine n)
 
@@ -138,32 +138,32 @@ module _ {s : Sheet} (a : Accepted s) (rest entries : List ℕ) where
   values-lines (l ∷ ls) x number state t h =
       let line = runBytes (lineByte (unnamed (s .streams))) lineStart l in
       let r = valuesReplay (begunBy false l) x line number state in
-      ap (λ p. closed stored (read stored (lineEnded stored p) ls) .printed) (values-run stored l false x lineStart number state t)
+      ap (λ p. closedReplay stored (read stored (lineEnded stored p) ls) .printed) (values-run stored l false x lineStart number state t)
       ∙ after-line ls (values-lines ls) r (lineOutcome stored line state) t h
       ∙ ap (λ o. t ++ lineThen number (λ next. replayed (s .streams) entries (suc number) next ls) o) (line-outcome state l)
 
   -- ---- the whole record
 
   after-names : (ls : List (List ℕ)) (state : ℕ) (same : Bool) → suc (length ls) ≤ 18446744073709551615
-      → closed stored (read stored (playing (cond same (valuesReplay false namesStart lineStart 1 state) (endedReplay false)) (cond same replayHeading (refusalLine 13))) ls) .printed
+      → closedReplay stored (read stored (playing (cond same (valuesReplay false namesStart lineStart 1 state) (endedReplay false)) (cond same replayHeading (refusalLine 13))) ls) .printed
       ≡ cond same (replayHeading ++ replayed (s .streams) entries 1 state ls) (refusalLine 13)
   after-names ls state true h = values-lines ls namesStart 1 state replayHeading (omega arith)
   after-names ls state false h = ended-lines stored ls (refusalLine 13)
 
   record-lines : (ls : List (List ℕ)) (state : ℕ) → length ls ≤ 18446744073709551615
-      → closed stored (read stored (playing (startReplay state) []) ls) .printed ≡ replayedLines (s .streams) entries state ls
+      → closedReplay stored (read stored (playing (startReplay state) []) ls) .printed ≡ replayedLines (s .streams) entries state ls
   unfolding replayedLines
   record-lines [] state h = refl
   record-lines (l ∷ ls) state h =
       let names = runBytes (namesByte (nameAt stored)) namesStart l in
-      ap (λ p. closed stored (read stored (lineEnded stored p) ls) .printed) (names-run stored l false namesStart lineStart 1 state [])
+      ap (λ p. closedReplay stored (read stored (lineEnded stored p) ls) .printed) (names-run stored l false namesStart lineStart 1 state [])
       ∙ after-names ls state (isNames stored names) h
       ∙ ap (λ t. cond t (replayHeading ++ replayed (s .streams) entries 1 state ls) (refusalLine 13)) (accepted-names a rest l)
 
   -- "prints `line state`, then one such line per value line, counted from 1, with the state reached": the record in chunks of any sizes, with fewer
   -- bytes than numbers of the machine.
   pub replay-chunks : (state : ℕ) (chunks : List (List ℕ)) → length (allChunks chunks) < 18446744073709551616
-      → closed stored (lastLine stored (runChunks (playByte stored) (playing (startReplay state) []) chunks)) .printed ≡ replayedLines (s .streams) entries state (lines (allChunks chunks))
+      → closedReplay stored (lastLine stored (runChunks (playByte stored) (playing (startReplay state) []) chunks)) .printed ≡ replayedLines (s .streams) entries state (lines (allChunks chunks))
   replay-chunks state chunks h =
       let few = lines-few (allChunks chunks) in
-      ap (λ p. closed stored p .printed) (replay-lines stored chunks state) ∙ record-lines (lines (allChunks chunks)) state (omega arith)
+      ap (λ p. closedReplay stored p .printed) (replay-lines stored chunks state) ∙ record-lines (lines (allChunks chunks)) state (omega arith)

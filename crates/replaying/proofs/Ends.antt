@@ -9,7 +9,7 @@ use lib.Seq.{sets, length-sets}
 use borrow.Author.Tests.{le-leb, lt-leb}
 use Rattle.records.specs.Machine.{namesStart}
 use Rattle.replaying.specs.Replay.{LineOutcome, reaches, refuses}
-use Rattle.replaying.specs.Machine.{PlayedSheet, Playing, playing, valuesReplay, endedReplay, lineOutcome, afterOutcome, isNames, endText, endIn, lineEnded, lastLine, closedIn, closed, played, Advances, lastText, Finishes}
+use Rattle.replaying.specs.Machine.{PlayedSheet, Playing, playing, valuesReplay, endedReplay, lineOutcome, afterOutcome, isNames, endText, endIn, lineEnded, lastLine, closedIn, closedReplay, played, Advances, lastText, Finishes}
 use Rattle.replaying.specs.declared.Stage.{Stage}
 use Rattle.replaying.specs.declared.Stage.the-variants.{Names, Values, Ended}
 use Rattle.replaying.specs.declared.Replay.{Replay}
@@ -32,27 +32,27 @@ module _ (s : PlayedSheet) where
       by (refuses n) = refl
   closed-in Ended r p = refl
 
-  pub closed-end : (p : Playing) → closed s (lineEnded s p) ≡ lineEnded s p
+  pub closed-end : (p : Playing) → closedReplay s (lineEnded s p) ≡ lineEnded s p
   closed-end p = closed-in (p .replay .stage) (p .replay) (lineEnded s p)
 
   module _ (replay : Replay) (room : ℕ) where
     pub no-text : room < 32 → [] ≡ lastText s replay room
     unfolding lastText
-    no-text h = ap (λ t. cond t (closed s (lastLine s (playing replay [])) .printed) []) (sym (lt-leb 32 room h))
+    no-text h = ap (λ t. cond t (closedReplay s (lastLine s (playing replay [])) .printed) []) (sym (lt-leb 32 room h))
 
-    with-room : 32 ≤ room → closed s (lastLine s (playing replay [])) .printed ≡ lastText s replay room
+    with-room : 32 ≤ room → closedReplay s (lastLine s (playing replay [])) .printed ≡ lastText s replay room
     unfolding lastText
-    with-room h = ap (λ t. cond t (closed s (lastLine s (playing replay [])) .printed) []) (sym (le-leb 32 room h))
+    with-room h = ap (λ t. cond t (closedReplay s (lastLine s (playing replay [])) .printed) []) (sym (le-leb 32 room h))
 
     -- A last line.
     pub last-line-text : 32 ≤ room → replay .begun ≡ true → endText s (replay .stage) replay ≡ lastText s replay room
     last-line-text h e =
-        sym (ap (λ t. closed s (cond t (lineEnded s (playing replay [])) (playing replay [])) .printed) e ∙ ap (λ p. p .printed) (closed-end (playing replay []))) ∙ with-room h
+        sym (ap (λ t. closedReplay s (cond t (lineEnded s (playing replay [])) (playing replay [])) .printed) e ∙ ap (λ p. p .printed) (closed-end (playing replay []))) ∙ with-room h
 
     -- No last line.
     pub closing-text : 32 ≤ room → replay .begun ≡ false → (k : Stage) → replay .stage ≡ k → closedIn s k (playing replay []) .printed ≡ lastText s replay room
     closing-text h e k p =
-        sym (ap (λ t. closed s (cond t (lineEnded s (playing replay [])) (playing replay [])) .printed) e ∙ ap (λ k′. closedIn s k′ (playing replay []) .printed) p) ∙ with-room h
+        sym (ap (λ t. closedReplay s (cond t (lineEnded s (playing replay [])) (playing replay [])) .printed) e ∙ ap (λ k′. closedIn s k′ (playing replay []) .printed) p) ∙ with-room h
 
   -- A text that is written whole.
   pub text-ends : {replay : Replay} {out out′ text : List ℕ} {r : ℕ} → text ≡ lastText s replay (length out) → r ≡ length text → r ≤ length out → out′ ≡ sets out 0 text → Finishes s replay out out′ r

@@ -13,7 +13,7 @@ use borrow.Author.Tests.{ltb-true, ltb-false, eq-eqb}
 use Rattle.basics.proofs.Lists.{sets-append}
 use Rattle.text.specs.Fold.{runBytes}
 use Rattle.text.proofs.Lines.{run-append}
-use Rattle.replaying.specs.Machine.{PlayedSheet, playing, endedReplay, advancedTo, RunsLine, byteRead, endText, endIn, playByte, played, HasLineRoom, RoomFor, PlaysChunk, Advances}
+use Rattle.replaying.specs.Machine.{PlayedSheet, playing, endedReplay, advancedTo, RunsLine, byteRead, endText, endIn, playByte, played, HasLineRoom, HasOutputRoom, PlaysChunk, Advances}
 use Rattle.replaying.specs.declared.Stage.the-variants.{Ended}
 use Rattle.replaying.specs.declared.Replay.{Replay}
 use Rattle.replaying.specs.declared.Advanced.{Advanced}
@@ -48,7 +48,7 @@ module _ (s : PlayedSheet) (chunk : List ℕ) where
         onward = omega arith;
         inside = omega arith;
         run = sym (ap (λ p. p .replay) same);
-        room = subst (RoomFor s (length out) (playing replay [])) (sym e) tt;
+        room = subst (HasOutputRoom s (length out) (playing replay [])) (sym e) tt;
         size = sym (ap (λ p. length (p .printed)) same);
         fits = omega arith;
         bytes = sym (ap (λ p. sets out 0 (p .printed)) same);
@@ -58,7 +58,7 @@ module _ (s : PlayedSheet) (chunk : List ℕ) where
 
   module _ {replay replay′ : Replay} {from next : ℕ} {out text : List ℕ} (o : from ≤ next) (i : next ≤ length chunk)
       (e : runBytes (playByte s) (playing replay []) (slice from next chunk) ≡ playing replay′ text)
-      (k : RoomFor s (length out) (playing replay []) (slice from next chunk)) where
+      (k : HasOutputRoom s (length out) (playing replay []) (slice from next chunk)) where
     pub plays-part : {size : ℕ} {out′ : List ℕ} → size ≡ length text → size ≤ length out → out′ ≡ sets out 0 text → PlaysChunk s replay chunk from out out′ (advancedTo replay′ next size)
     plays-part n f b =
         record {
@@ -76,7 +76,7 @@ module _ (s : PlayedSheet) (chunk : List ℕ) where
     line-run : runBytes (playByte s) (playing replay []) (slice from next chunk) ≡ playing replay′ []
     line-run = run-other s (slice from next chunk) (l .bytes) (playing replay []) ∙ e
 
-    line-room : RoomFor s (length out) (playing replay []) (slice from next chunk)
+    line-room : HasOutputRoom s (length out) (playing replay []) (slice from next chunk)
     line-room = room-other s (length out) (slice from next chunk) (l .bytes) (playing replay []) (omega arith)
 
     -- The bytes of a line print nothing.
@@ -95,9 +95,9 @@ module _ (s : PlayedSheet) (chunk : List ℕ) where
         ap (runBytes (playByte s) (playing replay [])) m ∙ run-append (playByte s) (playing replay []) (slice from next chunk) (getD chunk next 0 ∷ [])
         ∙ ap (λ p. playByte s p (getD chunk next 0)) line-run ∙ play-end s (playing replay′ []) (getD chunk next 0) last in
         let room =
-        subst (RoomFor s (length out) (playing replay [])) (sym m)
+        subst (HasOutputRoom s (length out) (playing replay [])) (sym m)
         (room-append s (length out) (slice from next chunk) (getD chunk next 0 ∷ []) (playing replay []) line-room
-        (subst (λ p. RoomFor s (length out) p (getD chunk next 0 ∷ [])) (sym line-run) (omega arith, tt))) in
+        (subst (λ p. HasOutputRoom s (length out) p (getD chunk next 0 ∷ [])) (sym line-run) (omega arith, tt))) in
         plays-part (omega arith) (omega arith) run room n f b
 
   -- ---- behind a refusal
@@ -153,12 +153,12 @@ module _ (s : PlayedSheet) (chunk : List ℕ) where
       unfolding t₁
       left = let n = p .size in let f = p .fits in let e = same-room in let d = length-drop (r₁ .size) out₁ in omega arith
 
-      enough : RoomFor s (length out) (playing replay []) (slice from (r₂ .next) chunk)
+      enough : HasOutputRoom s (length out) (playing replay []) (slice from (r₂ .next) chunk)
       enough =
-          subst (RoomFor s (length out) (playing replay [])) (sym parts)
+          subst (HasOutputRoom s (length out) (playing replay [])) (sym parts)
           (room-append s (length out) (slice from (r₁ .next) chunk) (slice (r₁ .next) (r₂ .next) chunk) (playing replay []) (p .room)
-          (subst (λ x. RoomFor s (length out) x (slice (r₁ .next) (r₂ .next) chunk)) (sym first)
-          (subst (λ n. RoomFor s n (behind t₁ (playing (r₁ .replay) [])) (slice (r₁ .next) (r₂ .next) chunk)) left
+          (subst (λ x. HasOutputRoom s (length out) x (slice (r₁ .next) (r₂ .next) chunk)) (sym first)
+          (subst (λ n. HasOutputRoom s n (behind t₁ (playing (r₁ .replay) [])) (slice (r₁ .next) (r₂ .next) chunk)) left
           (room-behind s (length (drop (r₁ .size) out₁)) t₁ (slice (r₁ .next) (r₂ .next) chunk) (playing (r₁ .replay) []) (q .room)))))
 
       stored : {out₃ : List ℕ} → out₃ ≡ take (r₁ .size) out₁ ++ out₂ → out₃ ≡ sets out 0 (t₁ ++ t₂)
@@ -234,7 +234,7 @@ module _ (s : PlayedSheet) (chunk : List ℕ) where
         let i = p .inside in
         let k : q .next ≤ length chunk = omega arith in
         let m = sym (slice-split from (r .next) (q .next) chunk o (omega arith)) ∙ ap (λ z. slice from (r .next) chunk ++ z) (slice-first (r .next) (q .next) chunk h k) in
-        let room = room-before s (length out) (slice from (r .next) chunk) (slice (suc (r .next)) (q .next) chunk) (getD chunk (r .next) 0) (playing replay []) (subst (RoomFor s (length out) (playing replay [])) m (p .room)) in
+        let room = room-before s (length out) (slice from (r .next) chunk) (slice (suc (r .next)) (q .next) chunk) (getD chunk (r .next) 0) (playing replay []) (subst (HasOutputRoom s (length out) (playing replay [])) m (p .room)) in
         ⊎-elim (λ z. omega arith) (λ z. z room) (a .stops)
 
     pub advances-unique : {out₁ out₂ : List ℕ} {r q : Advanced} → Advances s replay chunk from out out₁ r → Advances s replay chunk from out out₂ q → (r ≡ q) × (out₁ ≡ out₂)

@@ -11,7 +11,7 @@ use Rattle.text.specs.Fold.{runBytes}
 use Rattle.records.specs.Machine.{lineByte, namesByte}
 use Rattle.records.specs.declared.LineState.{LineState}
 use Rattle.records.specs.declared.NamesState.{NamesState}
-use Rattle.replaying.specs.Machine.{PlayedSheet, Playing, playing, namesReplay, valuesReplay, endedReplay, NoLineEnd, storedStreams, nameAt, readIn, byteRead, endText, endIn, lineEnded, playByte, HasLineRoom, RoomFor}
+use Rattle.replaying.specs.Machine.{PlayedSheet, Playing, playing, namesReplay, valuesReplay, endedReplay, NoLineEnd, storedStreams, nameAt, readIn, byteRead, endText, endIn, lineEnded, playByte, HasLineRoom, HasOutputRoom}
 use Rattle.replaying.specs.declared.Stage.the-variants.{Ended}
 use Rattle.replaying.specs.declared.Replay.{Replay}
 
@@ -73,20 +73,20 @@ module _ (s : PlayedSheet) where
 
   -- ---- room
 
-  pub room-other : (room : ℕ) (l : List ℕ) → NoLineEnd l → (p : Playing) → HasLineRoom s room p → RoomFor s room p l
+  pub room-other : (room : ℕ) (l : List ℕ) → NoLineEnd l → (p : Playing) → HasLineRoom s room p → HasOutputRoom s room p l
   room-other room [] h p k = tt
-  room-other room (b ∷ l) h p k = (k, subst (λ q. RoomFor s room q l) (sym (play-other p b (h .0))) (room-other room l (h .1) (byteRead s p b) k))
+  room-other room (b ∷ l) h p k = (k, subst (λ q. HasOutputRoom s room q l) (sym (play-other p b (h .0))) (room-other room l (h .1) (byteRead s p b) k))
 
-  pub room-ended : (room : ℕ) (l : List ℕ) (r : Replay) (t : List ℕ) → r .stage ≡ Ended → HasLineRoom s room (playing r t) → RoomFor s room (playing r t) l
+  pub room-ended : (room : ℕ) (l : List ℕ) (r : Replay) (t : List ℕ) → r .stage ≡ Ended → HasLineRoom s room (playing r t) → HasOutputRoom s room (playing r t) l
   room-ended room [] r t e k = tt
-  room-ended room (b ∷ l) r t e k = (k, subst (λ q. RoomFor s room q l) (sym (play-ended r t b e)) (room-ended room l (endedReplay (not (eqb b 10))) t refl k))
+  room-ended room (b ∷ l) r t e k = (k, subst (λ q. HasOutputRoom s room q l) (sym (play-ended r t b e)) (room-ended room l (endedReplay (not (eqb b 10))) t refl k))
 
-  pub room-append : (room : ℕ) (l m : List ℕ) (p : Playing) → RoomFor s room p l → RoomFor s room (runBytes (playByte s) p l) m → RoomFor s room p (l ++ m)
+  pub room-append : (room : ℕ) (l m : List ℕ) (p : Playing) → HasOutputRoom s room p l → HasOutputRoom s room (runBytes (playByte s) p l) m → HasOutputRoom s room p (l ++ m)
   room-append room [] m p h k = k
   room-append room (b ∷ l) m p h k = (h .0, room-append room l m (playByte s p b) (h .1) k)
 
   -- Before a byte that is played there is room.
-  pub room-before : (room : ℕ) (l m : List ℕ) (b : ℕ) (p : Playing) → RoomFor s room p (l ++ (b ∷ m)) → HasLineRoom s room (runBytes (playByte s) p l)
+  pub room-before : (room : ℕ) (l m : List ℕ) (b : ℕ) (p : Playing) → HasOutputRoom s room p (l ++ (b ∷ m)) → HasLineRoom s room (runBytes (playByte s) p l)
   room-before room [] m b p h = h .0
   room-before room (a ∷ l) m b p h = room-before room l m b (playByte s p a) (h .1)
 
@@ -105,9 +105,9 @@ module _ (s : PlayedSheet) where
   run-behind t [] p = refl
   run-behind t (b ∷ l) p = ap (λ q. runBytes (playByte s) q l) (byte-behind t p b) ∙ run-behind t l (playByte s p b)
 
-  pub room-behind : (room : ℕ) (t l : List ℕ) (p : Playing) → RoomFor s room p l → RoomFor s (length t + room) (behind t p) l
+  pub room-behind : (room : ℕ) (t l : List ℕ) (p : Playing) → HasOutputRoom s room p l → HasOutputRoom s (length t + room) (behind t p) l
   room-behind room t [] p h = tt
   room-behind room t (b ∷ l) p h =
       let a = length-append t (p .printed) in
       let k = h .0 in
-      (omega arith, subst (λ q. RoomFor s (length t + room) q l) (sym (byte-behind t p b)) (room-behind room t l (playByte s p b) (h .1)))
+      (omega arith, subst (λ q. HasOutputRoom s (length t + room) q l) (sym (byte-behind t p b)) (room-behind room t l (playByte s p b) (h .1)))

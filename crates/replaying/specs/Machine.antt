@@ -17,7 +17,8 @@ use Rattle.meaning.specs.Letter.{letterCount}
 use Rattle.automaton.specs.Stored.{entryAt}
 use Rattle.letters.specs.Described.{described, cutCount}
 use Rattle.print.specs.Text.{refusalLine}
-use Rattle.records.specs.Machine.{lineStart, lineByte, lineEnd, wholeName, namesStart, namesByte, namesEnd}
+use Rattle.sheet.specs.Names.{nameIn}
+use Rattle.records.specs.Machine.{lineStart, lineByte, lineEnd, namesStart, namesByte, namesEnd}
 use Rattle.records.specs.declared.LineState.{LineState}
 use Rattle.records.specs.declared.LineEnd.{LineEnd}
 use Rattle.records.specs.declared.NamesState.{NamesState}
@@ -110,7 +111,7 @@ module _ (s : PlayedSheet) where
   storedStreams = described (s .lows) (s .highs)
 
   abbrev pub nameAt : ℕ → Token
-  nameAt = wholeName (s .names) (s .lengths)
+  nameAt = nameIn (s .names) (s .lengths)
 
   -- ---- a byte of a line
 
@@ -167,8 +168,8 @@ module _ (s : PlayedSheet) where
   closedIn Values p = p
   closedIn Ended p = p
 
-  abbrev pub closed : Playing → Playing
-  closed p = closedIn (p .replay .stage) p
+  abbrev pub closedReplay : Playing → Playing
+  closedReplay p = closedIn (p .replay .stage) p
 
   -- ---- chunks, and room for what is printed
 
@@ -184,16 +185,16 @@ module _ (s : PlayedSheet) where
   HasLineRoom room p = length (p .printed) + stateLineRoom ≤ room
 
   -- Each byte is played where there is room for one more line.
-  abbrev pub RoomFor : ℕ → Playing → List ℕ → Type 0
-  RoomFor room p [] = Unit {0}
-  RoomFor room p (b ∷ bs) = HasLineRoom room p × RoomFor room (playByte p b) bs
+  abbrev pub HasOutputRoom : ℕ → Playing → List ℕ → Type 0
+  HasOutputRoom room p [] = Unit {0}
+  HasOutputRoom room p (b ∷ bs) = HasLineRoom room p × HasOutputRoom room (playByte p b) bs
 
   -- The bytes from a place to before `next` are played, and what they print stands at the front of the lent bytes.
   pub record PlaysChunk (replay : Replay) (chunk : List ℕ) (from : ℕ) (out out′ : List ℕ) (r : Advanced) : Type 0 where
     pub onward : from ≤ r .next
     pub inside : r .next ≤ max from (length chunk)
     pub run : r .replay ≡ played replay chunk from (r .next) .replay
-    pub room : RoomFor (length out) (playing replay []) (slice from (r .next) chunk)
+    pub room : HasOutputRoom (length out) (playing replay []) (slice from (r .next) chunk)
     pub size : r .size ≡ length (played replay chunk from (r .next) .printed)
     pub fits : r .size ≤ length out
     pub bytes : out′ ≡ sets out 0 (played replay chunk from (r .next) .printed)
@@ -205,7 +206,7 @@ module _ (s : PlayedSheet) where
 
   -- What is printed at the end of the record, into so many bytes: nothing where they have no room for a line.
   unfoldable pub lastText : Replay → ℕ → List ℕ
-  lastText r room = cond (leb stateLineRoom room) (closed (lastLine (playing r [])) .printed) []
+  lastText r room = cond (leb stateLineRoom room) (closedReplay (lastLine (playing r [])) .printed) []
 
   pub record Finishes (replay : Replay) (out out′ : List ℕ) (r : ℕ) : Type 0 where
     pub size : r ≡ length (lastText replay (length out))

@@ -12,7 +12,8 @@ ghost use Rattle.text.specs.Fold.{runBytes};
 ghost use Rattle.meaning.specs.Letter.{letterCount};
 ghost use Rattle.automaton.specs.Stored.{entryAt};
 ghost use Rattle.letters.specs.Described.{described, cutCount};
-ghost use Rattle.records.specs.Machine.{lineByte, wholeName, namesByte};
+ghost use Rattle.records.specs.Machine.{lineByte, namesByte};
+ghost use Rattle.sheet.specs.Names.{nameIn};
 ghost use Rattle.replaying.specs.Machine.{PlayedSheet, playedSheet, startReplay, valuesReplay, endedReplay, advancedTo, nextLine, RunsLine, ledTo, HoldsOutcome, lineOutcome, PlaysChunk, Advances, Finishes};
 
 // What is read next: the line of names, a line of values, or nothing, behind a refusal.
@@ -125,7 +126,7 @@ fn values_at(
 // Reads the line of names to its byte 10, or to the end of the chunk.
 fn run_names(start: NamesState, chunk: &[u8], from: usize, names: &[u8], lengths: &[u8]) -> NamesRun
     requires { ⌜ from ≤ length (now chunk) ⌝ }
-    ensures { λ r. ⌜ RunsLine (now (chunk .entry)) from (r .next) × (r .names ≡ runBytes (namesByte (wholeName (now (names .entry)) (now (lengths .entry)))) start (slice from (r .next) (now (chunk .entry)))) ⌝ }
+    ensures { λ r. ⌜ RunsLine (now (chunk .entry)) from (r .next) × (r .names ≡ runBytes (namesByte (nameIn (now (names .entry)) (now (lengths .entry)))) start (slice from (r .next) (now (chunk .entry)))) ⌝ }
 {
     let mut line = start;
     let mut at = from;

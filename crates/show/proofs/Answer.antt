@@ -36,7 +36,7 @@ use Rattle.print.specs.Text.{refusalLine}
 use Rattle.print.specs.Table.{printed, AllFit}
 use Rattle.print.proofs.Table.{printed-part}
 use Rattle.show.specs.declared.Printed.{Printed}
-use Rattle.show.specs.Answer.{Prints, refused, compiled, HasOutput, Shown, printoutOf, HasRanges, CompiledWith}
+use Rattle.show.specs.Answer.{Prints, refused, compiled, HasTableOutput, Shown, printoutOf, HasRanges, CompiledWith}
 
 -- ---- a text prints one text
 
@@ -50,10 +50,10 @@ module _ {text : List ℕ} where
 
 -- ---- and always one
 
-pub prints-total : (text : List ℕ) → HasOutput text
+pub prints-total : (text : List ℕ) → HasTableOutput text
 prints-total text = go (lent-total text)
   where
-    go : HasOutcome text → HasOutput text
+    go : HasOutcome text → HasTableOutput text
     go (isRefused r) = record { number = _; bytes = _; prints = refused r }
     go (isCompiled c z) = record { number = _; bytes = _; prints = compiled c z }
 

@@ -4,7 +4,7 @@ use native.Mathlib.Omega.{arith}
 use mathlib.Core.List.{List, [], _∷_}
 use lib.IntN.{ℤ}
 use lib.ListN.{length, getD, take}
-use Rattle.reader.specs.declared.Sheet.{Sheet as StoredSheet}
+use Rattle.reader.specs.declared.StoredSheet.{StoredSheet}
 use Rattle.print.specs.Table.{AllFit}
 use Rattle.pages.specs.Lines.{lineRoom}
 use Rattle.pages.specs.Output.{Printout, outputAt, placesOf}

@@ -5,7 +5,7 @@ use mathlib.Core.Path.{_≡_}
 use mathlib.Core.List.{List}
 use lib.ListN.{length, take}
 use Rattle.meaning.specs.Expression.{Sheet}
-use Rattle.reader.specs.declared.Sheet.{Sheet as StoredSheet}
+use Rattle.reader.specs.declared.StoredSheet.{StoredSheet}
 use Rattle.outcome.specs.Compile.{CompileAnswer, Tables}
 use Rattle.lend.specs.Lend.{CompiledLent, RefusedLent, LentCall}
 use Rattle.output.specs.Output.{Hands}
@@ -22,7 +22,7 @@ pub data Prints (text : List ℕ) : ℕ → List ℕ → Type 0 where
   compiled : {s : Sheet} {a : CompileAnswer} {t : Tables} → CompiledLent text s a t → a .refusal ≡ 0 → Prints text 0 (printed (s .streams) (a .states) (t .entries) (t .finals))
 
 -- There is an outcome.
-pub record HasOutput (text : List ℕ) : Type 0 where
+pub record HasTableOutput (text : List ℕ) : Type 0 where
   pub number : ℕ
   pub bytes : List ℕ
   pub prints : Prints text number bytes

@@ -17,7 +17,7 @@ pub struct Printed {
 
 // The next lines, from a line's number on.
 fn next_page(
-    sheet: reader::Sheet,
+    sheet: reader::StoredSheet,
     refusal: u32,
     states: u32,
     entries: &[u16],
@@ -49,7 +49,7 @@ fn next_page(
 
 // Writes all lines, page by page, and stops at a write that fails.
 fn write_pages(
-    sheet: reader::Sheet,
+    sheet: reader::StoredSheet,
     refusal: u32,
     states: u32,
     entries: &[u16],
@@ -85,7 +85,7 @@ fn write_pages(
 }
 
 // Compiles the text in the rows lent for the sheet's letters, and prints the table or the refusal. What stands behind the rows lent is not printed.
-fn show_sheet(text: &[u8], sheet: reader::Sheet) -> Printed
+fn show_sheet(text: &[u8], sheet: reader::StoredSheet) -> Printed
     requires { ⌜ HasRanges sheet ⌝ }
     ensures { λ r. ⌜ CompiledWith (now (text .entry)) sheet r ⌝ }
 {

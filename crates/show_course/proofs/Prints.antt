@@ -26,7 +26,7 @@ use Rattle.print.specs.Text.{refusalLine}
 use Rattle.opening.specs.Start.{startState}
 use Rattle.opening.proofs.Plays.{none≢some, same-start, same-state}
 use Rattle.course_text.specs.Course.{courseText}
-use Rattle.show_course.specs.Prints.{IsCourseFrom, PrintsCourse, refusedSheet, noStart, found, HasOutput}
+use Rattle.show_course.specs.Prints.{IsCourseFrom, PrintsCourse, refusedSheet, noStart, found, HasCourseOutput}
 
 -- ---- the course from a state of a compiled sheet
 
@@ -71,15 +71,15 @@ module _ {text : List ℕ} (start : Option Token) where
 
 -- ---- and always one
 
-pub prints-total : (text : List ℕ) (start : Option Token) → HasOutput text start
+pub prints-total : (text : List ℕ) (start : Option Token) → HasCourseOutput text start
 prints-total text start = go (lent-total text)
   where
-    by : {s : Sheet} {a : CompileAnswer} {t : Tables} → CompiledLent text s a t → a .refusal ≡ 0 → (o : Option ℕ) → startState (a .states) start ≡ o → HasOutput text start
+    by : {s : Sheet} {a : CompileAnswer} {t : Tables} → CompiledLent text s a t → a .refusal ≡ 0 → (o : Option ℕ) → startState (a .states) start ≡ o → HasCourseOutput text start
     by c z none e = record { bytes = _; prints = noStart c z e }
     by {s} {a} {t} c z (some state) e =
         let o = shortest-total (letterCount (s .streams)) (usedEntries s a t) (usedFinals a t) state 256 in
         record { bytes = _; prints = found c z e (course-exists c z start e (o .3) .2) }
 
-    go : HasOutcome text → HasOutput text start
+    go : HasOutcome text → HasCourseOutput text start
     go (isRefused r) = record { bytes = _; prints = refusedSheet r }
     go (isCompiled {a = a} c z) = by c z (startState (a .states) start) refl

@@ -31,6 +31,6 @@ pub data PrintsCourse (sheetText : List ℕ) (start : Option Token) : List ℕ �
       → IsCourseFrom s a t state course → PrintsCourse sheetText start (courseText (s .streams) course)
 
 -- There is an outcome.
-pub record HasOutput (sheetText : List ℕ) (start : Option Token) : Type 0 where
+pub record HasCourseOutput (sheetText : List ℕ) (start : Option Token) : Type 0 where
   pub bytes : List ℕ
   pub prints : PrintsCourse sheetText start bytes

@@ -7,7 +7,7 @@ use mathlib.Core.Option.{Option}
 use lib.ListN.{take}
 use Rattle.text.specs.Bytes.{Token}
 use Rattle.automaton.specs.Course.{ShortestCourse}
-use Rattle.reader.specs.declared.Sheet.{Sheet as StoredSheet}
+use Rattle.reader.specs.declared.StoredSheet.{StoredSheet}
 use Rattle.course.specs.declared.CourseAnswer.{CourseAnswer}
 use Rattle.opening.specs.declared.OpenedTable.{OpenedTable}
 use Rattle.output.specs.Output.{Hands}

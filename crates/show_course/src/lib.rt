@@ -84,7 +84,7 @@ fn write_pages(
 }
 
 // Writes the refusal, or the course that stands at the front of the list, with the sheet's names and ranges.
-fn print_course(sheet: reader::Sheet, answer: CourseAnswer, list: &[u32]) -> Handed
+fn print_course(sheet: reader::StoredSheet, answer: CourseAnswer, list: &[u32]) -> Handed
     requires { ⌜ HasRanges sheet × (length (now list) ≡ 256) ⌝ }
     ensures { λ r. ⌜ Hands (courseOutput (coursePrintout sheet (answer .refusal) (take (min (answer .count) 256) (now (list .entry))))) (r .size) (r .whole) ⌝ }
 {

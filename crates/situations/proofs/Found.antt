@@ -19,7 +19,7 @@ use Rattle.meaning.specs.Letter.{letterCount}
 use Rattle.meaning.specs.Situation.{MoreSituations}
 use Rattle.sheet.specs.Accepted.{Accepted}
 use Rattle.sheet.specs.Refusal.{streamBound, constraintBound, letterBound, firstBound, windowBound}
-use Rattle.reader.specs.declared.Sheet.{Sheet as StoredSheet}
+use Rattle.reader.specs.declared.StoredSheet.{StoredSheet}
 use Rattle.reader.specs.Stored.{storedSheet}
 use Rattle.letters.specs.Described.{described, lettersBelow, hasRoom, withLetters}
 use Rattle.letters.proofs.AllLetters.{below-long}
@@ -31,7 +31,7 @@ use Rattle.explore.proofs.SheetSizes.{accepted-explorable, letters-fit, has-let
 use Rattle.explore.specs.Search.{KeptBehind}
 use Rattle.explore.proofs.Unique.{explored-unique}
 use Rattle.outcome.proofs.NoRows.{some-situation}
-use Rattle.situations.specs.Found.{SituationsFound, RoomFor, FindsSituations, Leaves, storeIn, Explored, valuesList}
+use Rattle.situations.specs.Found.{SituationsFound, RoomFor, FindsSituations, Leaves, storeIn, ExploredSheet, valuesList}
 use Rattle.situations.proofs.Stored.{sheet-letters, held-lows, held-highs, parts-of-sheet}
 
 module _ {K : Store} {letters limit count : ℕ} {before after : ExploreTables} {ready full : Bool} (found : ExploresStored K letters limit before after ready full count) where
@@ -144,29 +144,29 @@ module _ (x : StoredSheet) (list : List ℤ) {constraintCount firsts streams ahe
       let values = filled ∙ (λ i. withLetters (described (take (streamsCut i) (x .lows)) (take (streamsCut i) (x .highs))) list) in
       λ i. storeOf (x .kinds) (x .values) (x .starts) (take (constraintsCut i) (x .relations)) (take (constraintsCut i) (x .lefts)) (take (constraintsCut i) (x .rights)) (take (firstsCut i) (x .«first_nodes»)) (values i) (streamsCut i) (aheadCut i) (aheadCut i + backCut i)
 
-  pub parts-explored : {limit count n : ℕ} {before after : ExploreTables} {ready full : Bool} → ExploresStored parts (x .letters) limit before after ready full count → n ≡ cond full 0 count → Explored x list limit before after n
+  pub parts-explored : {limit count n : ℕ} {before after : ExploreTables} {ready full : Bool} → ExploresStored parts (x .letters) limit before after ready full count → n ≡ cond full 0 count → ExploredSheet x list limit before after n
   parts-explored {limit} {count} {before = before} {after} {ready} {full} e rows =
       record { ready = ready; full = full; count = count; explored = subst (λ K. ExploresStored K (x .letters) limit before after ready full count) parts-is e; rows = rows }
 
-module _ {x : StoredSheet} {list : List ℤ} {limit : ℕ} {before after : ExploreTables} {n : ℕ} (e : Explored x list limit before after n) where
+module _ {x : StoredSheet} {list : List ℤ} {limit : ℕ} {before after : ExploreTables} {n : ℕ} (e : ExploredSheet x list limit before after n) where
   -- What is left of the lent tables.
   pub explored-leaves : Leaves (x .letters) limit before after n
   explored-leaves = subst (Leaves (x .letters) limit before after) (sym (e .rows)) (exploration-leaves (e .explored))
 
   -- Nothing is left open: what is explored once more gives the same answer and leaves the same tables.
-  pub explored-once : {after′ : ExploreTables} {n′ : ℕ} → Explored x list limit before after′ n′ → (n ≡ n′) × (after ≡ after′)
+  pub explored-once : {after′ : ExploreTables} {n′ : ℕ} → ExploredSheet x list limit before after′ n′ → (n ≡ n′) × (after ≡ after′)
   explored-once e′ = let u = explored-unique (e .explored) (e′ .explored) in (e .rows ∙ (λ i. cond (u .1 i) 0 (u .2 i)) ∙ sym (e′ .rows), u .3)
 
 -- Few letters have their values in a small list, more of them in a large one.
 module _ {x : StoredSheet} {limit : ℕ} {before after : ExploreTables} {n : ℕ} where
-  pub small-list : x .letters ≤ 64 → Explored x (replicate 520 (pos 0)) limit before after n → Explored x (valuesList (x .letters)) limit before after n
-  small-list h e = subst (λ b. Explored x (replicate (cond b 520 8200) (pos 0)) limit before after n) (sym (le-leb (x .letters) 64 h)) e
+  pub small-list : x .letters ≤ 64 → ExploredSheet x (replicate 520 (pos 0)) limit before after n → ExploredSheet x (valuesList (x .letters)) limit before after n
+  small-list h e = subst (λ b. ExploredSheet x (replicate (cond b 520 8200) (pos 0)) limit before after n) (sym (le-leb (x .letters) 64 h)) e
 
-  pub large-list : 64 < x .letters → Explored x (replicate 8200 (pos 0)) limit before after n → Explored x (valuesList (x .letters)) limit before after n
-  large-list h e = subst (λ b. Explored x (replicate (cond b 520 8200) (pos 0)) limit before after n) (sym (lt-leb (x .letters) 64 h)) e
+  pub large-list : 64 < x .letters → ExploredSheet x (replicate 8200 (pos 0)) limit before after n → ExploredSheet x (valuesList (x .letters)) limit before after n
+  large-list h e = subst (λ b. ExploredSheet x (replicate (cond b 520 8200) (pos 0)) limit before after n) (sym (lt-leb (x .letters) 64 h)) e
 
 -- The situations of an accepted sheet are found: the list has room for the values of as many letters as it has.
-pub explored-situations : {x : StoredSheet} {limit : ℕ} {before after : ExploreTables} {n : ℕ} → Explored x (valuesList (x .letters)) limit before after n → FindsSituations x limit before after n
+pub explored-situations : {x : StoredSheet} {limit : ℕ} {before after : ExploreTables} {n : ℕ} → ExploredSheet x (valuesList (x .letters)) limit before after n → FindsSituations x limit before after n
 explored-situations {x} {limit} {before} {after} e s accepted same room =
     subst (λ k. SituationsFound s limit k (after .entries) (after .flags)) (sym (e .rows)) (exploration-found accepted same (valuesList (x .letters)) long room (e .explored))
   where

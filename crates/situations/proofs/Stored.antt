@@ -17,7 +17,7 @@ use Rattle.sheet.specs.Refusal.{streamBound, constraintBound, firstBound, windo
 use Rattle.nodes.specs.Bounds.{lowsOf, highsOf}
 use Rattle.nodes.specs.FirstPlaces.{allFirstPlaces}
 use Rattle.nodes.specs.Postfix.{Node, node, StoredConstraint, allNodes, storedConstraints}
-use Rattle.reader.specs.declared.Sheet.{Sheet as StoredSheet}
+use Rattle.reader.specs.declared.StoredSheet.{StoredSheet}
 use Rattle.reader.specs.Stored.{padded, relationsOf, leftsOf, rightsOf, storedSheet}
 use Rattle.nodes.proofs.FirstPlaces.{allPlaces-long}
 use Rattle.nodes.specs.Evaluate.{stored}

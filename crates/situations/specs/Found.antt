@@ -13,7 +13,7 @@ use Rattle.meaning.specs.Situation.{SituationCount, MoreSituations}
 use Rattle.sheet.specs.Accepted.{Accepted}
 use Rattle.sheet.specs.Refusal.{streamBound, constraintBound, firstBound, windowBound}
 use Rattle.letters.specs.Described.{described, withLetters}
-use Rattle.reader.specs.declared.Sheet.{Sheet as StoredSheet}
+use Rattle.reader.specs.declared.StoredSheet.{StoredSheet}
 use Rattle.reader.specs.Stored.{storedSheet}
 use Rattle.extend.specs.Step.{Store, storeOf}
 use Rattle.explore.specs.Rows.{ExploredRows}
@@ -59,7 +59,7 @@ storeIn x list =
 
 -- What exploring any stored sheet gives: how many rows are found, or 0 where there are more than the limit. The values of its letters are written over a
 -- list. So nothing is left open (`Rattle.situations.proofs.Found.explored-once`).
-pub record Explored (x : StoredSheet) (list : List ℤ) (limit : ℕ) (before after : ExploreTables) (n : ℕ) : Type 0 where
+pub record ExploredSheet (x : StoredSheet) (list : List ℤ) (limit : ℕ) (before after : ExploreTables) (n : ℕ) : Type 0 where
   pub ready : Bool
   pub full : Bool
   pub count : ℕ

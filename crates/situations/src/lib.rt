@@ -3,7 +3,7 @@ use basics::fewer;
 ghost use mathlib.Core.Path.{_≡_};
 ghost use mathlib.Core.Bool.{cond};
 ghost use Rattle.explore.specs.Exploration.{exploreTables};
-ghost use Rattle.situations.specs.Found.{Explored, valuesList};
+ghost use Rattle.situations.specs.Found.{ExploredSheet, valuesList};
 
 // How many rows were found, or 0 where there are more than the limit.
 fn rows_found(found: explore::Exploration) -> usize
@@ -14,7 +14,7 @@ fn rows_found(found: explore::Exploration) -> usize
 
 // Explores the situations of a stored sheet. The values of its letters are written to `letter_values`.
 fn explored(
-    sheet: reader::Sheet,
+    sheet: reader::StoredSheet,
     limit: usize,
     letter_values: &mut [i64],
     entries: &mut [u16],
@@ -23,7 +23,7 @@ fn explored(
     heads: &mut [u32],
     links: &mut [u32],
 ) -> usize
-    ensures { λ r. ⌜ Explored sheet (now («letter_values» .entry)) limit (exploreTables (now (keys .entry)) (now (heads .entry)) (now (links .entry)) (now (entries .entry)) (now (finals .entry))) (exploreTables (now (keys .exit)) (now (heads .exit)) (now (links .exit)) (now (entries .exit)) (now (finals .exit))) r ⌝ }
+    ensures { λ r. ⌜ ExploredSheet sheet (now («letter_values» .entry)) limit (exploreTables (now (keys .entry)) (now (heads .entry)) (now (links .entry)) (now (entries .entry)) (now (finals .entry))) (exploreTables (now (keys .exit)) (now (heads .exit)) (now (links .exit)) (now (entries .exit)) (now (finals .exit))) r ⌝ }
 {
     let kinds = sheet.kinds;
     let values = sheet.values;
@@ -65,7 +65,7 @@ fn explored(
 // Explores the situations of a stored sheet: their number, with the entries and flags of their rows, or 0 where they are more than the limit. Few
 // letters have their values in a small list: clearing a large one takes longer than exploring a small sheet.
 pub fn situations(
-    sheet: reader::Sheet,
+    sheet: reader::StoredSheet,
     limit: usize,
     entries: &mut [u16],
     finals: &mut [u8],
@@ -73,7 +73,7 @@ pub fn situations(
     heads: &mut [u32],
     links: &mut [u32],
 ) -> usize
-    ensures { λ r. ⌜ Explored sheet (valuesList (sheet .letters)) limit (exploreTables (now (keys .entry)) (now (heads .entry)) (now (links .entry)) (now (entries .entry)) (now (finals .entry))) (exploreTables (now (keys .exit)) (now (heads .exit)) (now (links .exit)) (now (entries .exit)) (now (finals .exit))) r ⌝ }
+    ensures { λ r. ⌜ ExploredSheet sheet (valuesList (sheet .letters)) limit (exploreTables (now (keys .entry)) (now (heads .entry)) (now (links .entry)) (now (entries .entry)) (now (finals .entry))) (exploreTables (now (keys .exit)) (now (heads .exit)) (now (links .exit)) (now (entries .exit)) (now (finals .exit))) r ⌝ }
 {
     if sheet.letters <= 64 {
         let mut few = [0i64; 520];

@@ -1,45 +1,25 @@
--- Where the constraint lines begin: one byte of a loop over the bytes, and the tokens from there on, which are those of the constraint lines.
-use Prim.Native.Nat.{ℕ, zero, suc, _+_, _-_, _<_, _≤_}
+-- Where the constraint lines begin: behind the header lines that are found one after the other. The tokens from there on are those of the constraint
+-- lines.
+use Prim.Native.Nat.{ℕ, zero, suc, _+_, _-_, _<_, _≤_, min}
 use native.Mathlib.Omega.{arith}
+use native.Mathlib.Decide.{decLe}
+use native.Mathlib.Nat.{zero-add}
 use mathlib.Core.Path.{_≡_, refl, sym, ap, _∙_}
-use mathlib.Core.Bool.{Bool, true, false, cond}
+use mathlib.Core.Bool.{Bool, true, false, cond, true≢false}
 use mathlib.Core.List.{List, [], _∷_, _++_}
-use borrow.Author.Tests.{eqb-true, eq-eqb, ne-eqb, lt-ltb, le-ltb}
-use lib.Dec.{eqb}
-use lib.ListN.{length, getD, drop, drop-of-length-le}
+use borrow.Author.Tests.{eqb-true, lt-ltb, le-ltb}
+use lib.Dec.{eqb, ltb}
+use lib.ListN.{length, take, drop, length-drop}
 use Rattle.text.specs.Bytes.{Token, isInside, startsInside, lines, tokens, addToLines}
 use Rattle.text.proofs.Bytes.{tokens-append}
 use Rattle.meaning.specs.Window.{joinOver}
-use Rattle.scan.proofs.Tokens.{drop-at}
-use Rattle.sheet.specs.Form.{layoutIn}
+use Rattle.sheet.specs.Form.{saysKinds, layoutIn}
+use Rattle.scan.specs.declared.LineSpan.{LineSpan}
+use Rattle.scan.specs.Place.{between, LineAt, noLine, endedLine, lastLine}
+use Rattle.scan.proofs.Tokens.{between-length}
+use Rattle.refusals.specs.Places.{KindsLineAt, said, unsaid, HeaderOf}
+use Rattle.refusals.specs.declared.Header.{Header}
 use Rattle.spans.specs.Spans.{lineOffset, constraintsTo, spansIn}
-
-pub start-none : (l : List ℕ) → lineOffset 0 l ≡ 0
-unfolding lineOffset
-start-none l = refl
-
-pub start-over : (k : ℕ) (l : List ℕ) (i : ℕ) → length l ≤ i → lineOffset k (drop i l) ≡ 0
-unfolding lineOffset
-start-over k l i h = ap (lineOffset k) (drop-of-length-le l h) ∙ none k
-  where
-    none : (k : ℕ) → lineOffset k [] ≡ 0
-    none zero = refl
-    none (suc k) = refl
-
-module _ (l : List ℕ) (i : ℕ) (h : i < length l) where
-  pub start-ends : (k : ℕ) → 0 < k → getD l i 0 ≡ 10 → lineOffset k (drop i l) ≡ suc (lineOffset (k - 1) (drop (i + 1) l))
-  unfolding lineOffset
-  start-ends zero p e = absurd (omega arith)
-  start-ends (suc k) p e =
-      let less : k ≡ suc k - 1 = omega arith in
-      ap (lineOffset (suc k)) (drop-at l i h) ∙ ap (λ m. suc (cond m (lineOffset k (drop (i + 1) l)) (lineOffset (suc k) (drop (i + 1) l)))) (eq-eqb (getD l i 0) 10 e)
-      ∙ ap (λ n. suc (lineOffset n (drop (i + 1) l))) less
-
-  pub start-goes-on : (k : ℕ) → 0 < k → (getD l i 0 ≡ 10 → ⊥) → lineOffset k (drop i l) ≡ suc (lineOffset k (drop (i + 1) l))
-  unfolding lineOffset
-  start-goes-on zero p e = absurd (omega arith)
-  start-goes-on (suc k) p e =
-      ap (lineOffset (suc k)) (drop-at l i h) ∙ ap (λ m. suc (cond m (lineOffset k (drop (i + 1) l)) (lineOffset (suc k) (drop (i + 1) l)))) (ne-eqb (getD l i 0) 10 e)
 
 pub start-within : (k : ℕ) (l : List ℕ) → lineOffset k l ≤ length l
 unfolding lineOffset
@@ -50,6 +30,81 @@ start-within (suc k) (b ∷ l) = by (eqb b 10) (start-within k l) (start-within 
     by : (m : Bool) → lineOffset k l ≤ length l → lineOffset (suc k) l ≤ length l → suc (cond m (lineOffset k l) (lineOffset (suc k) l)) ≤ suc (length l)
     by true h i = omega arith
     by false h i = omega arith
+
+-- ---- the place behind lines that are found one after the other
+
+abbrev firstOf : List (List ℕ) → List ℕ
+firstOf [] = []
+firstOf (l ∷ ls) = l
+
+-- The first line with its byte 10, if it has one.
+first-offset : (l : List ℕ) → lineOffset 1 l ≡ min (suc (length (firstOf (lines l)))) (length l)
+unfolding lineOffset lines
+first-offset [] = omega arith
+first-offset (b ∷ l) = by (eqb b 10) (lines l) (first-offset l)
+  where
+    by : (m : Bool) (ls : List (List ℕ)) → lineOffset 1 l ≡ min (suc (length (firstOf ls))) (length l) → suc (cond m 0 (lineOffset 1 l)) ≡ min (suc (length (firstOf (addToLines m b ls)))) (suc (length l))
+    by true ls h = omega arith
+    by false [] h = omega arith
+    by false (x ∷ ls) h = omega arith
+
+offset-none : (l : List ℕ) → 0 ≡ lineOffset 0 l
+unfolding lineOffset
+offset-none l = refl
+
+-- One line more.
+offset-more : (k : ℕ) (l : List ℕ) → lineOffset (suc k) l ≡ lineOffset k l + lineOffset 1 (drop (lineOffset k l) l)
+unfolding lineOffset
+offset-more zero l = sym (zero-add (lineOffset 1 l))
+offset-more (suc k) [] = refl
+offset-more (suc k) (b ∷ l) = by (eqb b 10) (offset-more k l) (offset-more (suc k) l)
+  where
+    by : (m : Bool) → lineOffset (suc k) l ≡ lineOffset k l + lineOffset 1 (drop (lineOffset k l) l) → lineOffset (suc (suc k)) l ≡ lineOffset (suc k) l + lineOffset 1 (drop (lineOffset (suc k) l) l)
+        → suc (cond m (lineOffset (suc k) l) (lineOffset (suc (suc k)) l)) ≡ suc (cond m (lineOffset k l) (lineOffset (suc k) l)) + lineOffset 1 (drop (cond m (lineOffset k l) (lineOffset (suc k) l)) l)
+    by true h i = omega arith
+    by false h i = omega arith
+
+-- A line that is found ends where the bytes of one line more do.
+line-offset : {text : List ℕ} {at : ℕ} {r : LineSpan} (k : ℕ) → at ≡ lineOffset k text → LineAt text at r → r .next ≡ lineOffset (suc k) text
+line-offset {text} {at} {r} k e found =
+    let within = start-within k text in
+    let rest = length-drop at text in
+    let size = first-offset (drop at text) in
+    let more : lineOffset (suc k) text ≡ at + lineOffset 1 (drop at text) = offset-more k text ∙ sym (ap (λ n. n + lineOffset 1 (drop n text)) e) in
+    by found within rest size more
+  where
+    by : LineAt text at r → lineOffset k text ≤ length text → length (drop at text) ≡ length text - at → lineOffset 1 (drop at text) ≡ min (suc (length (firstOf (lines (drop at text))))) (length (drop at text))
+        → lineOffset (suc k) text ≡ at + lineOffset 1 (drop at text) → r .next ≡ lineOffset (suc k) text
+    by (noLine l p q n) within rest size more = omega arith
+    by (endedLine f w q n) within rest size more =
+        let long : length (firstOf (lines (drop at text))) ≡ r .end - at = ap (λ ls. length (firstOf ls)) n ∙ between-length text at (r .end) f (omega arith) in omega arith
+    by (lastLine f p q n) within rest size more =
+        let long : length (firstOf (lines (drop at text))) ≡ r .end - at = ap (λ ls. length (firstOf ls)) n ∙ between-length text at (r .end) (omega arith) (omega arith) in omega arith
+
+-- A line that says kinds has a byte.
+said-bytes : (text : List ℕ) (at end : ℕ) → at ≤ end → saysKinds (tokens (between text at end)) ≡ true → at < end
+unfolding saysKinds tokens
+said-bytes text at end h e = by (decLe end at)
+  where
+    by : Dec (end ≤ at) → at < end
+    by (yes l) = let n : end - at ≡ 0 = omega arith in absurd (true≢false (sym e ∙ ap (λ k. saysKinds (tokens (take k (drop at text)))) n))
+    by (no l) = omega arith
+
+-- The constraint lines begin behind the header lines.
+pub constraints-offset : {text : List ℕ} {h : Header} → HeaderOf text h → h .constraints ≡ lineOffset (layoutIn text .constraintsFrom) text
+constraints-offset {text} {h} H = by (H .kindsLine)
+  where
+    third : h .«kinds_start» ≡ lineOffset 3 text
+    third = line-offset 2 (line-offset 1 (line-offset 0 (offset-none text) (H .firstLine)) (H .secondLine)) (H .thirdLine)
+
+    counted : (b : Bool) → ltb (h .«kinds_start») (h .«kinds_end») ≡ b → layoutIn text .constraintsFrom ≡ cond b 4 3
+    counted b e = H .count ∙ ap (λ m. cond m 4 3) e
+
+    by : KindsLineAt text (h .«kinds_start») (record { end = h .«kinds_end»; next = h .constraints }) → h .constraints ≡ lineOffset (layoutIn text .constraintsFrom) text
+    by (said found e) =
+        let some = said-bytes text (h .«kinds_start») (h .«kinds_end») (H .kindsOrdered) e in
+        line-offset 3 third found ∙ ap (λ n. lineOffset n text) (sym (counted true (lt-ltb (h .«kinds_start») (h .«kinds_end») some)))
+    by (unsaid found e end next) = next ∙ third ∙ ap (λ n. lineOffset n text) (sym (counted false (le-ltb (h .«kinds_start») (h .«kinds_end») (omega arith))))
 
 -- The spans of a text that is too long, and of one that is not.
 pub spans-long : (text : List ℕ) → 65535 < length text → spansIn text ≡ []

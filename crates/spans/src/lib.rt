@@ -5,7 +5,7 @@ ghost use mathlib.Core.List.{[], _∷_};
 ghost use Prim.Native.Nat.{suc, _+_, _≤_, _<_};
 ghost use lib.ListN.{length};
 ghost use Rattle.spans.specs.Token.{span};
-ghost use Rattle.spans.specs.Spans.{partSpanTo, branchesBy, expressionSpan, constraintSpan, constraintsTo, lineOffset};
+ghost use Rattle.spans.specs.Spans.{partSpanTo, branchesBy, expressionSpan, constraintSpan, constraintsTo};
 ghost use Rattle.spans.specs.Stored.{spanBound, putSpans, spanTable, PlaceIn, StoresSpans};
 
 // The place behind a phrase, and how many spans are stored so far.
@@ -127,24 +127,6 @@ fn constraints(text: &[u8], from: usize, spans: &mut [u16; 2048]) -> usize
     }
 }
 
-// The place behind the first lines, so many of them.
-fn behind_lines(text: &[u8], count: usize) -> usize
-    ensures { λ r. ⌜ r ≡ lineOffset count (now (text .entry)) ⌝ }
-{
-    let mut left = count;
-    let mut i = 0;
-    while i < text.len() {
-        if left == 0 {
-            return i;
-        }
-        if text[i] == 10 {
-            left -= 1;
-        }
-        i += 1;
-    }
-    i
-}
-
 // The spans of the expressions of the sheet's constraints, two numbers each, in the order of the stored nodes. The table is zero where they are more
 // than a sheet's.
 pub fn spans(text: &[u8]) -> [u16; 2048]
@@ -154,8 +136,8 @@ pub fn spans(text: &[u8]) -> [u16; 2048]
     if 65535 < text.len() {
         return table;
     }
-    let from = behind_lines(text, refusals::header_lines(text));
-    let count = constraints(text, from, &mut table);
+    let header = refusals::header_of(text);
+    let count = constraints(text, header.constraints, &mut table);
     if 1024 < count {
         return [0; 2048];
     }

@@ -14,7 +14,7 @@ use Rattle.automaton.proofs.Places.{before-extend, before-later, before-row-end
 use Rattle.marks.specs.Tests.{isMarked}
 use Rattle.marks.proofs.Tests.{marked-test, test-marked}
 use Rattle.stored_graph.specs.StoredGraph.{IsStoredGraph}
-use Rattle.stored_graph.specs.Checking.{HasSizes, AreBits, Checked}
+use Rattle.stored_graph.specs.Checking.{HasGraphSizes, AreBits, Checked}
 
 place-order : (i a j b : ℕ) → Before i a j b ⊎ (((i ≡ j) × (a ≡ b)) ⊎ Before j b i a)
 place-order i a j b = go (decLt i j) (decLt j i) (decLt a b) (decLt b a)
@@ -27,7 +27,7 @@ place-order i a j b = go (decLt i j) (decLt j i) (decLt a b) (decLt b a)
     go (no g) (no h) (no r) (no s) = inr (inl (omega arith, omega arith))
 
 -- a graph has the sizes
-pub graph-sizes : {entries flags : List ℕ} {letters rows : ℕ} → IsStoredGraph entries flags letters rows → HasSizes entries flags letters rows
+pub graph-sizes : {entries flags : List ℕ} {letters rows : ℕ} → IsStoredGraph entries flags letters rows → HasGraphSizes entries flags letters rows
 graph-sizes G = record { some-letter = G .some-letter; some-row = G .some-row; few-rows = G .few-rows; entries-fit = G .entries-fit; flags-fit = G .flags-fit }
 
 -- where flags are 1 or 0, a flag does not fall if the byte does not
@@ -35,7 +35,7 @@ pub flag-stays : (flags : List ℕ) (rows s u : ℕ) → AreBits flags rows → 
 flag-stays flags rows s u b h l t = marked-test flags u (omega (arith, b u h, test-marked flags s t))
 
 module _ {entries flags : List ℕ} {letters rows : ℕ} where
-  pub checked-start : HasSizes entries flags letters rows → Checked entries flags letters rows 0 0 1
+  pub checked-start : HasGraphSizes entries flags letters rows → Checked entries flags letters rows 0 0 1
   checked-start z = record {
     some = omega arith;
     most = z .some-row;
@@ -158,7 +158,7 @@ module _ {entries flags : List ℕ} {letters rows : ℕ} where
         not-named j (f .state) (f .letter) l h (f .is-letter) (inl (omega (arith, f .earlier-state))) (f .holds)
 
   -- all rows are checked and met
-  pub checked-graph : {i met : ℕ} → i ≡ rows → met ≡ rows → HasSizes entries flags letters rows → AreBits flags rows → Checked entries flags letters rows i 0 met → IsStoredGraph entries flags letters rows
+  pub checked-graph : {i met : ℕ} → i ≡ rows → met ≡ rows → HasGraphSizes entries flags letters rows → AreBits flags rows → Checked entries flags letters rows i 0 met → IsStoredGraph entries flags letters rows
   checked-graph {i} {met} e m z b C = record {
     some-letter = z .some-letter;
     some-row = z .some-row;

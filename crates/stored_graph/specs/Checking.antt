@@ -11,7 +11,7 @@ use Rattle.marks.specs.Tests.{isMarked}
 use Rattle.stored_graph.specs.StoredGraph.{IsStoredGraph}
 
 -- the sizes of a graph in tables
-pub record HasSizes (entries flags : List ℕ) (letters rows : ℕ) : Type 0 where
+pub record HasGraphSizes (entries flags : List ℕ) (letters rows : ℕ) : Type 0 where
   pub some-letter : 0 < letters
   pub some-row : 0 < rows
   pub few-rows : rows ≤ 4096

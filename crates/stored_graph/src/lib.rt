@@ -4,11 +4,11 @@ ghost use Prim.Native.Nat.{suc, _<_, _≤_};
 ghost use lib.ListN.{length};
 ghost use Rattle.basics.specs.Answers.{Says};
 ghost use Rattle.stored_graph.specs.StoredGraph.{IsStoredGraph};
-ghost use Rattle.stored_graph.specs.Checking.{HasSizes, AreBits, Checked, CheckedTo};
+ghost use Rattle.stored_graph.specs.Checking.{HasGraphSizes, AreBits, Checked, CheckedTo};
 
 // Whether there are letters and rows, at most 4,096 rows, and room for them in the tables.
 fn has_sizes(entries: &[u16], flags: &[u8], letters: usize, rows: usize) -> bool
-    ensures { λ r. ⌜ Says r (HasSizes (now (entries .entry)) (now (flags .entry)) letters rows) ⌝ }
+    ensures { λ r. ⌜ Says r (HasGraphSizes (now (entries .entry)) (now (flags .entry)) letters rows) ⌝ }
 {
     if letters == 0 {
         return false;
@@ -51,7 +51,7 @@ fn check_entry(
     letter: usize,
     known: usize,
 ) -> usize
-    requires { ⌜ HasSizes (now entries) (now flags) letters rows ⌝ }
+    requires { ⌜ HasGraphSizes (now entries) (now flags) letters rows ⌝ }
     requires { ⌜ AreBits (now flags) rows ⌝ }
     requires { ⌜ (row < rows) × (letter < letters) × (row < known) ⌝ }
     requires { ⌜ Checked (now entries) (now flags) letters rows row letter known ⌝ }
@@ -85,7 +85,7 @@ fn check_row(
     row: usize,
     known: usize,
 ) -> usize
-    requires { ⌜ HasSizes (now entries) (now flags) letters rows ⌝ }
+    requires { ⌜ HasGraphSizes (now entries) (now flags) letters rows ⌝ }
     requires { ⌜ AreBits (now flags) rows ⌝ }
     requires { ⌜ (row < rows) × (row < known) ⌝ }
     requires { ⌜ Checked (now entries) (now flags) letters rows row 0 known ⌝ }
@@ -105,7 +105,7 @@ fn check_row(
 
 // Whether every row is met before its entries are checked, and every entry passes.
 fn is_checked(entries: &[u16], flags: &[u8], letters: usize, rows: usize) -> bool
-    requires { ⌜ HasSizes (now entries) (now flags) letters rows ⌝ }
+    requires { ⌜ HasGraphSizes (now entries) (now flags) letters rows ⌝ }
     requires { ⌜ AreBits (now flags) rows ⌝ }
     ensures { λ r. ⌜ Says r (IsStoredGraph (now (entries .entry)) (now (flags .entry)) letters rows) ⌝ }
 {

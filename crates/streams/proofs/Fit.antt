@@ -18,15 +18,16 @@ use Rattle.meaning.specs.Letter.{letterCount}
 use Rattle.sheet.specs.Form.{namesOf}
 use Rattle.sheet.specs.Refusal.{letterBound, InBounds, sheet}
 use Rattle.sheet.specs.Reading.{answerToSheet}
+use Rattle.sheet.specs.Names.{nameIn}
 use Rattle.sheet.specs.Accepted.{AcceptedStreams}
 use Rattle.sheet.proofs.StreamsAlone.{alone-accepted}
 use Rattle.nodes.specs.Bounds.{lowsOf, highsOf}
 use Rattle.letters.specs.Described.{described, cutCount}
 use Rattle.letters.proofs.Streams.{letterCount-unnamed}
-use Rattle.streams.specs.Description.{nameIn, rangeAt, streamIn, describedFrom, descriptionOf, StreamsFit, StreamFits, EachFits}
-use Rattle.streams.specs.declared.Streams.{Streams}
+use Rattle.streams.specs.Description.{rangeAt, streamIn, describedFrom, descriptionOf, StreamsFit, StreamFits, EachFits}
+use Rattle.streams.specs.declared.StreamsDescription.{StreamsDescription}
 
-module _ (s : Streams) where
+module _ (s : StreamsDescription) where
   abbrev named : ℕ → Token
   named k = nameIn (s .names) (s .lengths) k
 
@@ -77,7 +78,7 @@ module _ (s : Streams) where
 
   -- ---- each stream fits
 
-  each-accepted : 0 < s .count → s .count ≤ 8 → EachFits s → AcceptedStreams (descriptionOf s)
+  pub each-accepted : 0 < s .count → s .count ≤ 8 → EachFits s → AcceptedStreams (descriptionOf s)
   each-accepted some few each =
       let l = streams-length 0 (s .count) in
       record {
@@ -90,7 +91,7 @@ module _ (s : Streams) where
         rangesInBounds = λ x m. let (i, a, b, e) = stream-origin 0 (s .count) x m in subst (λ (y : Stream). InBounds (y .range)) (sym e) (each i (omega arith) .range .inBounds);
       }
 
-  accepted-each : {letters : ℕ} → StreamsFit s letters → EachFits s
+  pub accepted-each : {letters : ℕ} → StreamsFit s letters → EachFits s
   accepted-each f k h =
       let a = f .accepted in
       let m = stream-member 0 (s .count) k (omega arith) (omega arith) in
@@ -99,6 +100,7 @@ module _ (s : Streams) where
         kind = f .kinds k h;
         range = record { inBounds = a .rangesInBounds (streamIn s k) m; ordered = a .rangesOrdered (streamIn s k) m };
         name = record {
+          short = f .lengths k h;
           isAName = a .areNames (named k) t;
           unreserved = a .noReserved (named k) t;
           isNew = λ j l e. names-apart 0 (s .count) (a .noRepeats) k j (omega arith) l (omega arith) e;
@@ -126,7 +128,7 @@ module _ (s : Streams) where
   highs-from k zero h = refl
   highs-from k (suc n) h = ap (λ l. getD (s .highs) k (pos 0) ∷ l) (highs-from (suc k) n (omega arith)) ∙ sym (ap (take (suc n)) (drop-cons (s .highs) k (pos 0) (omega arith)))
 
-  letters-made : s .count ≤ length (s .lows) → s .count ≤ length (s .highs) → letterCount (described (take (s .count) (s .lows)) (take (s .count) (s .highs))) ≡ letterCount (descriptionOf s)
+  pub letters-made : s .count ≤ length (s .lows) → s .count ≤ length (s .highs) → letterCount (described (take (s .count) (s .lows)) (take (s .count) (s .highs))) ≡ letterCount (descriptionOf s)
   letters-made a b = ap letterCount (ap₂ described (sym (lows-from 0 (s .count) (omega arith))) (sym (highs-from 0 (s .count) (omega arith)))) ∙ letterCount-unnamed (descriptionOf s)
 
   -- What the count of letters, which is cut, says.
@@ -136,7 +138,7 @@ module _ (s : Streams) where
     exact = counted ∙ ap cutCount (letters-made (omega arith) (omega arith))
 
     pub letters-fit : made ≡ letters → StreamsFit s letters
-    letters-fit e = record { kinds = λ k h. each k h .kind; accepted = each-accepted (positive (s .count) some) few each; fewLetters = bounded; makesLetters = let x = exact in omega arith }
+    letters-fit e = record { kinds = λ k h. each k h .kind; lengths = λ k h. each k h .name .short; accepted = each-accepted (positive (s .count) some) few each; fewLetters = bounded; makesLetters = let x = exact in omega arith }
       where
         positive : (n : ℕ) → (n ≡ 0 → ⊥) → 0 < n
         positive zero d = absurd (d refl)
@@ -146,6 +148,6 @@ module _ (s : Streams) where
     letters-unfit d f = d (let x = exact in let y = f .makesLetters in omega arith)
 
 -- "Streams that no accepted sheet could have": those that fit are the streams of a sheet that none of the refusals 4 to 7 applies to.
-pub fit-accepted : {s : Streams} {letters : ℕ} → (f : StreamsFit s letters)
+pub fit-accepted : {s : StreamsDescription} {letters : ℕ} → (f : StreamsFit s letters)
     → answerToSheet (record { streams = descriptionOf s; constraints = [] }) ≡ sheet (record { streams = descriptionOf s; constraints = [] })
 fit-accepted f = alone-accepted (f .accepted) (subst (λ n. n ≤ letterBound) (sym (f .makesLetters)) (f .fewLetters))

@@ -1,3 +1,4 @@
+pub mod Decided
 pub mod Fit
 pub mod Names
 pub mod Ranges

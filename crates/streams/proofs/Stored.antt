@@ -1,14 +1,13 @@
 -- The streams that are described by their names in eight bytes each, their lengths, ranges and kinds, with anything behind them, are the streams
 -- themselves; those of an accepted sheet fit. By induction over the streams.
-use Prim.Native.Nat.{ℕ, zero, suc, _+_, _-_, _*_, _≤_, _<_}
+use Prim.Native.Nat.{ℕ, zero, suc, _+_, _≤_, _<_}
 use native.Mathlib.Omega.{arith}
+use native.Mathlib.Nat.{zero-add}
 use mathlib.Core.Path.{_≡_, refl, sym, ap, ap₂, subst, _∙_}
-use mathlib.Core.Bool.{cond}
-use mathlib.Core.List.{List, [], _∷_, _++_, map, append-assoc, List·Memᴰ, List·Memᴰ·head, List·Memᴰ·tail}
-use lib.IntN.{ℤ}
-use lib.ListN.{length, getD, take, drop, replicate, length-append, length-replicate}
-use lib.Seq.{take-at, drop-append-add}
-use borrow.Author.Tests.{le-leb}
+use mathlib.Core.List.{List, [], _∷_, _++_, map, List·Memᴰ·head, List·Memᴰ·tail}
+use lib.IntN.{ℤ, pos}
+use lib.ListN.{length, getD, length-map, List·getD-append}
+use Rattle.basics.proofs.Lists.{getD-map}
 use Rattle.meaning.specs.Expression.{StreamKind, readKind, setKind, Stream}
 use Rattle.meaning.specs.Letter.{letterCount}
 use Rattle.meaning.specs.Window.{joinOver}
@@ -16,9 +15,9 @@ use Rattle.nodes.specs.Code.{streamKindCode}
 use Rattle.sheet.specs.Refusal.{letterBound}
 use Rattle.sheet.specs.Names.{eightBytes, ShortNames}
 use Rattle.sheet.specs.Accepted.{AcceptedStreams}
-use Rattle.sheet.proofs.Names.{short-names}
-use Rattle.streams.specs.Description.{nameLength, nameIn, kindWith, streamIn, describedFrom, descriptionOf, StreamsFit}
-use Rattle.streams.specs.declared.Streams.{Streams}
+use Rattle.sheet.proofs.Names.{short-names, name-found}
+use Rattle.streams.specs.Description.{kindWith, streamIn, describedFrom, descriptionOf, StreamsFit}
+use Rattle.streams.specs.declared.StreamsDescription.{StreamsDescription}
 
 kind-back : (k : StreamKind) → kindWith (streamKindCode k) ≡ k
 kind-back readKind = refl
@@ -28,9 +27,18 @@ kind-small : (k : StreamKind) → streamKindCode k ≤ 1
 kind-small readKind = omega arith
 kind-small setKind = omega arith
 
+-- What is described from a place on are streams that stand there one after the other.
+described-are : (s : StreamsDescription) (d : Stream) (ss : List Stream) (k : ℕ) → ((j : ℕ) → j < length ss → streamIn s (k + j) ≡ getD ss j d) → describedFrom s k (length ss) ≡ ss
+unfolding describedFrom
+described-are s d [] k h = refl
+described-are s d (x ∷ ss) k h =
+    let here : k ≡ k + 0 = omega arith in
+    let next : (j : ℕ) → suc k + j ≡ k + suc j = λ j. omega arith in
+    ap₂ _∷_ (ap (streamIn s) here ∙ h 0 (omega arith)) (described-are s d ss (suc k) (λ j l. ap (streamIn s) (next j) ∙ h (suc j) (omega arith)))
+
 module _ (moreNames moreLengths : List ℕ) (moreLows moreHighs : List ℤ) (moreKinds : List ℕ) where
   -- So many of the streams, as they are stored.
-  abbrev pub describing : List Stream → ℕ → Streams
+  abbrev pub describing : List Stream → ℕ → StreamsDescription
   describing ss n =
       record {
         count = n;
@@ -41,38 +49,27 @@ module _ (moreNames moreLengths : List ℕ) (moreLows moreHighs : List ℤ) (mor
         kinds = map (λ x. streamKindCode (x .kind)) ss ++ moreKinds;
       }
 
-  -- The first stream, and those behind it.
-  first-stream : (x : Stream) (ss : List Stream) (n : ℕ) → length (x .name) ≤ 8 → streamIn (describing (x ∷ ss) n) 0 ≡ x
-  first-stream x ss n h =
-      let rest = replicate (8 - length (x .name)) 0 ++ (joinOver eightBytes ss ++ moreNames) in
-      let name : nameIn (describing (x ∷ ss) n .names) (describing (x ∷ ss) n .lengths) 0 ≡ x .name =
-      ap₂ take (ap (λ b. cond b (length (x .name)) 0) (le-leb (length (x .name)) 8 h)) (append-assoc (eightBytes x) (joinOver eightBytes ss) moreNames ∙ append-assoc (x .name) (replicate (8 - length (x .name)) 0) (joinOver eightBytes ss ++ moreNames))
-      ∙ take-at (x .name) rest (length (x .name)) refl in
-      λ i. record { name = name i; kind = kind-back (x .kind) i; range = x .range }
-
-  later-stream : (x : Stream) (ss : List Stream) (n m k : ℕ) → length (x .name) ≤ 8 → streamIn (describing (x ∷ ss) n) (suc k) ≡ streamIn (describing ss m) k
-  later-stream x ss n m k h =
-      let a = length-append (x .name) (replicate (8 - length (x .name)) 0) in
-      let b = length-replicate {A = ℕ} (8 - length (x .name)) 0 in
-      let e : suc k * 8 ≡ length (eightBytes x) + k * 8 = omega arith in
-      let bytes = ap₂ drop e (append-assoc (eightBytes x) (joinOver eightBytes ss) moreNames) ∙ drop-append-add (eightBytes x) (joinOver eightBytes ss ++ moreNames) (k * 8) in
-      ap (λ l. record {
-        name = take (nameLength (getD (map (λ y. length (y .name)) ss ++ moreLengths) k 0)) l;
-        kind = kindWith (getD (map (λ y. streamKindCode (y .kind)) ss ++ moreKinds) k 0);
-        range = streamIn (describing ss m) k .range;
-      }) bytes
-
-  later-streams : (x : Stream) (ss : List Stream) (n m k count : ℕ) → length (x .name) ≤ 8 → describedFrom (describing (x ∷ ss) n) (suc k) count ≡ describedFrom (describing ss m) k count
-  unfolding describedFrom
-  later-streams x ss n m k zero h = refl
-  later-streams x ss n m k (suc count) h = ap₂ _∷_ (later-stream x ss n m k h) (later-streams x ss n m (suc k) count h)
+  -- Each stream is described at its place.
+  stream-at : (ss : List Stream) (n k : ℕ) → ShortNames ss → k < length ss → (d : Stream) → streamIn (describing ss n) k ≡ getD ss k d
+  stream-at ss n k short h d =
+      let name = name-found moreNames moreLengths ss short k h ∙ getD-map (λ (x : Stream). x .name) ss k d [] h in
+      let kind = ap kindWith (mapped (λ x. streamKindCode (x .kind)) moreKinds 0) ∙ kind-back (getD ss k d .kind) in
+      let low = mapped (λ x. x .range .low) moreLows (pos 0) in
+      let high = mapped (λ x. x .range .high) moreHighs (pos 0) in
+      λ i. record { name = name i; kind = kind i; range = record { low = low i; high = high i } }
+    where
+      mapped : {X : Type 0} (f : Stream → X) (more : List X) (e : X) → getD (map f ss ++ more) k e ≡ f (getD ss k d)
+      mapped f more e = List·getD-append (map f ss) more e k (subst (λ m. k < m) (sym (length-map ss f)) h) ∙ getD-map f ss k d e h
 
   pub description-stored : (ss : List Stream) → ShortNames ss → descriptionOf (describing ss (length ss)) ≡ ss
   unfolding describedFrom
   description-stored [] short = refl
-  description-stored (x ∷ ss) short =
-      let h = short x (List·Memᴰ·head refl) in
-      ap₂ _∷_ (first-stream x ss (suc (length ss)) h) (later-streams x ss (suc (length ss)) (length ss) 0 (length ss) h ∙ description-stored ss (λ y m. short y (List·Memᴰ·tail m)))
+  description-stored (x ∷ ss) short = described-are (describing (x ∷ ss) (suc (length ss))) x (x ∷ ss) 0 (λ j h. ap (streamIn (describing (x ∷ ss) (suc (length ss)))) (zero-add j) ∙ stream-at (x ∷ ss) (suc (length ss)) j short h x)
+
+  lengths-small : (ss : List Stream) → ShortNames ss → (k : ℕ) → k < length ss → getD (map (λ x. length (x .name)) ss ++ moreLengths) k 0 ≤ 8
+  lengths-small [] short k h = absurd (omega arith)
+  lengths-small (x ∷ ss) short zero h = short x (List·Memᴰ·head refl)
+  lengths-small (x ∷ ss) short (suc k) h = lengths-small ss (λ y m. short y (List·Memᴰ·tail m)) k (omega arith)
 
   codes-small : (ss : List Stream) (k : ℕ) → k < length ss → getD (map (λ x. streamKindCode (x .kind)) ss ++ moreKinds) k 0 ≤ 1
   codes-small [] k h = absurd (omega arith)
@@ -83,4 +80,4 @@ module _ (moreNames moreLengths : List ℕ) (moreLows moreHighs : List ℤ) (mor
   pub stored-fit : (ss : List Stream) → AcceptedStreams ss → letterCount ss ≤ letterBound → StreamsFit (describing ss (length ss)) (letterCount ss)
   stored-fit ss a few =
       let same = description-stored ss (short-names a) in
-      record { kinds = codes-small ss; accepted = subst AcceptedStreams (sym same) a; fewLetters = few; makesLetters = ap letterCount same }
+      record { kinds = codes-small ss; lengths = lengths-small ss (short-names a); accepted = subst AcceptedStreams (sym same) a; fewLetters = few; makesLetters = ap letterCount same }

@@ -1,14 +1,14 @@
 // Streams as a host describes them, names, ranges and kinds, and whether an accepted sheet could have them.
 ghost use mathlib.Core.Path.{_≡_};
-ghost use Prim.Native.Nat.{_≤_, _<_};
+ghost use Prim.Native.Nat.{_≤_, _<_, min};
 ghost use lib.ListN.{length};
 ghost use Rattle.basics.specs.Answers.{Says};
-ghost use Rattle.streams.specs.Description.{nameLength, IsNewName, NameFits, RangeFits, StreamFits, EachFits, StreamsFit};
+ghost use Rattle.streams.specs.Description.{IsNewName, NameFits, RangeFits, StreamFits, EachFits, StreamsFit};
 
 // So many streams: eight bytes for each name, the names' lengths, the lowest and highest values, and the kinds, 0 for `set` and 1 for `read`. Laid out
 // as in C, so that exported functions can take it and give it back.
 #[repr(C)]
-pub struct Streams {
+pub struct StreamsDescription {
     pub count: usize,
     pub names: [u8; 64],
     pub lengths: [u8; 8],
@@ -17,11 +17,11 @@ pub struct Streams {
     pub kinds: [u8; 8],
 }
 
-// How many of its eight bytes a name has: none where its length is too large.
+// How many of its eight bytes a name has.
 fn name_length(length: u8) -> usize
-    ensures { λ r. ⌜ (r ≡ nameLength length) × (r ≤ 8) ⌝ }
+    ensures { λ r. ⌜ r ≡ min length 8 ⌝ }
 {
-    if length <= 8 { length as usize } else { 0 }
+    if length <= 8 { length as usize } else { 8 }
 }
 
 // Whether a stream's name is none of those before it.
@@ -43,11 +43,14 @@ fn is_new(names: &[u8], lengths: &[u8], stream: usize) -> bool
     true
 }
 
-// Whether a stream's name is one, not reserved, and none of those before it.
+// Whether a stream's name has no more than its eight bytes, is one, not reserved, and none of those before it.
 fn name_fits(names: &[u8], lengths: &[u8], stream: usize) -> bool
     requires { ⌜ (length (now names) ≡ 64) × (length (now lengths) ≡ 8) × (stream < 8) ⌝ }
     ensures { λ r. ⌜ Says r (NameFits (now (names .entry)) (now (lengths .entry)) stream) ⌝ }
 {
+    if 8 < lengths[stream] {
+        return false;
+    }
     let from = stream * 8;
     let to = from + name_length(lengths[stream]);
     if !scan::is_name(&names[from..to]) {
@@ -73,7 +76,7 @@ fn range_fits(low: i64, high: i64) -> bool
 }
 
 // Whether an accepted sheet with the streams before this one could have it too.
-fn stream_fits(streams: Streams, stream: usize) -> bool
+fn stream_fits(streams: StreamsDescription, stream: usize) -> bool
     requires { ⌜ stream < 8 ⌝ }
     ensures { λ r. ⌜ Says r (StreamFits streams stream) ⌝ }
 {
@@ -91,7 +94,7 @@ fn stream_fits(streams: Streams, stream: usize) -> bool
     name_fits(&names, &lengths, stream)
 }
 
-fn each_fits(streams: Streams) -> bool
+fn each_fits(streams: StreamsDescription) -> bool
     requires { ⌜ streams .count ≤ 8 ⌝ }
     ensures { λ r. ⌜ Says r (EachFits streams) ⌝ }
 {
@@ -107,7 +110,7 @@ fn each_fits(streams: Streams) -> bool
 }
 
 // Whether an accepted sheet could have the streams, and they make so many letters.
-pub fn streams_fit(streams: Streams, letters: usize) -> bool
+pub fn streams_fit(streams: StreamsDescription, letters: usize) -> bool
     ensures { λ r. ⌜ Says r (StreamsFit streams letters) ⌝ }
 {
     let count = streams.count;

@@ -13,10 +13,10 @@ use Rattle.basics.proofs.Answers.{reflects-says}
 use Rattle.basics.proofs.Reflects.{Reflects, reflects-iff, or-reflects, and-reflects, eqb-reflects, ltb-reflects}
 use Rattle.automaton.specs.Table.{noState}
 use Rattle.automaton.specs.WellFormed.{mostRows, IsWellFormed}
-use Rattle.tables.specs.Parts.{HasSizes, AreRows, AreFlags}
+use Rattle.tables.specs.Parts.{HasTableSizes, AreRows, AreFlags}
 
 -- the last test of the sizes, where the others have passed
-pub sizes-tested : (k n size : ℕ) → (k ≡ 0 → ⊥) → (n ≡ 0 → ⊥) → n ≤ mostRows → Says (eqb (n * k) size) (HasSizes k n size)
+pub sizes-tested : (k n size : ℕ) → (k ≡ 0 → ⊥) → (n ≡ 0 → ⊥) → n ≤ mostRows → Says (eqb (n * k) size) (HasTableSizes k n size)
 sizes-tested k n size some row few =
     reflects-says
     (reflects-iff
@@ -34,7 +34,7 @@ rows-tested entries n m known =
     (and-reflects known (or-reflects (ltb-reflects (getD entries m 0) n) (eqb-reflects (getD entries m 0) noState)))
 
 module _ {k : ℕ} {entries finals : List ℕ} where
-  pub parts-well-formed : HasSizes k (length finals) (length entries) → AreFlags finals → AreRows entries (length finals) (length entries)
+  pub parts-well-formed : HasTableSizes k (length finals) (length entries) → AreFlags finals → AreRows entries (length finals) (length entries)
       → IsWellFormed k entries finals
   parts-well-formed sizes bits rows = record {
     whole = record {
@@ -47,7 +47,7 @@ module _ {k : ℕ} {entries finals : List ℕ} where
     flags = bits;
   }
 
-  pub well-formed-sizes : IsWellFormed k entries finals → HasSizes k (length finals) (length entries)
+  pub well-formed-sizes : IsWellFormed k entries finals → HasTableSizes k (length finals) (length entries)
   well-formed-sizes formed = record {
     some-letter = formed .whole .some-letter;
     some-row = formed .whole .some-row;

@@ -8,7 +8,7 @@ use Rattle.automaton.specs.Table.{noState}
 use Rattle.automaton.specs.WellFormed.{mostRows}
 
 -- n rows for k letters take as many entries as there are
-pub record HasSizes (k n size : ℕ) : Type 0 where
+pub record HasTableSizes (k n size : ℕ) : Type 0 where
   pub some-letter : k ≢ 0
   pub some-row : 0 < n
   pub few-rows : n ≤ mostRows

@@ -2,13 +2,13 @@
 ghost use lib.ListN.{length};
 ghost use Rattle.basics.specs.Answers.{Says};
 ghost use Rattle.automaton.specs.WellFormed.{IsWellFormed};
-ghost use Rattle.tables.specs.Parts.{HasSizes, AreRows, AreFlags};
+ghost use Rattle.tables.specs.Parts.{HasTableSizes, AreRows, AreFlags};
 use automaton::MOST_ROWS;
 use automaton::NO_STATE;
 
 // Whether there are letters and rows, not too many rows, and one entry for each letter of each row.
 fn has_sizes(entries: usize, rows: usize, letters: usize) -> bool
-    ensures { λ r. ⌜ Says r (HasSizes letters rows entries) ⌝ }
+    ensures { λ r. ⌜ Says r (HasTableSizes letters rows entries) ⌝ }
 {
     if letters == 0 {
         return false;

@@ -33,6 +33,7 @@ use Rattle.outcome.specs.Room.{zeroTables}
 use Rattle.outcome.specs.Compile.{CompileAnswer, refusedAnswer, situationBound, Room, Tables, allZero, HoldsSheetTable, tooManySituations, tooFewRows, noSolution, compiled, CompileCall, unread, read}
 use Rattle.outcome.specs.NormalForm.{NormalAnswer, refusedNormalAnswer, NormalOutcome, unread, tooShort, given}
 use Rattle.outcome.proofs.Answers.{one-sheet}
+use Rattle.outcome.proofs.Leaves.{compile-leaves, refused-zero as refused-tables}
 use Rattle.outcome.proofs.AcceptedCompile.{accepted-compile, refusal-in-range}
 use Rattle.outcome.proofs.CompileUnique.{compile-unique}
 use Rattle.outcome.proofs.StateCount.{states-at-most-situations}
@@ -85,25 +86,11 @@ module _ {text : List ℕ} {room : Room} {a : CompileAnswer} {t : Tables} (call 
 
   -- "A refusal returns its number with states and situations 0." "After a refused compile every lent table is zero" (demand 1).
   pub refused-zero : 0 < a .refusal → (a ≡ refusedAnswer (a .refusal)) × (t ≡ allZero room)
-  refused-zero h = go call h
-    where
-      go : {b : CompileAnswer} {u : Tables} → CompileCall text room b u → 0 < b .refusal → (b ≡ refusedAnswer (b .refusal)) × (u ≡ allZero room)
-      go (unread r) h = (refl, refl)
-      go (read r (tooManySituations x y)) h = (refl, refl)
-      go (read r (tooFewRows x y)) h = (refl, refl)
-      go (read r (noSolution e f)) h = (refl, refl)
-      go (read r (compiled e x)) h = absurd (omega arith)
+  refused-zero h = refused-tables call h
 
   -- "work tables are zero after every call"
   pub work-zero : t .work ≡ zeroTables (room .work)
-  work-zero = go call
-    where
-      go : {b : CompileAnswer} {u : Tables} → CompileCall text room b u → u .work ≡ zeroTables (room .work)
-      go (unread r) = refl
-      go (read r (tooManySituations x y)) = refl
-      go (read r (tooFewRows x y)) = refl
-      go (read r (noSolution e f)) = refl
-      go (read r (compiled e x)) = x .workZero
+  work-zero = compile-leaves call .workZero
 
   -- ---- demand 2, for an accepted sheet: "A sheet is accepted if its compile gives no refusal."
 

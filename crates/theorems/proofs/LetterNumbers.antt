@@ -26,7 +26,7 @@ use Rattle.letters.specs.Described.{ranged, described, cutCount, isLetter, numb
 use Rattle.letters.proofs.Counts.{empty-size, cut-product}
 use Rattle.letters.proofs.Streams.{letterCount-unnamed, isLetter-sound, isLetter-complete}
 use Rattle.letters.proofs.Widths.{wide-enough, product-fits, next-number-fits}
-use Rattle.theorems.specs.LetterNumbers.{ExactUpTo, counts, HasCount}
+use Rattle.theorems.specs.LetterNumbers.{ExactUpTo, workedCounts, HasCount}
 
 -- ---- the count
 
@@ -53,9 +53,9 @@ pub empty-range-count : (lows highs : List ℤ) (i : ℕ) → i < min (length lo
 empty-range-count lows highs i inside empty call = omega (arith, empty-product lows highs i inside empty)
 
 -- Worked counts, by computation.
-pub counts-hold : All HasCount counts
-unfolding counts letterCount
-counts-hold = (refl, (refl, (refl, (refl, (refl, (refl, (refl, (refl, (refl, (refl, tt))))))))))
+pub worked-counts-hold : All HasCount workedCounts
+unfolding workedCounts letterCount
+worked-counts-hold = (refl, (refl, (refl, (refl, (refl, (refl, (refl, (refl, (refl, (refl, tt))))))))))
 
 -- ---- the number of a letter
 

@@ -9,5 +9,6 @@ pub mod RecordTexts
 pub mod Replaying
 pub mod WorkedRecords
 pub mod Courses
+pub mod Strategies
 pub mod LetterNumbers
 pub mod Divisions

@@ -24,7 +24,7 @@ use Rattle.sheet.specs.Form.{namesOf}
 use Rattle.print.specs.Text.{refusalLine}
 use Rattle.records.specs.Line.{ValueLine, malformed, outside, letter, isPlain, isOnePerStream, valuesRead, valueLine, isNamesLine}
 use Rattle.replaying.specs.Replay.{replayHeading, stateLine, LineOutcome, reaches, refuses, entered, lineThen, outcomeFrom, replayed, replayedLines}
-use Rattle.theorems.specs.Replaying.{stateLines, refusalText, valuesOf, IsLetterLine, AreLetters, lettersOf, statesThen, refusalThen, statesReached, refusalMet, PlaysThrough, ends, goes-on, Fault, fault13, fault14, fault12, FirstFault}
+use Rattle.theorems.specs.Replaying.{stateLines, refusalText, lineValues, IsLetterLine, AreLetters, lettersOf, statesThen, refusalThen, statesReached, refusalMet, PlaysThrough, ends, goes-on, Fault, fault13, fault14, fault12, FirstFault}
 
 -- ---- one line
 
@@ -36,11 +36,11 @@ values-read {ss} {v} {a} e = go (isLetter ss v) refl e
     go false t q = let z : _≡_ {A = ℕ} 0 1 = cc in absurd (omega arith)
 
 -- A line that is a letter has the values of a letter, and its number.
-pub letter-line : (ss : List Stream) (l : List ℕ) {a : ℕ} → valueLine ss l ≡ letter a → IsLetter ss (valuesOf l) × (a ≡ letterNumber ss (valuesOf l))
+pub letter-line : (ss : List Stream) (l : List ℕ) {a : ℕ} → valueLine ss l ≡ letter a → IsLetter ss (lineValues l) × (a ≡ letterNumber ss (lineValues l))
 unfolding valueLine
 letter-line ss l {a} e = go (allBytes isPlain l && isOnePerStream ss (tokens l)) e
   where
-    go : (b : Bool) → cond b (valuesRead ss (valuesOf l)) malformed ≡ letter a → IsLetter ss (valuesOf l) × (a ≡ letterNumber ss (valuesOf l))
+    go : (b : Bool) → cond b (valuesRead ss (lineValues l)) malformed ≡ letter a → IsLetter ss (lineValues l) × (a ≡ letterNumber ss (lineValues l))
     go true q = values-read q
     go false q = let z : _≡_ {A = ℕ} 0 1 = cc in absurd (omega arith)
 
@@ -80,7 +80,7 @@ module _ (ss : List Stream) (entries : List ℕ) where
   entry = entryAt (letterCount ss) entries
 
   abbrev letterIn : List ℕ → ℕ
-  letterIn l = letterNumber ss (valuesOf l)
+  letterIn l = letterNumber ss (lineValues l)
 
   abbrev outcome : ℕ → List ℕ → LineOutcome
   outcome state l = outcomeFrom ss entries state (valueLine ss l)

@@ -39,7 +39,7 @@ use Rattle.opening.proofs.StartLaws.{start-below, start-written}
 use Rattle.opening.proofs.Plays.{plays-unique}
 use Rattle.theorems.specs.Following.{BeginsSolution, HaveSameSolutions}
 use Rattle.theorems.specs.UsedRows.{usedBytes}
-use Rattle.theorems.specs.Replaying.{stateLines, refusalText, replayText, underNames, EndsWithLine, SameStatesPrinted, valuesOf, recordOfLines, IsLetterLine, AreLetters, lettersOf, statesReached, refusalMet, PlaysThrough, Fault, FirstFault}
+use Rattle.theorems.specs.Replaying.{stateLines, refusalText, replayText, underNames, EndsWithLine, SameStatesPrinted, lineValues, recordOfLines, IsLetterLine, AreLetters, lettersOf, statesReached, refusalMet, PlaysThrough, Fault, FirstFault}
 use Rattle.theorems.proofs.Following.{all-below}
 use Rattle.theorems.proofs.Steps.{path-from↔steps, missing↔refused-12}
 use Rattle.theorems.proofs.Demands.{ReadAs, path↔solution, few-states, table-stored, equal-rows↔same-solutions}
@@ -189,7 +189,7 @@ module _ {text : List ℕ} {room : Room} {a : CompileAnswer} {t : Tables} (call 
 
   -- "the first line that has no way on, and prints `refused 12`": a line is refused with 12 exactly if it is a letter whose step is refused with 12.
   pub refused-12↔step : (l : List ℕ) (state : ℕ) → state < a .states
-      → Fault (s .streams) (t .entries) state l 12 ↔ (IsLetterLine (s .streams) l × StepAnswer (usedBytes s a t) k state (letterNumber (s .streams) (valuesOf l)) (refusedStep 12))
+      → Fault (s .streams) (t .entries) state l 12 ↔ (IsLetterLine (s .streams) l × StepAnswer (usedBytes s a t) k state (letterNumber (s .streams) (lineValues l)) (refusedStep 12))
   refused-12↔step l state inside =
       let missing = refused-12↔letter (s .streams) (t .entries) state l in (
         (λ f. let x = missing .0 f in (x .0, step (x .0) .0 (x .1))),
@@ -197,9 +197,9 @@ module _ {text : List ℕ} {room : Room} {a : CompileAnswer} {t : Tables} (call 
       )
     where
       step : IsLetterLine (s .streams) l
-          → (entryAt k (t .entries) state (letterNumber (s .streams) (valuesOf l)) ≡ noState) ↔ StepAnswer (usedBytes s a t) k state (letterNumber (s .streams) (valuesOf l)) (refusedStep 12)
+          → (entryAt k (t .entries) state (letterNumber (s .streams) (lineValues l)) ≡ noState) ↔ StepAnswer (usedBytes s a t) k state (letterNumber (s .streams) (lineValues l)) (refusedStep 12)
       step h =
-          missing↔refused-12 (table-stored call read accepted) (few-states call read accepted) state (letterNumber (s .streams) (valuesOf l)) inside
+          missing↔refused-12 (table-stored call read accepted) (few-states call read accepted) state (letterNumber (s .streams) (lineValues l)) inside
           (letterNumber-bound (letter-line (s .streams) l h .0))
 
   -- Lines that are all letters play through from state 0 exactly if the record of these letters begins a solution.

@@ -30,7 +30,7 @@ use Rattle.letters.specs.Described.{isLetter}
 use Rattle.print.specs.Text.{digitsWithin}
 use Rattle.records.specs.Line.{valueLine, isNamesLine}
 use Rattle.replaying.specs.Replay.{replayed, replayedLines}
-use Rattle.theorems.specs.WorkedRecords.{Prints, workedRecords}
+use Rattle.theorems.specs.WorkedRecords.{RecordPrints, workedRecords}
 use Rattle.theorems.proofs.Demands.{table-stored}
 use Rattle.theorems.proofs.Plays.{rows-printed}
 
@@ -44,7 +44,7 @@ streams =
 abbrev pub p4 : WorkedSheet
 p4 = record { text = "x y\n0 0\n1 1\nx until y"; refusal = 0; states = 2; situations = 3; entries = 65535 ∷ 1 ∷ 0 ∷ 1 ∷ 1 ∷ 1 ∷ 1 ∷ 1 ∷ []; finals = 0 ∷ 1 ∷ [] }
 
-computed : All (Prints streams (p4 .entries)) workedRecords
+computed : All (RecordPrints streams (p4 .entries)) workedRecords
 unfolding workedRecords lines tokens isInteger isNatural integerValue naturalFrom isLetter letterNumber letterCount digitsWithin valueLine isNamesLine replayed replayedLines
 computed = (refl, (refl, (refl, (refl, (refl, (refl, (refl, (refl, (refl, (refl, tt))))))))))
 
@@ -76,12 +76,12 @@ p4-table {s} read = go (rows-hold p4 p4-row)
 
 -- Whatever room a compile of the sheet's text was lent, each record prints what its row says.
 pub records-print : {room : Room} {a : CompileAnswer} {t : Tables} → CompileCall (bytesOf (p4 .text)) room a t → a .refusal ≡ 0
-    → {s : Sheet} → AnswerTo (bytesOf (p4 .text)) (sheet s) → All (Prints (s .streams) (t .entries)) workedRecords
+    → {s : Sheet} → AnswerTo (bytesOf (p4 .text)) (sheet s) → All (RecordPrints (s .streams) (t .entries)) workedRecords
 records-print {t = t} call accepted {s} read =
     let stored = p4-table read in
     let rows = unique-used-rows stored (table-stored call read accepted) in
     let same : (ls : List (List ℕ)) → replayedLines (s .streams) (p4 .entries) 0 ls ≡ replayedLines (s .streams) (t .entries) 0 ls = λ ls.
     rows-printed (s .streams) (p4 .entries) (t .entries) (rows .entries) (λ i b hi hb some-state. entry-state (stored .table) i b hi hb some-state .0) ls 0 (stored .table .some-state) in
     let e : s .streams ≡ streams = ap streamsIn (answer-unique read (answer-correct (bytesOf (p4 .text)))) ∙ p4-streams in
-    All-map {P = Prints (s .streams) (p4 .entries)} {Q = Prints (s .streams) (t .entries)} workedRecords (λ r h. sym (same (lines (bytesOf (r .text)))) ∙ h)
-    (subst (λ q. All (Prints q (p4 .entries)) workedRecords) (sym e) computed)
+    All-map {P = RecordPrints (s .streams) (p4 .entries)} {Q = RecordPrints (s .streams) (t .entries)} workedRecords (λ r h. sym (same (lines (bytesOf (r .text)))) ∙ h)
+    (subst (λ q. All (RecordPrints q (p4 .entries)) workedRecords) (sym e) computed)

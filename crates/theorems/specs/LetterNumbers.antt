@@ -30,8 +30,8 @@ lowest64 = negsuc 9223372036854775807
 abbrev highest64 : ℤ
 highest64 = pos 9223372036854775807
 
-unfoldable pub counts : List WorkedCount
-counts =
+unfoldable pub workedCounts : List WorkedCount
+workedCounts =
     -- no range
     record { lows = []; highs = []; count = 1 }
     -- at the bound, and above it

@@ -4,5 +4,6 @@ pub mod Refusals
 pub mod Replaying
 pub mod WorkedRecords
 pub mod Courses
+pub mod Strategies
 pub mod LetterNumbers
 pub mod Divisions

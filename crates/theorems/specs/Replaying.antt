@@ -55,16 +55,16 @@ pub record SameStatesPrinted (whole firstHalf secondHalf : List ℕ) : Type 0 wh
 -- ---- lines as letters
 
 -- The values that a line writes.
-abbrev pub valuesOf : List ℕ → Letter
-valuesOf l = map integerValue (tokens l)
+abbrev pub lineValues : List ℕ → Letter
+lineValues l = map integerValue (tokens l)
 
 abbrev pub recordOfLines : List (List ℕ) → Record
-recordOfLines ls = map valuesOf ls
+recordOfLines ls = map lineValues ls
 
 module _ (ss : List Stream) where
   -- The line is a letter: neither 13 nor 14 applies.
   abbrev pub IsLetterLine : List ℕ → Type 0
-  IsLetterLine l = valueLine ss l ≡ letter (letterNumber ss (valuesOf l))
+  IsLetterLine l = valueLine ss l ≡ letter (letterNumber ss (lineValues l))
 
   abbrev pub AreLetters : List (List ℕ) → Type 0
   AreLetters ls = All IsLetterLine ls

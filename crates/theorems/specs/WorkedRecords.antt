@@ -34,5 +34,5 @@ workedRecords =
     ∷ []
 
 -- What a row says of a sheet's streams and of a table's entries.
-abbrev pub Prints : List Stream → List ℕ → WorkedRecord → Type 0
-Prints ss entries r = replayedLines ss entries 0 (lines (bytesOf (r .text))) ≡ bytesOf (r .printed)
+abbrev pub RecordPrints : List Stream → List ℕ → WorkedRecord → Type 0
+RecordPrints ss entries r = replayedLines ss entries 0 (lines (bytesOf (r .text))) ≡ bytesOf (r .printed)

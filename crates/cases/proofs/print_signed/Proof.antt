@@ -4,7 +4,7 @@ use lib.IntN.{natAbs}
 use mir.Syntax.{w64}
 use mir.ValLaws.{toZ-ofZ}
 use borrow.Author.Needs.{needs}
-use Rattle.cases.specs.Cases.{Printed}
+use Rattle.cases.specs.Cases.{DigitsPrinted}
 use Rattle.cases.proofs.print_signed.Statement.{statement}
 use Rattle.cases.proofs.print_signed.Tie as tie
 
@@ -26,7 +26,7 @@ print-requires c κs = search needs
 returns-2 : tie.Need-returns-2
 returns-2 c =
     let s = c .before .before .before .before in
-    subst (λ n. Printed n (c .print .result)) (c .before .magnitude .ensures ∙ ap natAbs (toZ-ofZ w64 (s .args .value) (s .fits .value))) (c .print .ensures)
+    subst (λ n. DigitsPrinted n (c .print .result)) (c .before .magnitude .ensures ∙ ap natAbs (toZ-ofZ w64 (s .args .value) (s .fits .value))) (c .print .ensures)
 
 pub print-signed-spec : {M : Type 1} → statement M
 print-signed-spec = tie.close (tie.spec slice-aggregate-write-all write-all-requires returns magnitude-requires print-requires returns-2)

@@ -6,8 +6,8 @@ use lib.ListN.{length}
 use lib.Seq.{length-take-le}
 use Rattle.pages.specs.Lines.{HoldsLines}
 use Rattle.pages.proofs.Lines.{no-lines, same-room, copied-line, page-full, page-last}
+use Rattle.pages.proofs.Placed.{placed-text}
 use Rattle.course_text.specs.Output.{courseAt}
-use Rattle.course_text.proofs.Placed.{placed-text}
 use borrow.Author.Needs.{needs}
 use Rattle.course_text.proofs.fill_page.Statement.{statement}
 use Rattle.course_text.proofs.fill_page.Tie as tie

@@ -1,6 +1,5 @@
 -- `live_rows::find_live` meets its contract: each pass starts from what the pass before left.
 use mathlib.Core.Path.{refl, _∙_}
-use native.Mathlib.Omega.{arith}
 use borrow.Author.Tests.{not-true, not-false}
 use Rattle.basics.proofs.Answers.{says-yes, says-no}
 use Rattle.live_rows.proofs.Loops.{finds-live}
@@ -24,9 +23,7 @@ prune-requires : tie.Need-prune-requires
 prune-requires c κs = search needs
 
 keep-flagged-requires : tie.Need-keep-flagged-requires
-keep-flagged-requires c κs =
-    let room = says-yes (not-false (c .before .before .before .before .before .before .before .before .before .before .has-room .result) (c .before .before .before .before .before .before .before .before .before .if1 .left)) (c .before .before .before .before .before .before .before .before .before .before .has-room .ensures) in
-    omega (arith, room .1, c .before .before .before .prune .kept .1 .1 .0, c .before .before .before .before .before .before .before .fill .kept .0)
+keep-flagged-requires c κs = search needs
 
 grow-requires : tie.Need-grow-requires
 grow-requires c κs = search needs

@@ -8,7 +8,7 @@ use lib.Seq.{drop-length}
 use Rattle.normal.specs.Rows.{Line}
 use Rattle.normal.specs.Stored.{storedLine, storedLines}
 use Rattle.normal.specs.Table.{WroteLines, LinesHaveRoom}
-use Rattle.normal.specs.declared.Written.{Written}
+use Rattle.normal.specs.declared.RowsWritten.{RowsWritten}
 use Rattle.normal.proofs.Lines.{lines-first, lines-rest, wrote-none, wrote-cons, lines-at, length-storedLines}
 use Rattle.normal.proofs.write_lines.Statement.{statement}
 use Rattle.normal.proofs.write_lines.Tie as tie
@@ -20,7 +20,7 @@ rest kinds starts relations lefts rights j = storedLines kinds starts (drop j re
 abbrev Inv-loop : tie.InvT-loop
 Inv-loop kinds starts relations lefts rights streams table₀ row₀ stream₀ j₀ table row stream j =
     (j ≤ length relations) × (length relations ≤ row) × LinesHaveRoom (rest kinds starts relations lefts rights j) row stream
-    × ((new : List ℕ) (r : Written) → WroteLines (rest kinds starts relations lefts rights j) j row stream table new r
+    × ((new : List ℕ) (r : RowsWritten) → WroteLines (rest kinds starts relations lefts rights j) j row stream table new r
     → WroteLines (storedLines kinds starts relations lefts rights) 0 (length relations) streams table₀ new r)
 
 abbrev μ-loop : tie.MeasureT-loop

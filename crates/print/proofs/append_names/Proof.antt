@@ -5,7 +5,8 @@ use native.Mathlib.Omega.{arith}
 use mathlib.Core.Path.{sym, _∙_, ap}
 use Rattle.print.specs.Append.{Appends}
 use Rattle.print.specs.Text.{spaced}
-use Rattle.print.specs.Table.{storedName, storedNames}
+use Rattle.sheet.specs.Names.{nameIn}
+use Rattle.print.specs.Table.{storedNames}
 use Rattle.print.proofs.Append.{appends-nothing, appends-then, appends-same, reached}
 use Rattle.print.proofs.Lines.{spaced-more}
 use Rattle.print.proofs.append_names.Statement.{statement}
@@ -37,7 +38,7 @@ loop-again c =
     let t = c .before .before .before .before .before in
     let names = storedNames (s .args .names .now) (s .args .lengths .now) in
     let e =
-    sym (spaced-more (names (t .loop .i)) (storedName (s .args .names .now) (s .args .lengths .now) (t .loop .i))) ∙ ap (λ k. spaced (names k)) (sym (add-one (t .loop .i))) in
+    sym (spaced-more (names (t .loop .i)) (nameIn (s .args .names .now) (s .args .lengths .now) (t .loop .i))) ∙ ap (λ k. spaced (names k)) (sym (add-one (t .loop .i))) in
     (omega arith, appends-same (appends-then (t .loop .inv .1) (c .before .before .append-name .ensures)) e)
 
 same-length : tie.Need-same-length Inv-loop μ-loop

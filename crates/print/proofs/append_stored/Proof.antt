@@ -3,8 +3,8 @@ use Prim.Native.Nat.{_*_, min}
 use mathlib.Core.Path.{_∙_, ap}
 use lib.ListN.{take, drop}
 use borrow.Author.Needs.{needs}
+use Rattle.basics.proofs.Lists.{clipped}
 use Rattle.print.proofs.Append.{appends-same}
-use Rattle.print.proofs.Lines.{clipped}
 use Rattle.print.proofs.append_stored.Statement.{statement}
 use Rattle.print.proofs.append_stored.Tie as tie
 

@@ -6,8 +6,8 @@ use borrow.Author.Needs.{needs}
 use Rattle.records.proofs.name_byte.Statement.{statement}
 use Rattle.records.proofs.name_byte.Tie as tie
 
-whole-name-requires : tie.Need-whole-name-requires
-whole-name-requires c κs = search needs
+name-in-requires : tie.Need-name-in-requires
+name-in-requires c κs = search needs
 
 is-byte-at-requires : tie.Need-is-byte-at-requires
 is-byte-at-requires c κs = search needs
@@ -19,9 +19,9 @@ next-count-requires : tie.Need-next-count-requires
 next-count-requires c κs = search needs
 
 returns : tie.Need-returns
-returns c = let state = c .before .before .before .before .before .before .args .state in ap₂ (nameFrom (state .count)) (c .before .both .ensures ∙ ap (λ t. state .same && t) (c .before .before .is-byte-at .ensures ∙ ap (λ n. isByteAt n (state .place) (c .before .before .before .before .before .before .args .byte)) (c .before .before .before .whole-name .ensures))) (c .next-count .ensures)
+returns c = let state = c .before .before .before .before .before .before .args .state in ap₂ (nameFrom (state .count)) (c .before .both .ensures ∙ ap (λ t. state .same && t) (c .before .before .is-byte-at .ensures ∙ ap (λ n. isByteAt n (state .place) (c .before .before .before .before .before .before .args .byte)) (c .before .before .before .name-in .ensures))) (c .next-count .ensures)
 
 pub name-byte-spec : {M : Type 1} → statement M
 name-byte-spec =
     tie.close
-    (tie.spec whole-name-requires is-byte-at-requires both-requires next-count-requires returns)
+    (tie.spec name-in-requires is-byte-at-requires both-requires next-count-requires returns)

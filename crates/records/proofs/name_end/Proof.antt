@@ -8,8 +8,8 @@ use borrow.Author.Needs.{needs}
 use Rattle.records.proofs.name_end.Statement.{statement}
 use Rattle.records.proofs.name_end.Tie as tie
 
-whole-name-requires : tie.Need-whole-name-requires
-whole-name-requires c κs = search needs
+name-in-requires : tie.Need-name-in-requires
+name-in-requires c κs = search needs
 
 both-requires : tie.Need-both-requires
 both-requires c κs = search needs
@@ -18,7 +18,7 @@ next-count-requires : tie.Need-next-count-requires
 next-count-requires c κs = search needs
 
 returns : tie.Need-returns
-returns c = let state = c .before .before .before .before .before .args .state in ap₂ (λ t n. nameFrom n t 0) (c .before .both .ensures ∙ ap (λ n. state .same && eqb (state .place) (length n)) (c .before .before .whole-name .ensures)) (c .next-count .ensures)
+returns c = let state = c .before .before .before .before .before .args .state in ap₂ (λ t n. nameFrom n t 0) (c .before .both .ensures ∙ ap (λ n. state .same && eqb (state .place) (length n)) (c .before .before .name-in .ensures)) (c .next-count .ensures)
 
 pub name-end-spec : {M : Type 1} → statement M
-name-end-spec = tie.close (tie.spec whole-name-requires both-requires next-count-requires returns)
+name-end-spec = tie.close (tie.spec name-in-requires both-requires next-count-requires returns)

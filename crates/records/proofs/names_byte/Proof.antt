@@ -1,7 +1,8 @@
 -- `records::names_byte` meets its contract: its tests tell the class of the byte.
 use mathlib.Core.Path.{sym, ap, _∙_}
 use mathlib.Core.Bool.{not, _||_}
-use Rattle.records.specs.Machine.{wholeName, nameByte, nameEnd, nameReading, namesFrom, namesByte}
+use Rattle.sheet.specs.Names.{nameIn}
+use Rattle.records.specs.Machine.{nameByte, nameEnd, nameReading, namesFrom, namesByte}
 use Rattle.records.proofs.Steps.{at-inside, at-bracket, at-between}
 use borrow.Author.Needs.{needs}
 use Rattle.records.proofs.names_byte.Statement.{statement}
@@ -23,7 +24,7 @@ returns : tie.Need-returns
 unfolding namesByte
 returns c =
     let s = c .before .before .before .before .before .before .before .before in
-    at-inside namesFrom (nameByte (wholeName (s .args .names .now) (s .args .lengths .now))) (nameEnd (wholeName (s .args .names .now) (s .args .lengths .now))) (nameReading (s .args .line)) (s .args .byte) (c .before .before .before .before .either .ensures ∙ ap (λ t. s .args .line .barred || not t) (c .before .before .before .before .before .is-plain .ensures)) (sym (c .before .before .is-inside .ensures) ∙ c .before .if1 .taken) (c .name-byte .ensures)
+    at-inside namesFrom (nameByte (nameIn (s .args .names .now) (s .args .lengths .now))) (nameEnd (nameIn (s .args .names .now) (s .args .lengths .now))) (nameReading (s .args .line)) (s .args .byte) (c .before .before .before .before .either .ensures ∙ ap (λ t. s .args .line .barred || not t) (c .before .before .before .before .before .is-plain .ensures)) (sym (c .before .before .is-inside .ensures) ∙ c .before .if1 .taken) (c .name-byte .ensures)
 
 end-name-requires : tie.Need-end-name-requires
 end-name-requires c κs = search needs
@@ -41,13 +42,13 @@ returns-2 : tie.Need-returns-2
 unfolding namesByte
 returns-2 c =
     let s = c .before .before .before .before .before .before .before .before .before .before .before .before in
-    at-bracket namesFrom (nameByte (wholeName (s .args .names .now) (s .args .lengths .now))) (nameEnd (wholeName (s .args .names .now) (s .args .lengths .now))) (nameReading (s .args .line)) (s .args .byte) (c .before .before .before .before .before .before .before .before .either .ensures ∙ ap (λ t. s .args .line .barred || not t) (c .before .before .before .before .before .before .before .before .before .is-plain .ensures)) (sym (c .before .before .before .is-bracket .ensures) ∙ c .before .before .if2 .taken) (c .before .before .before .before .end-name .ensures) (c .before .name-byte2 .ensures) (c .name-end .ensures)
+    at-bracket namesFrom (nameByte (nameIn (s .args .names .now) (s .args .lengths .now))) (nameEnd (nameIn (s .args .names .now) (s .args .lengths .now))) (nameReading (s .args .line)) (s .args .byte) (c .before .before .before .before .before .before .before .before .either .ensures ∙ ap (λ t. s .args .line .barred || not t) (c .before .before .before .before .before .before .before .before .before .is-plain .ensures)) (sym (c .before .before .before .is-bracket .ensures) ∙ c .before .before .if2 .taken) (c .before .before .before .before .end-name .ensures) (c .before .name-byte2 .ensures) (c .name-end .ensures)
 
 returns-3 : tie.Need-returns-3
 unfolding namesByte
 returns-3 c =
     let s = c .before .before .before .before .before .before .before .before .before .before in
-    at-between namesFrom (nameByte (wholeName (s .args .names .now) (s .args .lengths .now))) (nameEnd (wholeName (s .args .names .now) (s .args .lengths .now))) (nameReading (s .args .line)) (s .args .byte) (c .before .before .before .before .before .before .either .ensures ∙ ap (λ t. s .args .line .barred || not t) (c .before .before .before .before .before .before .before .is-plain .ensures)) (sym (c .before .before .before .before .is-inside .ensures) ∙ c .before .before .before .if1 .left) (sym (c .before .is-bracket .ensures) ∙ c .if2 .left) (c .before .before .end-name .ensures)
+    at-between namesFrom (nameByte (nameIn (s .args .names .now) (s .args .lengths .now))) (nameEnd (nameIn (s .args .names .now) (s .args .lengths .now))) (nameReading (s .args .line)) (s .args .byte) (c .before .before .before .before .before .before .either .ensures ∙ ap (λ t. s .args .line .barred || not t) (c .before .before .before .before .before .before .before .is-plain .ensures)) (sym (c .before .before .before .before .is-inside .ensures) ∙ c .before .before .before .if1 .left) (sym (c .before .is-bracket .ensures) ∙ c .if2 .left) (c .before .before .end-name .ensures)
 
 pub names-byte-spec : {M : Type 1} → statement M
 names-byte-spec =

@@ -2,13 +2,14 @@
 use Prim.Native.Nat.{_-_}
 use native.Mathlib.Omega.{arith}
 use lib.ListN.{length}
-use Rattle.records.specs.Machine.{wholeName, namesByte}
+use Rattle.sheet.specs.Names.{nameIn}
+use Rattle.records.specs.Machine.{namesByte}
 use Rattle.replaying.proofs.Runs.{LineSoFar, so-far-none, so-far-more, so-far-ends}
 use Rattle.replaying.proofs.run_names.Statement.{statement}
 use Rattle.replaying.proofs.run_names.Tie as tie
 
 abbrev Inv-loop : tie.InvT-loop
-Inv-loop chunk from names lengths line₀ at₀ line at = LineSoFar (namesByte (wholeName names lengths)) chunk from line₀ at line
+Inv-loop chunk from names lengths line₀ at₀ line at = LineSoFar (namesByte (nameIn names lengths)) chunk from line₀ at line
 
 abbrev μ-loop : tie.MeasureT-loop
 μ-loop chunk from names lengths line₀ at₀ line at = length chunk - at

@@ -5,7 +5,7 @@ use mathlib.Core.Path.{sym, transport}
 use mathlib.Core.List.{List}
 use lib.ListN.{take}
 use lib.Seq.{length-take-le}
-use Rattle.reader.specs.declared.Sheet.{Sheet as StoredSheet}
+use Rattle.reader.specs.declared.StoredSheet.{StoredSheet}
 use Rattle.course_text.specs.Output.{CoursePrintout, courseOutput}
 use Rattle.show.proofs.Pages.{fit-take}
 use Rattle.output.specs.Output.{Hands}

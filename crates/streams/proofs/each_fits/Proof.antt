@@ -7,7 +7,7 @@ use borrow.Author.Needs.{needs}
 use borrow.Author.Tests.{not-true, not-false}
 use Rattle.basics.proofs.Answers.{says-yes, says-no}
 use Rattle.streams.specs.Description.{StreamFits}
-use Rattle.streams.specs.declared.Streams.{Streams}
+use Rattle.streams.specs.declared.StreamsDescription.{StreamsDescription}
 use Rattle.streams.proofs.each_fits.Statement.{statement}
 use Rattle.streams.proofs.each_fits.Tie as tie
 
@@ -17,7 +17,7 @@ Inv-loop streams count stream₀ stream = (stream ≤ count) × ((k : ℕ) → k
 abbrev μ-loop : tie.MeasureT-loop
 μ-loop streams count stream₀ stream = count - stream
 
-one-more : (s : Streams) (n : ℕ) → ((k : ℕ) → k < n → StreamFits s k) → StreamFits s n → (k : ℕ) → k < n + 1 → StreamFits s k
+one-more : (s : StreamsDescription) (n : ℕ) → ((k : ℕ) → k < n → StreamFits s k) → StreamFits s n → (k : ℕ) → k < n + 1 → StreamFits s k
 one-more s n before here k l = by (ℕ-discrete k n)
   where
     by : Dec (k ≡ n) → StreamFits s k

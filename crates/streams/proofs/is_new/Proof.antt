@@ -3,7 +3,7 @@ use Prim.Native.Nat.{ℕ, _-_, _≤_, _<_}
 use native.Mathlib.Omega.{arith}
 use mathlib.Core.Path.{_≡_}
 use borrow.Author.Needs.{needs}
-use Rattle.streams.specs.Description.{nameIn}
+use Rattle.sheet.specs.Names.{nameIn}
 use Rattle.streams.proofs.Names.{name-stands, name-other}
 use Rattle.streams.proofs.is_new.Statement.{statement}
 use Rattle.streams.proofs.is_new.Tie as tie
@@ -24,7 +24,7 @@ name-length-requires : tie.Need-name-length-requires Inv-loop μ-loop
 name-length-requires c κs = search needs
 
 add-to : tie.Need-add-to Inv-loop μ-loop
-add-to c = omega (arith, c .name-length .ensures .1)
+add-to c = omega (arith, c .name-length .ensures)
 
 loop-holds : tie.Need-loop-holds Inv-loop μ-loop
 loop-holds c = (omega arith, λ j l e. omega arith)
@@ -39,25 +39,25 @@ name-length-requires-2 : tie.Need-name-length-requires-2 Inv-loop μ-loop
 name-length-requires-2 c κs = search needs
 
 add-end : tie.Need-add-end Inv-loop μ-loop
-add-end c = omega (arith, c .name-length2 .ensures .1)
+add-end c = omega (arith, c .name-length2 .ensures)
 
 sub-same-bytes : tie.Need-sub-same-bytes Inv-loop μ-loop
 sub-same-bytes c = omega arith
 
 part-same-bytes-start : tie.Need-part-same-bytes-start Inv-loop μ-loop
-part-same-bytes-start c = omega (arith, c .name-length2 .ensures .1)
+part-same-bytes-start c = omega (arith, c .name-length2 .ensures)
 
 part-same-bytes-end : tie.Need-part-same-bytes-end Inv-loop μ-loop
-part-same-bytes-end c = omega (arith, c .name-length2 .ensures .1)
+part-same-bytes-end c = omega (arith, c .name-length2 .ensures)
 
 sub-same-bytes-2 : tie.Need-sub-same-bytes-2 Inv-loop μ-loop
 sub-same-bytes-2 c = omega arith
 
 part-same-bytes-start-2 : tie.Need-part-same-bytes-start-2 Inv-loop μ-loop
-part-same-bytes-start-2 c = omega (arith, c .before .before .before .before .before .name-length .ensures .1)
+part-same-bytes-start-2 c = omega (arith, c .before .before .before .before .before .name-length .ensures)
 
 part-same-bytes-end-2 : tie.Need-part-same-bytes-end-2 Inv-loop μ-loop
-part-same-bytes-end-2 c = omega (arith, c .before .before .before .before .before .name-length .ensures .1)
+part-same-bytes-end-2 c = omega (arith, c .before .before .before .before .before .name-length .ensures)
 
 same-bytes-requires : tie.Need-same-bytes-requires Inv-loop μ-loop
 same-bytes-requires c κs = search needs
@@ -74,7 +74,7 @@ returns c =
     let at = c .before in
     let s = start-of at .args in
     λ new. new (loop-of at .loop .other) (at .before .before .before .before .before .loop-test .taken)
-    (name-stands (s .names .now) (s .lengths .now) (s .stream) (loop-of at .loop .other) (at .before .before .before .name-length2 .ensures .0) (loop-of at .before .name-length .ensures .0) (at .same-bytes .ensures) (c .if1 .taken))
+    (name-stands (s .names .now) (s .lengths .now) (s .stream) (loop-of at .loop .other) (at .before .before .before .name-length2 .ensures) (loop-of at .before .name-length .ensures) (at .same-bytes .ensures) (c .if1 .taken))
 
 add-other : tie.Need-add-other Inv-loop μ-loop
 add-other c = search needs
@@ -87,7 +87,7 @@ loop-again c =
     let at = c .before in
     let s = start-of at .args in (
       omega (arith, at .before .before .before .before .before .loop-test .taken),
-      name-other (s .names .now) (s .lengths .now) (s .stream) (loop-of at .loop .other) (at .before .before .before .name-length2 .ensures .0) (loop-of at .before .name-length .ensures .0) (at .same-bytes .ensures) (c .if1 .left) (loop-of at .loop .inv .1),
+      name-other (s .names .now) (s .lengths .now) (s .stream) (loop-of at .loop .other) (at .before .before .before .name-length2 .ensures) (loop-of at .before .name-length .ensures) (at .same-bytes .ensures) (c .if1 .left) (loop-of at .loop .inv .1),
     )
 
 returns-2 : tie.Need-returns-2 Inv-loop μ-loop

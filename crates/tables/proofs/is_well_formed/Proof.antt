@@ -4,13 +4,13 @@ use lib.ListN.{length}
 use borrow.Author.Needs.{needs}
 use borrow.Author.Tests.{not-true, not-false}
 use Rattle.basics.proofs.Answers.{says-yes, says-no, says-both}
-use Rattle.tables.specs.Parts.{HasSizes, AreFlags}
+use Rattle.tables.specs.Parts.{HasTableSizes, AreFlags}
 use Rattle.tables.proofs.Parts.{parts-well-formed, well-formed-sizes}
 use Rattle.tables.proofs.is_well_formed.Statement.{statement}
 use Rattle.tables.proofs.is_well_formed.Tie as tie
 
 -- the sizes and the final bytes have passed
-sizes : (c : tie.Else2) → let a = c .before .before .before .before .before .before .args in HasSizes (a .letters) (length (a .finals .now)) (length (a .entries .now))
+sizes : (c : tie.Else2) → let a = c .before .before .before .before .before .before .args in HasTableSizes (a .letters) (length (a .finals .now)) (length (a .entries .now))
 sizes c = says-yes (not-false (c .before .before .before .has-sizes .result) (c .before .before .if1 .left)) (c .before .before .before .has-sizes .ensures)
 
 bits : (c : tie.Else2) → AreFlags (c .before .before .before .before .before .before .args .finals .now)

@@ -1,0 +1,4 @@
+pub mod Cut
+pub mod Play
+pub mod Call
+pub mod Parts

@@ -1,0 +1,4 @@
+pub mod Room
+pub mod Pages
+pub mod Prints
+pub mod Printing
