@@ -496,12 +496,13 @@ def check_replays(rng, counts):
 
 
 def check_courses(rng, counts):
-    """The shortest course, by rows and by all records."""
+    """The shortest course with the fewest changes, by rows and last letters and
+    by all records."""
     for _ in range(COURSES):
         case = course_difference(rng)
         if case:
             raise Difference("course", *case)
-        counts["courses found by rows and by all records"] += 1
+        counts["courses found by rows and last letters and by all records"] += 1
     for _ in range(SHEET_COURSES):
         case = shortest_difference(rng)
         if case:

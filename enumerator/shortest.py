@@ -1,5 +1,5 @@
 """The program `shortest`: the shortest course from a state of a sheet's table
-to a final state (document 02, S-3).
+to a final state, with the fewest changes (document 02, S-3 and S-8).
 
     python3 enumerator/shortest.py SHEET [STATE]
 """
@@ -7,7 +7,6 @@ to a final state (document 02, S-3).
 import sys
 
 from course import best_course
-from reading import letter_count
 from replay import file_bytes, opened
 from situations import letters
 
@@ -19,8 +18,8 @@ def shortest_lines(sheet_text, start):
     if refusal:
         return [["refused", refusal]]
     entries = [entry for row in compiled.entries for entry in row]
-    course = best_course(entries, compiled.finals, letter_count(sheet), state)
     values = letters(sheet)
+    course = best_course(entries, compiled.finals, values, sheet.kinds, state)
     return [sheet.names] + [values[letter] for letter in course]
 
 

@@ -1,12 +1,18 @@
 """Cases for `shortest`: a sheet, and the text of a state or None. A seed fully
 determines what is given."""
 
-from generate import random_sheets
+from generate import random_kinds_sheets, random_sheets
 from replay_cases import EIGHT, LONG, ONE, STEADY, THREE, UNTIL
 from shortest import shortest
 
-# From state 0 the letters `0 1` and `1 0`, by way of state 1 to state 2.
+# From state 0 two letters, by way of state 1 to state 2: in number order first
+# are `0 1` and `1 0`, without a change `1 1` twice.
 DELAYED = b"a b\n0 0\n1 1\n1 until ( a and ( 0 fby b ) )"
+DELAYED_KINDS = b"a b\n0 0\n1 1\n%s\n1 until ( a and ( 0 fby b ) )"
+# A gate that must go from 0 to 3 step by step, beside a gauge that moves freely
+# or stands still, and a second gate that need not move.
+GATES = (b"level gate lamp\n0 0 0\n2 3 1\nread set set\n( first gate ) == 0\n"
+         b"next gate <= gate + 1\nnext level != level\n1 until ( gate eq 3 )")
 # Values below 0, and of several digits.
 DEEP = b"level gate\n-1000000000 0\n-999999998 1\n1 until ( gate and ( ( next level ) eq -999999998 ) )"
 # A stream that rises from 0 to its end takes as many letters.
@@ -33,13 +39,26 @@ def chosen_cases():
     return cases
 
 
+def kinds_cases():
+    """Which of equal courses is printed goes by the kinds."""
+    kinds = [b"set set", b"set read", b"read set", b"read read"]
+    return ([(DELAYED_KINDS % line, None) for line in kinds]
+            + [(GATES, start) for start in (None, b"1", b"2", b"3", b"4")])
+
+
 def is_long(case):
     """The course has letters."""
     return shortest(*case).count(b"\n") > 1
 
 
+def drawn_cases(drawn, most):
+    """The first of the drawn sheets whose course has letters, each from its
+    start and from state 1."""
+    long = [text for _, text in drawn if is_long((text, None))][:most]
+    return [(text, start) for text in long for start in (None, b"1")]
+
+
 def shortest_cases(seed, sheets, most):
-    """Drawn sheets whose course has letters, each from its start and from
-    state 1."""
-    drawn = [text for _, text in random_sheets(seed, sheets) if is_long((text, None))][:most]
-    return chosen_cases() + [(text, start) for text in drawn for start in (None, b"1")]
+    return (chosen_cases() + drawn_cases(random_sheets(seed, sheets), most)
+            + kinds_cases()
+            + drawn_cases(random_kinds_sheets(seed, sheets), most))

@@ -33,11 +33,11 @@ class PrintedGame:
         for state, ways in self.table.ways.items():
             for values, following in ways:
                 line = "%d %d %s %d" % (state, self.table.finals[state],
-                                        values, following)
+                                        " ".join(values), following)
                 self.answers[state][self.choice_of(values)][line] = following
 
     def choice_of(self, values):
-        return tuple(value for value, kind in zip(values.split(), self.kinds)
+        return tuple(value for value, kind in zip(values, self.kinds)
                      if kind == "read")
 
     def holds(self, states, goals):

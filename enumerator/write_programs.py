@@ -10,10 +10,12 @@ import json
 import os
 import sys
 
+from limits import NAME_BYTES
 from normal_rows import Rows
 from reading import read
 
 from sluice import sluice
+from streams import Streams, places
 
 LARGEST_WORD = 2**32 - 1
 LARGEST_INPUT = 65536
@@ -64,14 +66,23 @@ def step_program(vectors):
     return text, expected.encode()
 
 
+def stream_bytes(streams):
+    """The eight places of a description: names, lengths, kinds, and the lowest and highest values, each as a word that is 2^31 more."""
+    names, lengths, lows, highs, kinds = places(Streams(**streams))
+    spelled = b"".join(name.encode("latin-1").ljust(NAME_BYTES, b"\0") for name in names)
+    return spelled + bytes(lengths) + bytes(kinds) + b"".join(word(value + 2**31) for value in lows + highs)
+
+
 def course_case(vector):
-    """The bytes of one call for a course, and the line that it must print: the refusal, the letters, and the whole list."""
+    """The bytes of one call for a course, and the line that it must print: the refusal, the letters, how many numbers of the work room are
+    not 0, and the whole list."""
     table = b"".join(entry.to_bytes(2, "little") for entry in vector["entries"]) + bytes(vector["finals"])
-    numbers = [len(table), len(vector["entries"]), vector["letters"], vector["state"], vector["list"]]
+    text = stream_bytes(vector["streams"]) + table
+    numbers = [len(text), len(vector["entries"])] + [vector[key] for key in ("letters", "state", "list", "work")] + [vector["streams"]["count"]]
     found = vector["course"]
     rest = [0] * (vector["list"] - len(found))
-    line = "%d %d : " % (vector["refusal"], len(found)) + "".join("%d " % number for number in found + rest) + "\n"
-    return b"".join(word(number) for number in numbers) + table, line
+    line = "%d %d 0 : " % (vector["refusal"], len(found)) + "".join("%d " % number for number in found + rest) + "\n"
+    return b"".join(word(number) for number in numbers) + text, line
 
 
 def course_program(vectors):

@@ -47,7 +47,8 @@ DAMAGED_EACH = 16
 STEPS = 160
 DRAWN_REPLAYS = 40
 LAWFUL_REPLAYS = 30
-COURSES = 140
+# Courses along small tables and along tables of more letters.
+COURSES = (140, 80)
 # Of so many drawn sheets, the first so many whose course has letters.
 COURSE_SHEETS = (200, 24)
 GAME_SHEETS = 60
@@ -165,7 +166,8 @@ def replay_vector(sheet, record, start):
 def course_vector(case):
     answer = course(*case)
     return {"entries": case.entries, "finals": case.finals,
-            "letters": case.letters, "state": case.state, "list": case.room,
+            "letters": case.letters, "streams": case.streams._asdict(),
+            "state": case.state, "list": case.room, "work": case.work,
             "refusal": answer.refusal, "course": answer.list[:answer.count]}
 
 
@@ -234,7 +236,7 @@ def main(directory):
     steps = [step_vector(case) for case in step_cases(SEED, STEPS)]
     replays = [replay_vector(*case) for case
                in replay_cases(SEED, DRAWN_REPLAYS, LAWFUL_REPLAYS)]
-    courses = [course_vector(case) for case in course_cases(SEED, COURSES)]
+    courses = [course_vector(case) for case in course_cases(SEED, *COURSES)]
     printed = [shortest_vector(*case)
                for case in shortest_cases(SEED, *COURSE_SHEETS)]
     games = [game_vector(case) for case in game_cases(SEED, GAME_SHEETS)]

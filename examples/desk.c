@@ -1,10 +1,12 @@
-/* A desk program: it compiles the sheet on standard input, says what the streams are, and takes one step from the start for each
- * letter. It knows nothing of the sheet but what the compile tells: the letters and the streams.
+/* A desk program: it compiles the sheet on standard input, says what the streams are, takes one step from the start for each
+ * letter, and prints the course from the start to a final state. It knows nothing of the sheet but what the compile tells: the
+ * letters and the streams.
  */
 #include <inttypes.h>
 #include <stdio.h>
 
 #include "compile.h"
+#include "course.h"
 #include "step.h"
 
 enum { MOST_BYTES = 16384, MOST_LETTERS = 1024, ROWS = 64 };
@@ -13,6 +15,8 @@ static uint8_t text[MOST_BYTES + 1];
 static uint16_t entries[ROWS * MOST_LETTERS];
 static uint8_t finals[ROWS];
 static uint32_t keys[ROWS * COMPILE_KEY], live[ROWS], class_names[ROWS], next[ROWS], heads[ROWS], links[ROWS], shared[ROWS];
+static uint32_t list[ROWS];
+static uint16_t work[ROWS * MOST_LETTERS];
 
 static void print_name(const struct streams *streams, size_t stream)
 {
@@ -35,19 +39,36 @@ static void print_streams(const struct streams *streams)
     }
 }
 
+static void print_letter(const struct streams *streams, uint32_t letter)
+{
+    for (size_t k = 0; k < streams->count; k++) {
+        print_name(streams, k);
+        printf(" %" PRId64 " ", value_in(streams, letter, k));
+    }
+}
+
 static void print_step(const struct compile_answer *answer, uint32_t letter)
 {
     /* the used rows alone; on x86-64 a number's low byte comes first, as the step wants it */
     size_t used = (size_t)2 * answer->states * answer->letters;
     uint32_t state = step((const uint8_t *)entries, used, answer->letters, 0, letter);
-    for (size_t k = 0; k < answer->streams.count; k++) {
-        print_name(&answer->streams, k);
-        printf(" %" PRId64 " ", value_in(&answer->streams, letter, k));
-    }
+    print_letter(&answer->streams, letter);
     if (state < STEP_REFUSED)
         printf("leads to state %" PRIu32 "\n", state);
     else
         printf("is not allowed\n");
+}
+
+/* the course of fewest letters, and of these with the fewest changes of set streams; the list has room for any of a compiled table */
+static void print_course(const struct compile_answer *answer)
+{
+    struct course_answer course = course_c(entries, (size_t)answer->states * answer->letters, finals, answer->states, answer->letters,
+        answer->streams, 0, list, ROWS, work, ROWS * MOST_LETTERS);
+    printf("letters to a final state: %" PRIu32 "\n", course.count);
+    for (uint32_t i = 0; i < course.count; i++) {
+        print_letter(&answer->streams, list[i]);
+        printf("is letter %" PRIu32 "\n", list[i]);
+    }
 }
 
 int main(void)
@@ -63,5 +84,6 @@ int main(void)
     printf("%" PRIu32 " letters, %" PRIu32 " states\n", answer.letters, answer.states);
     for (uint32_t letter = 0; letter < answer.letters; letter++)
         print_step(&answer, letter);
+    print_course(&answer);
     return 0;
 }

@@ -1,11 +1,14 @@
 /* A program that calls the function of one archive and needs no other library. Compiled as C and as C++; CALL is 1 for the step, 2 for the compile,
- * 3 for the normal form and 4 for the compile with a play table. */
+ * 3 for the normal form, 4 for the compile with a play table and 5 for the course. */
 #include "compile.h"
+#include "course.h"
 #include "normal_form.h"
 #include "step.h"
 #include "strategy.h"
 
+#if CALL != 5
 static const uint8_t sheet[] = {'x', '\n', '0', '\n', '1', '\n', 'r', 'e', 'a', 'd', '\n', 'x', ' ', '=', '=', ' ', '1'};
+#endif
 
 #if CALL == 1
 static int called(void)
@@ -33,7 +36,7 @@ static int called(void)
     struct normal_form_answer answer = normal_form_c(sheet, sizeof sheet, list, 1);
     return answer.refusal == 0 && answer.entries == 1 && answer.added == 0;
 }
-#else
+#elif CALL == 4
 /* the river can prevent that the gauge is always 1; without the rule it plays 0 or 1 */
 static int called(void)
 {
@@ -47,6 +50,51 @@ static int called(void)
         heads, 4, links, 4, shared, 4, play, 8);
     return prevented.refusal == 16 && prevented.states == 0 && prevented.letters == 0 && zero
         && forced.refusal == 0 && forced.states == 1 && forced.streams.kinds[0] == STREAM_READ && play[0] == 0 && play[1] == 1 && play[2] == 0;
+}
+#else
+/* two streams of two values, with the kinds given */
+static struct streams two(uint8_t first, uint8_t second)
+{
+    struct streams streams = {2, {0}, {1, 1}, {0}, {1, 1}, {0}};
+    streams.names[0] = 'a';
+    streams.names[STREAMS_NAME] = 'b';
+    streams.kinds[0] = first;
+    streams.kinds[1] = second;
+    return streams;
+}
+
+/* the sheet a b|0 0|1 1|1 until ( a and ( 0 fby b ) ): its one course of two letters with the fewest changes */
+static int leads(struct streams streams, uint32_t first, uint32_t second)
+{
+    static const uint16_t entries[12] = {0, 1, 0, 1, 0, 1, 2, 2, 2, 2, 2, 2};
+    static const uint8_t finals[3] = {0, 0, 1};
+    uint32_t list[3] = {7, 7, 7};
+    uint16_t work[12] = {7};
+    struct course_answer answer = course_c(entries, 12, finals, 3, 4, streams, 0, list, 3, work, 12);
+    return answer.refusal == 0 && answer.count == 2 && list[0] == first && list[1] == second && list[2] == 0 && work[0] == 0;
+}
+
+/* with these streams, this much work room and this long a list the call is refused */
+static int refuses(struct streams streams, size_t work_count, size_t room, uint32_t refusal)
+{
+    static const uint16_t entries[12] = {0, 1, 0, 1, 0, 1, 2, 2, 2, 2, 2, 2};
+    static const uint8_t finals[3] = {0, 0, 1};
+    uint32_t list[3] = {7, 7, 7};
+    uint16_t work[12] = {7};
+    struct course_answer answer = course_c(entries, 12, finals, 3, 4, streams, 0, list, room, work, work_count);
+    return answer.refusal == refusal && answer.count == 0 && list[0] == 0 && work[0] == 0;
+}
+
+static int called(void)
+{
+    struct streams set = two(STREAM_SET, STREAM_SET), odd = two(STREAM_SET, 2), wide = set, turned = set;
+    wide.lows[0] = INT64_MIN;
+    wide.highs[0] = INT64_MAX;
+    turned.lows[0] = INT64_MAX;
+    turned.highs[0] = INT64_MIN;
+    return leads(set, 3, 3) && leads(two(STREAM_READ, STREAM_SET), 1, 3) && leads(two(STREAM_SET, STREAM_READ), 3, 2)
+        && leads(two(STREAM_READ, STREAM_READ), 1, 2) && refuses(odd, 12, 3, 11) && refuses(wide, 12, 3, 11) && refuses(turned, 12, 3, 11)
+        && refuses(set, 11, 3, 10) && refuses(set, 12, 1, 10);
 }
 #endif
 

@@ -1,6 +1,6 @@
 /* The stack that a call takes. Each sheet is compiled, without and with a play table, and its normal form is made, twice: on a large stack, and in a thread
  * whose whole stack is the figure that the header states, with a page below it that cannot be touched. Both calls must give the same answer and the same tables,
- * and the first may use no more than the figure. The stack of two steps is measured too. It prints the most that was used, and ends
+ * and the first may use no more than the figure. The stack of two steps and of calls for a course is measured too. It prints the most that was used, and ends
  * with status 1 at a difference.
  *
  *     stack_test all          prints what each of its sheets takes: bytes of the compile, of that with a play table and of the normal form, their
@@ -17,6 +17,7 @@
 #include <sys/mman.h>
 
 #include "compile.h"
+#include "course.h"
 #include "normal_form.h"
 #include "step.h"
 #include "strategy.h"
@@ -114,6 +115,18 @@ static void call_steps(void)
     place = (struct step_place){0, 0};
     step_answer = advance(&place, table, sizeof table, 2, 0);
     step_answer = step_answer << 16 | step(table, sizeof table, 2, 1, 1);
+}
+
+/* a table in which each letter leads one row on, but for one in each row, and the last row is final: a course through all rows */
+static struct streams streams;
+static uint32_t course[ROWS];
+static uint16_t work[ROWS * MOST_LETTERS];
+static struct course_answer course_answer;
+
+static void call_course(void)
+{
+    struct tables *t = &compiled;
+    course_answer = course_c(t->entries, ROWS * MOST_LETTERS, t->finals, ROWS, MOST_LETTERS, streams, 0, course, ROWS, work, ROWS * MOST_LETTERS);
 }
 
 /* ---- the sheets */
@@ -274,7 +287,7 @@ static const char *write_sheet(size_t number)
 
 /* ---- comparing */
 
-static uint8_t *large, *stated_compile, *stated_strategy, *stated_normal_form, *stated_step;
+static uint8_t *large, *stated_compile, *stated_strategy, *stated_normal_form, *stated_course, *stated_step;
 static size_t most_compile, most_strategy, most_normal_form;
 
 /* A call that fills the tables: on a large stack, and on one of the figure. */
@@ -326,6 +339,47 @@ static void check_steps(void)
     printf("stack: a step takes %zu bytes of %u\n", bytes, STEP_STACK);
 }
 
+static void make_chain(void)
+{
+    memset(&compiled, 0, sizeof compiled);
+    for (size_t row = 0; row < ROWS; row++)
+        for (size_t letter = 0; letter < MOST_LETTERS; letter++)
+            compiled.entries[row * MOST_LETTERS + letter] = (uint16_t)(row + 1 < ROWS && letter != 7 * row ? row + 1 : 65535);
+    compiled.finals[ROWS - 1] = 1;
+    streams.count = STREAMS_MOST;
+    for (size_t k = 0; k < STREAMS_MOST; k++) {
+        streams.names[STREAMS_NAME * k] = (uint8_t)('a' + k);
+        streams.lengths[k] = 1;
+        streams.highs[k] = k < 2 ? 3 : 1;
+        streams.kinds[k] = k % 2 ? STREAM_READ : STREAM_SET;
+    }
+}
+
+/* One call that gives a course and one that is refused. */
+static void check_course(void)
+{
+    size_t most = 0;
+    make_chain();
+    for (int refused = 0; refused < 2; refused++) {
+        streams.kinds[0] = refused ? 2 : STREAM_SET;
+        memset(course, 0xff, sizeof course);
+        size_t bytes = used(large, LARGE, call_course);
+        struct course_answer answer = course_answer;
+        uint32_t last = course[ROWS - 2];
+        if (bytes > most)
+            most = bytes;
+        if (bytes > COURSE_STACK)
+            fail("a course takes more than the header states");
+        memset(course, 0xff, sizeof course);
+        used(stated_course, COURSE_STACK, call_course);
+        if (answer.refusal != (refused ? 11 : 0) || answer.count != (refused ? 0 : ROWS - 1))
+            fail("a course is wrong");
+        if (memcmp(&answer, &course_answer, sizeof answer) || course[ROWS - 2] != last)
+            fail("a course differs on a smaller stack");
+    }
+    printf("stack: a course takes %zu bytes of %d\n", most, COURSE_STACK);
+}
+
 static void measure(const char *name)
 {
     size_t compile_bytes = used(large, LARGE, call_compile);
@@ -353,6 +407,7 @@ int main(int count, char **words)
     stated_compile = room(COMPILE_STACK);
     stated_strategy = room(STRATEGY_STACK);
     stated_normal_form = room(NORMAL_FORM_STACK);
+    stated_course = room(COURSE_STACK);
     stated_step = room(PTHREAD_STACK_MIN);
     bool print = count == 2 && strcmp(words[1], "all") == 0;
     for (int i = 1; i < count && !print; i++)
@@ -374,6 +429,7 @@ int main(int count, char **words)
     if (print)
         return 0;
     check_steps();
+    check_course();
     printf("stack: of %zu sheets, the compile takes at most %zu bytes of %d, the play table %zu of %d, the normal form %zu of %d\n", sheets, most_compile,
         COMPILE_STACK, most_strategy, STRATEGY_STACK, most_normal_form, NORMAL_FORM_STACK);
     return 0;

@@ -2,16 +2,13 @@
 -- course.
 use mathlib.Core.Path.{_≡_, refl}
 use mathlib.Core.Logic.{_⊎_, inl, inr, _≢_}
-use mathlib.Core.Bool.{Bool, true, false, cond}
 use mathlib.Core.List.{List}
 use Prim.Native.Nat.{ℕ, zero, suc, _+_, _<_, _≤_}
 use native.Mathlib.Omega.{arith}
-use native.Mathlib.Decide.{ℕ-discrete, decLt}
-use lib.Dec.{T}
+use native.Mathlib.Decide.{ℕ-discrete}
 use lib.ListN.{length}
-use Rattle.basics.proofs.Tests.{T-dec, cond-true}
 use Rattle.automaton.specs.Course.{IsCourse, IsBest, IsLeast, IsLeastCost, has-cost, lacks, HasEntry, IsChoice}
-use Rattle.automaton.specs.Layers.{IsLayers, IsGoal, Onward, IsCost, goal-final, goal-other, before-some, before-none, IsCosts, IsFirstCheapest, IsMarks, markCost, IsFirstGood, Chosen, chosen-end, chosen-letter}
+use Rattle.automaton.specs.Layers.{IsLayers, IsGoal, Onward, IsCost, goal-final, goal-other, before-some, before-none, IsCosts, IsFirstCheapest, Chosen, chosen-end, chosen-letter}
 use Rattle.automaton.proofs.CourseSearch.{final-least, other-none, cost-zero, choice-least, cost-minimum, cost-none}
 use Rattle.automaton.proofs.Layers.{goal-course, left-none, least-best}
 
@@ -121,55 +118,3 @@ module _ (changes : ℕ → ℕ → ℕ) (k : ℕ) (entry : ℕ → ℕ → ℕ)
       let z = chosen-least (λ a. 0) s r c (L .start-met) in
       let e : length r ≡ goal = omega (arith, z .0, L .start-layer) in
       least-best k entry s Met layer L final goal G changes r (rw e at (z .1))
-
--- marks
-
-mark-good : (b : Bool) → T b → cond {A = ℕ} b 0 1 ≡ 0
-mark-good b h = cond-true b 0 1 h
-
-mark-other : (b : Bool) → ¬ T b → cond {A = ℕ} b 0 1 ≡ 1
-mark-other true h = absurd (h tt)
-mark-other false h = refl
-
-module _ (k : ℕ) (entry : ℕ → ℕ → ℕ) (final : ℕ → ℕ) (Met : ℕ → Type 0) (layer : ℕ → ℕ) (goal : ℕ) (good : ℕ → Bool) where
-  pub cost-good : (i p : ℕ) → markCost good i p ≢ 1 → T (good i)
-  cost-good i p ne = go (T-dec (good i))
-    where
-      go : Dec (T (good i)) → T (good i)
-      go (yes h) = h
-      go (no h) = absurd (ne (mark-other (good i) h))
-
-  -- marks stand for costs
-  pub marks-costs : IsMarks k entry final Met layer goal good → IsCosts (λ a b. 0) k entry final Met layer goal 1 (markCost good)
-  marks-costs M = record { some-cost = omega arith; costs = λ i p x h hp. at i p x (T-dec (good i)) (ℕ-discrete (layer i) goal) h }
-    where
-      at : (i p : ℕ) → Met i → Dec (T (good i)) → Dec (layer i ≡ goal) → layer i ≤ goal
-          → IsCost (λ a b. 0) k entry final layer goal 1 (markCost good) i p
-      at i p x (yes g) (yes e) h = goal-final e (M .at-goal i x e .0 g) (mark-good (good i) g)
-      at i p x (no g) (yes e) h = goal-other e (λ f. g (M .at-goal i x e .1 f)) (mark-other (good i) g)
-      at i p x (yes g) (no ne) h =
-          let l : layer i < goal = omega arith in
-          let y = M .before i x l .0 g in
-          let c = mark-good (good i) g in
-          let d = mark-good (good (entry i (y .0))) (y .2) in
-          before-some l (y .0) (y .1) (omega arith) (omega arith) (λ b o ne. omega arith) (omega arith)
-      at i p x (no g) (no ne) h =
-          let l : layer i < goal = omega arith in
-          before-none l (λ b o. mark-other (good (entry i b)) λ f. g (M .before i x l .1 (b, o, f))) (mark-other (good i) g)
-
-  -- the first letter into a good row of the next layer is the first of the cheapest
-  pub first-good-cheapest : (i a : ℕ) → IsFirstGood k entry layer good i a → IsFirstCheapest k entry layer 1 (markCost good) (λ b. 0) i a
-  first-good-cheapest i a x = record {
-    onward = x .onward;
-    goes-on = omega (arith, mark-good (good (entry i a)) (x .is-good));
-    least = λ b o ne. go b o ne (decLt b a);
-  }
-    where
-      go : (b : ℕ) → Onward k entry layer i b → markCost good (entry i b) b ≢ 1 → Dec (b < a)
-          → (0 + markCost good (entry i a) a < 0 + markCost good (entry i b) b)
-          ⊎ ((0 + markCost good (entry i a) a ≡ 0 + markCost good (entry i b) b) × (a ≤ b))
-      go b o ne (yes h) = absurd (x .none-before b h o (cost-good (entry i b) b ne))
-      go b o ne (no h) = inr (
-        omega (arith, mark-good (good (entry i a)) (x .is-good), mark-good (good (entry i b)) (cost-good (entry i b) b ne)),
-        omega arith,
-      )

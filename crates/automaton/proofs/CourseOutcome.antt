@@ -4,18 +4,16 @@ use mathlib.Core.Path.{_≡_, refl, sym, ap, _∙_}
 use mathlib.Core.List.{List, [], _∷_, _++_}
 use Prim.Native.Nat.{ℕ, _+_, _-_, _<_}
 use native.Mathlib.Omega.{arith}
-use native.Mathlib.Decide.{decLt}
 use lib.ListN.{length, replicate}
 use Rattle.automaton.specs.Words.{Word, append, prefix, InRange}
 use Rattle.automaton.specs.Solutions.{Settles}
 use Rattle.automaton.specs.Table.{walk, run, Follows, IsTable}
-use Rattle.automaton.specs.Stored.{entryAt, finalAt}
-use Rattle.automaton.specs.WellFormed.{RowEntries, WellFormedState}
-use Rattle.automaton.specs.Course.{IsCourse, IsBest, CourseOutcome, unfit, endless, short, found, ShortestCourse}
+use Rattle.automaton.specs.WellFormed.{RowEntries}
+use Rattle.automaton.specs.Course.{IsCourse, IsBest, CourseOutcome, unfit, endless, short, found}
 use Rattle.automaton.proofs.Words.{all-below-prefix}
 use Rattle.automaton.proofs.Paths.{run-walk, follows↔paths}
 use Rattle.automaton.proofs.States.{continuation-followed, continuation-final}
-use Rattle.automaton.proofs.WellFormed.{well-formed-entries, well-formed-state-decided, table-entries}
+use Rattle.automaton.proofs.WellFormed.{table-entries}
 use Rattle.automaton.proofs.Course.{best-unique, best-exists, best-short, Decided, has-best, has-none, course-decided}
 
 module _ (changes : ℕ → ℕ → ℕ) (k : ℕ) (entry : ℕ → ℕ → ℕ) (final : ℕ → ℕ) (s : ℕ) (Fit : Type 0) (Short : ℕ → Type 0) (room : ℕ) where
@@ -60,20 +58,6 @@ module _ (changes : ℕ → ℕ → ℕ) (k : ℕ) (entry : ℕ → ℕ → ℕ)
       fits : Dec Fit → (refusal : ℕ) × (count : ℕ) × (list : List ℕ) × Outcome refusal count list
       fits (yes f) = decided f (course-decided changes k entry final (rows f .0) s (rows f .1) (rows f .2))
       fits (no f) = (11, 0, replicate room 0, unfit f)
-
--- tables as they are lent
-
-module _ (k : ℕ) (entries finals : List ℕ) where
-  -- every call for the shortest course has an outcome
-  pub shortest-total : (s room : ℕ) → (refusal : ℕ) × (count : ℕ) × (list : List ℕ) × ShortestCourse k entries finals s room refusal count list
-  shortest-total s room = course-total (λ a b. 0) k (entryAt k entries) (finalAt finals) s (WellFormedState k entries finals s) (λ m. room < m) room
-      (well-formed-state-decided k entries finals s) (λ m. decLt room m) λ g. (length finals, well-formed-entries (g .well-formed), g .is-row)
-
-  -- and no two
-  pub shortest-functional : {s room a c a′ c′ : ℕ} {l l′ : List ℕ} → ShortestCourse k entries finals s room a c l → ShortestCourse k entries finals s room a′ c′ l′
-      → (a ≡ a′) × (c ≡ c′) × (l ≡ l′)
-  shortest-functional {s} {room} =
-      course-functional (λ a b. 0) k (entryAt k entries) (finalAt finals) s (WellFormedState k entries finals s) (λ m. room < m) room
 
 -- compiled tables
 

@@ -1,6 +1,6 @@
 -- Courses: the records that lead from a state of a table to a final state, and which of them is best (document 02, S-3 and
--- S-8). `changes a b` is what the letter b costs in a course right after the letter a. In S-3 that is 0, and in S-8 the number
--- of set streams whose value differs; every law holds for any function.
+-- S-8). `changes a b` is what the letter b costs in a course right after the letter a: in S-8 the number of set streams whose
+-- value differs (crate `changes`). Every law holds for any function.
 use mathlib.Core.Path.{_≡_}
 use mathlib.Core.Logic.{_⊎_, _≢_}
 use mathlib.Core.List.{List, [], _∷_, _++_}
@@ -8,8 +8,6 @@ use Prim.Native.Nat.{ℕ, _+_, _-_, _<_, _≤_}
 use lib.ListN.{length, replicate}
 use Rattle.automaton.specs.Words.{AllBelow}
 use Rattle.automaton.specs.Table.{noState, walk, PathFrom}
-use Rattle.automaton.specs.Stored.{entryAt, finalAt}
-use Rattle.automaton.specs.WellFormed.{WellFormedState}
 
 -- courses
 
@@ -34,9 +32,8 @@ NotAfter [] q = Unit {0}
 NotAfter (a ∷ r) [] = ⊥
 NotAfter (a ∷ r) (b ∷ q) = (a < b) ⊎ ((a ≡ b) × NotAfter r q)
 
--- The order of courses: "the fewest letters"; in S-8 among these "the one with the fewest changes now comes first", and "Only
--- courses still equal go by number order." In S-3, where a change costs nothing: "Among equals, the course whose letters come
--- first in number order is given."
+-- The order of courses: "the fewest letters"; among these "the one with the fewest changes now comes first"; and "Only courses
+-- still equal go by number order."
 pub data NoLater (changes : ℕ → ℕ → ℕ) (r q : List ℕ) : Type 0 where
   fewer-letters : length r < length q → NoLater changes r q
   fewer-changes : length r ≡ length q → total changes r < total changes q → NoLater changes r q
@@ -96,8 +93,3 @@ pub data CourseOutcome (changes : ℕ → ℕ → ℕ) (k : ℕ) (entry : ℕ �
       → CourseOutcome changes k entry final s Fit Short room 10 0 (replicate room 0)
   found : {r : List ℕ} → Fit → IsBest changes k entry final s r → ¬ Short (length r)
       → CourseOutcome changes k entry final s Fit Short room 0 (length r) (r ++ replicate (room - length r) 0)
-
--- The outcome for a table as it is lent, with a list of `room` numbers, where a change costs nothing: S-3's.
-abbrev pub ShortestCourse : (k : ℕ) (entries finals : List ℕ) (s room refusal count : ℕ) (list : List ℕ) → Type 0
-ShortestCourse k entries finals s room refusal count list =
-    CourseOutcome (λ a b. 0) k (entryAt k entries) (finalAt finals) s (WellFormedState k entries finals s) (λ m. room < m) room refusal count list

@@ -2,11 +2,9 @@
 -- by them. Everything here is local: it speaks of a row and its entries. `Rattle.automaton.proofs.Layers` and
 -- `Rattle.automaton.proofs.Costs` say what follows for courses.
 use mathlib.Core.Path.{_≡_}
-use mathlib.Core.Logic.{_↔_, _⊎_, _≢_}
-use mathlib.Core.Bool.{Bool, cond}
+use mathlib.Core.Logic.{_⊎_, _≢_}
 use mathlib.Core.List.{List, [], _∷_}
 use Prim.Native.Nat.{ℕ, suc, _+_, _<_, _≤_}
-use lib.Dec.{T}
 use Rattle.automaton.specs.Course.{HasEntry}
 
 -- layers
@@ -50,8 +48,7 @@ pub record Onward (k : ℕ) (entry : ℕ → ℕ → ℕ) (layer : ℕ → ℕ) 
   pub next-layer : layer (entry i a) ≡ suc (layer i)
 
 -- What is stored for the row i after the letter p: `without` if no course of the letters still needed goes on from i, and
--- otherwise the least that one costs, the letter after p included. In S-3 these are marks, 0 for a good row and 1 for another
--- (`markCost`).
+-- otherwise the least that one costs, the letter after p included.
 pub data IsCost (changes : ℕ → ℕ → ℕ) (k : ℕ) (entry : ℕ → ℕ → ℕ) (final layer : ℕ → ℕ) (goal without : ℕ) (cost : ℕ → ℕ → ℕ) (i p : ℕ)
     : Type 0 where
   goal-final : layer i ≡ goal → final i ≡ 1 → cost i p ≡ 0 → IsCost changes k entry final layer goal without cost i p
@@ -83,20 +80,3 @@ pub data Chosen (changes : ℕ → ℕ → ℕ) (k : ℕ) (entry : ℕ → ℕ �
   chosen-letter : {first : ℕ → ℕ} {i a : ℕ} {r : List ℕ} → IsFirstCheapest k entry layer without cost first i a
       → Chosen changes k entry final layer goal without cost (changes a) (entry i a) r
       → Chosen changes k entry final layer goal without cost first i (a ∷ r)
-
--- marks: S-3, where changes cost nothing
-
--- A row of the goal layer is good if it is final, a row before it if an entry leads to a good row of the next layer.
-pub record IsMarks (k : ℕ) (entry : ℕ → ℕ → ℕ) (final : ℕ → ℕ) (Met : ℕ → Type 0) (layer : ℕ → ℕ) (goal : ℕ) (good : ℕ → Bool) : Type 0 where
-  pub at-goal : (i : ℕ) → Met i → layer i ≡ goal → T (good i) ↔ (final i ≡ 1)
-  pub before : (i : ℕ) → Met i → layer i < goal → T (good i) ↔ ((a : ℕ) × Onward k entry layer i a × T (good (entry i a)))
-
--- the cost that a mark stands for; 1 stands for no course
-abbrev pub markCost : (good : ℕ → Bool) (i p : ℕ) → ℕ
-markCost good i p = cond (good i) 0 1
-
--- a is the first letter that leads to a good row of the next layer
-pub record IsFirstGood (k : ℕ) (entry : ℕ → ℕ → ℕ) (layer : ℕ → ℕ) (good : ℕ → Bool) (i a : ℕ) : Type 0 where
-  pub onward : Onward k entry layer i a
-  pub is-good : T (good (entry i a))
-  pub none-before : (b : ℕ) → b < a → Onward k entry layer i b → ¬ T (good (entry i b))

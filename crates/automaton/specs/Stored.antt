@@ -1,17 +1,18 @@
 -- A table as it is stored: a list of entries, row after row, and a list of final bytes.
 use Prim.Native.Nat.{ℕ, _+_, _*_, _≤_}
 use mathlib.Core.List.{List}
-use lib.ListN.{length, getD}
+use lib.ListN.{length}
+use Rattle.basics.specs.Lists.{at}
 use Rattle.automaton.specs.Words.{Word}
 use Rattle.automaton.specs.Table.{IsTable, SameRows}
 
 -- "A row takes one entry per letter in the table": the entry of state i for letter a stands at i * k + a.
 abbrev pub entryAt : (k : ℕ) (entries : List ℕ) (i a : ℕ) → ℕ
-entryAt k entries i a = getD entries (i * k + a) 0
+entryAt k entries i a = at entries (i * k + a)
 
 -- "one final byte": that of state i stands at i.
 abbrev pub finalAt : (finals : List ℕ) (i : ℕ) → ℕ
-finalAt finals i = getD finals i 0
+finalAt finals i = at finals i
 
 -- "The used rows are the first rows, as many as the states reported": they lie within the lists, and hold the table.
 pub record StoredTable (Sol : Word → Type 0) (k n : ℕ) (entries finals : List ℕ) : Type 0 where

@@ -1,5 +1,8 @@
 pub mod Queue
 pub mod Meeting
-pub mod NextLetters
+pub mod Goal
+pub mod Costs
+pub mod Rows
+pub mod Cheapest
 pub mod Following
 pub mod Outcome

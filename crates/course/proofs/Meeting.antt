@@ -7,11 +7,12 @@ use native.Mathlib.Omega.{arith}
 use native.Mathlib.Decide.{ℕ-discrete}
 use lib.ListN.{length, set, replicate, length-set, getD-replicate}
 use lib.Seq.{getD-set-same, getD-set-other}
+use Rattle.basics.specs.Lists.{at}
 use Rattle.automaton.specs.Table.{noState}
 use Rattle.automaton.specs.Stored.{entryAt}
 use Rattle.automaton.specs.WellFormed.{mostRows, WholeTable}
 use Rattle.automaton.proofs.WellFormed.{whole-entries, some-row-entry}
-use Rattle.course.specs.Queue.{notMet, IsMet, at, StoredTurn, EntryFits, HasRoom, EntryMet, EntryMet.kept, EntryMet.added, RowMet, QueueEnded}
+use Rattle.course.specs.Queue.{notMet, IsMet, StoredTurn, EntryFits, HasRoom, EntryMet, EntryMet.kept, EntryMet.added, RowMet, QueueEnded}
 use Rattle.course.proofs.Queue.{IsMore, queue-room, turn-start, turn-row, turn-old, turn-new, turn-end}
 
 -- in the row at the head, before a letter

@@ -1,2 +1,4 @@
+pub mod Outcome
 pub mod Queue
-pub mod NextLetters
+pub mod Goal
+pub mod Costs

@@ -4,7 +4,8 @@ use mathlib.Core.Path.{_≡_}
 use mathlib.Core.Logic.{_≢_}
 use mathlib.Core.List.{List}
 use Prim.Native.Nat.{ℕ, suc, _+_, _<_, _≤_}
-use lib.ListN.{length, getD, set}
+use lib.ListN.{length, set}
+use Rattle.basics.specs.Lists.{at}
 use Rattle.automaton.specs.Table.{noState, Before}
 use Rattle.automaton.specs.Stored.{entryAt}
 use Rattle.automaton.specs.Layers.{MetFrom, IsLayers}
@@ -35,10 +36,6 @@ pub record QueueTurn (k n : ℕ) (entry : ℕ → ℕ → ℕ) (layer queue : �
   pub from : (p : ℕ) → 0 < p → p < count → MetFrom k entry (IsMet n layer) layer (queue p)
   pub done-met : (p b : ℕ) → p < count → b < k → Before p b head a → entry (queue p) b ≢ noState → IsMet n layer (entry (queue p) b)
   pub done-layer : (p b : ℕ) → p < count → b < k → Before p b head a → entry (queue p) b ≢ noState → layer (entry (queue p) b) ≤ suc (layer (queue p))
-
--- the numbers of a list as a function
-abbrev pub at : List ℕ → ℕ → ℕ
-at list i = getD list i 0
 
 -- the turn with the layers and the queue in lists
 abbrev pub StoredTurn : (k n : ℕ) (entries layers queue : List ℕ) (count head a : ℕ) → Type 0

@@ -1,25 +1,36 @@
-// The course of fewest letters from a state of a lent table to a final state, and among these the first in number order (document 02, S-3).
+// The course of fewest letters from a state of a lent table to a final state, of these the one with the fewest changes of set streams, and of these the
+// first in number order (document 02, S-3 and S-8).
 //
 // A queue over the rows gives each row its layer, the fewest letters that lead to it. The goal is the least layer of a final row.
-// Then each row's next letter is found, the last layer first: the first one into a row of the next layer from which a course goes on.
-// The next letters from the start on are the course. So the entries are looked at in three passes, and once more along the course.
+// Then what the rest of a course costs is found for each row before the goal and each letter before it, the last layer first: the cost
+// behind each letter, and from these, stream by stream, the least with the changes to the letter (crate changes). From the start on, the
+// first of the cheapest letters is the next one. So the entries are looked at in three passes, the stored costs in one pass for each
+// stream, and both once more along the course.
 ghost use mathlib.Core.Path.{_≡_};
-ghost use mathlib.Core.List.{_++_};
-ghost use Prim.Native.Nat.{_<_, _≤_};
-ghost use lib.ListN.{length, drop, replicate};
+ghost use mathlib.Core.Logic.{_≢_};
+ghost use mathlib.Core.List.{List};
+ghost use Prim.Native.Nat.{ℕ, _*_, _<_, _≤_};
+ghost use lib.ListN.{length, replicate};
+ghost use Rattle.basics.specs.Lists.{at};
 ghost use Rattle.basics.specs.Answers.{Says};
 ghost use Rattle.automaton.specs.Stored.{entryAt, finalAt};
-ghost use Rattle.automaton.specs.WellFormed.{WholeTable, WellFormedState};
-ghost use Rattle.automaton.specs.Course.{ShortestCourse};
-ghost use Rattle.course.specs.Queue.{notMet, at, StoredTurn, EntryFits, HasRoom, EntryMet, RowMet, IsQueue, QueueEnded};
-ghost use Rattle.course.specs.NextLetters.{noLetter, IsGoalBelow, GoalRefusal, LeadsOn, FirstLetter, IsNextLetter, AreNextLetters, NextLettersFit, lettersTo};
+ghost use Rattle.automaton.specs.WellFormed.{mostRows, WholeTable};
+ghost use Rattle.automaton.specs.Layers.{IsLayers, IsGoal};
+ghost use Rattle.streams.specs.declared.StreamsDescription.{StreamsDescription};
+ghost use Rattle.changes.specs.Axes.{letterTotal, axesIn, IsShape};
+ghost use Rattle.course.specs.Outcome.{IsFit, BestCourse, CourseCall};
+ghost use Rattle.course.specs.Queue.{notMet, StoredTurn, EntryFits, HasRoom, EntryMet, RowMet, IsMet, IsQueue, QueueEnded};
+ghost use Rattle.course.specs.Goal.{IsGoalBelow, IsSearched, GoalRefusal};
+ghost use Rattle.course.specs.Costs.{layeredIn, costBehind, LoadsRow, FindsRow, AreKnown, totalCost, IsCheapest, HoldsBest};
 use automaton::MOST_ROWS;
 use automaton::NO_STATE;
+use changes::Shape;
+use streams::StreamsDescription;
 
 // The layer of a row that is not met.
 const NOT_MET: u16 = 65535;
-// What is stored for a row from which no course goes on.
-const NO_LETTER: u32 = 4294967295;
+// The cost that stands for no course.
+const NO_COURSE: u16 = 65535;
 
 // The answer: 0 or the refusal, and how many letters the course has.
 #[repr(C)]
@@ -113,136 +124,249 @@ fn goal_layer(finals: &[u8], layers: &[u16]) -> u16
     goal
 }
 
-// The refusal by the goal layer and the room in the list, or 0.
-fn goal_refusal(goal: u16, room: usize) -> u32
-    ensures { λ r. ⌜ GoalRefusal goal room r ⌝ }
+// How many rows are met, and the goal layer.
+struct MetRows {
+    count: usize,
+    goal: u16,
+}
+
+// Meets every row that the start leads to, and finds the goal layer.
+fn search(
+    entries: &[u16],
+    finals: &[u8],
+    letters: usize,
+    start: u16,
+    layers: &mut [u16],
+    queue: &mut [u16],
+) -> MetRows
+    requires { ⌜ WholeTable letters (length (now layers)) (now entries) ⌝ }
+    requires { ⌜ (length (now finals) ≡ length (now layers)) × (length (now queue) ≡ length (now layers)) × (start < length (now layers)) × (now layers ≡ replicate (length (now layers)) notMet) ⌝ }
+    ensures { λ r. ⌜ IsSearched letters (now (entries .entry)) (now (finals .entry)) start (now (layers .exit)) (now (queue .exit)) (r .count) (r .goal) ⌝ }
 {
-    if goal == NOT_MET {
-        15
-    } else if room < goal as usize {
-        10
-    } else {
-        0
+    let count = meet_rows(entries, letters, start, layers, queue);
+    MetRows {
+        count: count,
+        goal: goal_layer(finals, layers),
     }
 }
 
-// Whether an entry leads to a row of the layer `next` from which a course goes on.
-fn leads_on(entry: u16, next: u16, layers: &[u16], next_letters: &[u32]) -> bool
+// The refusal by the goal layer and the rooms lent, or 0.
+fn goal_refusal(goal: u16, room: usize, work: usize, entries: usize) -> u32
+    ensures { λ r. ⌜ GoalRefusal goal room work entries r ⌝ }
+{
+    if goal == NOT_MET {
+        return 15;
+    }
+    if work < entries {
+        return 10;
+    }
+    if room < goal as usize { 10 } else { 0 }
+}
+
+// ---- costs, the last layer first
+
+// What the rest of a course costs behind a letter that leads by this entry: NO_COURSE unless it leads to the layer `next` and a course goes on there.
+fn cost_behind(
+    entry: u16,
+    letter: usize,
+    finals: &[u8],
+    letters: usize,
+    next: u16,
+    goal: u16,
+    layers: &[u16],
+    costs: &[u16],
+) -> u16
     requires { ⌜ EntryFits entry (length (now layers)) ⌝ }
-    requires { ⌜ length (now «next_letters») ≡ length (now layers) ⌝ }
-    ensures { λ r. ⌜ Says r (LeadsOn entry next (at (now (layers .entry))) (at (now («next_letters» .entry)))) ⌝ }
+    requires { ⌜ (length (now finals) ≡ length (now layers)) × (length (now layers) * letters ≤ length (now costs)) × (letter < letters) ⌝ }
+    ensures { λ r. ⌜ ((entries : List ℕ) → r ≡ costBehind (layeredIn letters entries (now (finals .entry)) (now (layers .entry)) goal) (now (costs .entry)) next entry letter) ⌝ }
 {
     if entry == NO_STATE {
-        return false;
+        return NO_COURSE;
     }
     let row = entry as usize;
     if layers[row] != next {
-        return false;
+        return NO_COURSE;
     }
-    next_letters[row] != NO_LETTER
+    if next != goal {
+        return costs[row * letters + letter];
+    }
+    if finals[row] == 1 { 0 } else { NO_COURSE }
 }
 
-// The first letter that leads from a row to a row of the next layer from which a course goes on, or NO_LETTER.
-fn first_letter(
+// Stores in a row what the rest of a course costs behind each letter.
+fn load_row(
     entries: &[u16],
+    finals: &[u8],
     letters: usize,
     row: usize,
+    goal: u16,
     layers: &[u16],
-    next_letters: &[u32],
-) -> u32
+    costs: &mut [u16],
+)
     requires { ⌜ WholeTable letters (length (now layers)) (now entries) ⌝ }
-    requires { ⌜ (length (now «next_letters») ≡ length (now layers)) × (row < length (now layers)) × (letters ≤ noLetter) × (at (now layers) row < notMet) ⌝ }
-    ensures { λ r. ⌜ FirstLetter letters (entryAt letters (now (entries .entry))) (at (now (layers .entry))) (at (now («next_letters» .entry))) row r ⌝ }
+    requires { ⌜ (length (now finals) ≡ length (now layers)) × (length (now layers) * letters ≤ length (now costs)) × (row < length (now layers)) × (at (now layers) row < notMet) ⌝ }
+    ensures { λ r. ⌜ LoadsRow (layeredIn letters (now (entries .entry)) (now (finals .entry)) (now (layers .entry)) goal) row letters (now (costs .entry)) (now (costs .exit)) ⌝ }
 {
     let start = row * letters;
     let next = layers[row] + 1;
-    let mut letter: usize = 0;
+    let mut letter = 0;
     while letter < letters {
-        if leads_on(entries[start + letter], next, layers, next_letters) {
-            return letter as u32;
-        }
+        let entry = entries[start + letter];
+        costs[start + letter] = cost_behind(
+            entry,
+            letter,
+            finals,
+            letters,
+            next,
+            goal,
+            layers,
+            costs,
+        );
         letter += 1;
     }
-    NO_LETTER
 }
 
-// The next letter of a row, where those of the next layer are known.
-fn next_letter(
+// The costs of a row before the goal layer, where those of the next layer are known.
+fn find_row(
+    entries: &[u16],
+    finals: &[u8],
+    letters: usize,
+    shape: Shape,
+    row: usize,
+    goal: u16,
+    layers: &[u16],
+    costs: &mut [u16],
+)
+    requires { ⌜ WholeTable letters (length (now layers)) (now entries) ⌝ }
+    requires { ⌜ (length (now finals) ≡ length (now layers)) × (length (now layers) * letters ≤ length (now costs)) × (row < length (now layers)) × (at (now layers) row < notMet) × (letterTotal (axesIn shape) ≡ letters) ⌝ }
+    ensures { λ r. ⌜ FindsRow (axesIn shape) (layeredIn letters (now (entries .entry)) (now (finals .entry)) (now (layers .entry)) goal) row (now (costs .entry)) (now (costs .exit)) ⌝ }
+{
+    load_row(entries, finals, letters, row, goal, layers, costs);
+    let start = row * letters;
+    let end = start + letters;
+    changes::lower_costs(shape, &mut costs[start..end]);
+}
+
+// The costs of every row before the goal layer, the last layer first.
+fn find_costs(
+    entries: &[u16],
+    finals: &[u8],
+    letters: usize,
+    shape: Shape,
+    met: MetRows,
+    layers: &[u16],
+    queue: &[u16],
+    costs: &mut [u16],
+)
+    requires { ⌜ WholeTable letters (length (now layers)) (now entries) ⌝ }
+    requires { ⌜ (length (now finals) ≡ length (now layers)) × (length (now queue) ≡ length (now layers)) × (length (now layers) * letters ≤ length (now costs)) × (met .goal < mostRows) × (letterTotal (axesIn shape) ≡ letters) ⌝ }
+    requires { ⌜ IsQueue (length (now layers)) (at (now layers)) (at (now queue)) (met .count) ⌝ }
+    ensures { λ r. ⌜ AreKnown (axesIn shape) (layeredIn letters (now (entries .entry)) (now (finals .entry)) (now (layers .entry)) (met .goal)) (now (costs .exit)) ⌝ }
+{
+    let goal = met.goal;
+    let mut left = met.count;
+    while left > 0 {
+        left -= 1;
+        let row = queue[left] as usize;
+        if layers[row] < goal {
+            find_row(entries, finals, letters, shape, row, goal, layers, costs);
+        }
+    }
+}
+
+// ---- the way forward
+
+// What a letter costs with what follows it. No sum is as large as what stands for none.
+fn total_cost(changes: u16, cost: u16) -> u32
+    ensures { λ r. ⌜ r ≡ totalCost changes cost ⌝ }
+{
+    if cost == NO_COURSE {
+        return 131072;
+    }
+    changes as u32 + cost as u32
+}
+
+// The first of the letters that cost least at a row, with what follows them.
+fn cheapest_letter(
     entries: &[u16],
     finals: &[u8],
     letters: usize,
     row: usize,
     goal: u16,
     layers: &[u16],
-    next_letters: &[u32],
-) -> u32
+    costs: &[u16],
+    changes: &[u16],
+) -> usize
     requires { ⌜ WholeTable letters (length (now layers)) (now entries) ⌝ }
-    requires { ⌜ (length (now «next_letters») ≡ length (now layers)) × (length (now finals) ≡ length (now layers)) × (row < length (now layers)) × (letters ≤ noLetter) × (goal ≤ notMet) ⌝ }
-    ensures { λ r. ⌜ IsNextLetter letters (entryAt letters (now (entries .entry))) (finalAt (now (finals .entry))) (at (now (layers .entry))) goal (at (now («next_letters» .entry))) row r ⌝ }
+    requires { ⌜ (length (now finals) ≡ length (now layers)) × (length (now layers) * letters ≤ length (now costs)) × (row < length (now layers)) × (at (now layers) row < notMet) × (length (now changes) ≡ letters) ⌝ }
+    ensures { λ r. ⌜ IsCheapest (layeredIn letters (now (entries .entry)) (now (finals .entry)) (now (layers .entry)) goal) (now (costs .entry)) (at (now (changes .entry))) row r ⌝ }
 {
-    let layer = layers[row];
-    if layer < goal {
-        return first_letter(entries, letters, row, layers, next_letters);
+    let start = row * letters;
+    let next = layers[row] + 1;
+    let mut best = 0;
+    let mut least: u32 = 131072;
+    let mut letter = 0;
+    while letter < letters {
+        let entry = entries[start + letter];
+        let cost = cost_behind(entry, letter, finals, letters, next, goal, layers, costs);
+        let total = total_cost(changes[letter], cost);
+        if total < least {
+            least = total;
+            best = letter;
+        }
+        letter += 1;
     }
-    if goal < layer {
-        return NO_LETTER;
-    }
-    if finals[row] == 1 { 0 } else { NO_LETTER }
+    best
 }
 
-// Stores the next letter of every row that is met, the last layer first.
-fn find_next_letters(
+// Writes the letters of the course, from the start on.
+fn follow(
     entries: &[u16],
     finals: &[u8],
     letters: usize,
+    shape: Shape,
+    start: usize,
     goal: u16,
     layers: &[u16],
-    queue: &[u16],
-    count: usize,
-    next_letters: &mut [u32],
-)
-    requires { ⌜ WholeTable letters (length (now layers)) (now entries) ⌝ }
-    requires { ⌜ (length (now «next_letters») ≡ length (now layers)) × (length (now finals) ≡ length (now layers)) × (length (now queue) ≡ length (now layers)) × (letters ≤ noLetter) × (goal ≤ notMet) ⌝ }
-    requires { ⌜ IsQueue (length (now layers)) (at (now layers)) (at (now queue)) count ⌝ }
-    ensures { λ r. ⌜ AreNextLetters letters (length (now (layers .entry))) (entryAt letters (now (entries .entry))) (finalAt (now (finals .entry))) (at (now (layers .entry))) goal (at (now («next_letters» .exit))) ⌝ }
-{
-    let mut left = count;
-    while left > 0 {
-        left -= 1;
-        let row = queue[left] as usize;
-        next_letters[row] = next_letter(entries, finals, letters, row, goal, layers, next_letters);
-    }
-}
-
-// Writes as many next letters as the course has letters, from the start on.
-fn follow(
-    entries: &[u16],
-    letters: usize,
-    start: usize,
-    goal: usize,
-    next_letters: &[u32],
+    costs: &[u16],
+    changes: &mut [u16],
     list: &mut [u32],
 )
-    requires { ⌜ WholeTable letters (length (now «next_letters»)) (now entries) ⌝ }
-    requires { ⌜ NextLettersFit letters (length (now «next_letters»)) (entryAt letters (now entries)) (at (now «next_letters»)) start goal ⌝ }
-    requires { ⌜ goal ≤ length (now list) ⌝ }
-    ensures { λ r. ⌜ now (list .exit) ≡ lettersTo (entryAt letters (now (entries .entry))) (at (now («next_letters» .entry))) start goal ++ drop goal (now (list .entry)) ⌝ }
+    requires { ⌜ WholeTable letters (length (now layers)) (now entries) ⌝ }
+    requires { ⌜ (length (now finals) ≡ length (now layers)) × (length (now layers) * letters ≤ length (now costs)) × (goal ≤ length (now list)) × (goal < mostRows) × (letterTotal (axesIn shape) ≡ letters) × (letters ≤ 1024) × (now changes ≡ replicate letters 0) ⌝ }
+    requires { ⌜ IsLayers letters (entryAt letters (now entries)) start (IsMet (length (now layers)) (at (now layers))) (at (now layers)) ⌝ }
+    requires { ⌜ IsGoal (finalAt (now finals)) (IsMet (length (now layers)) (at (now layers))) (at (now layers)) goal ⌝ }
+    requires { ⌜ AreKnown (axesIn shape) (layeredIn letters (now entries) (now finals) (now layers) goal) (now costs) ⌝ }
+    ensures { λ r. ⌜ HoldsBest (axesIn shape) (layeredIn letters (now (entries .entry)) (now (finals .entry)) (now (layers .entry)) goal) start (now (list .entry)) (now (list .exit)) ⌝ }
 {
+    let end = goal as usize;
     let mut row = start;
     let mut taken = 0;
-    while taken < goal {
-        let letter = next_letters[row];
-        list[taken] = letter;
-        row = entries[row * letters + letter as usize] as usize;
+    while taken < end {
+        let letter = cheapest_letter(entries, finals, letters, row, goal, layers, costs, changes);
+        list[taken] = letter as u32;
+        row = entries[row * letters + letter] as usize;
+        changes::count_changes(shape, letter, changes);
         taken += 1;
     }
 }
 
-// Whether the state is a row of a table that is well formed.
-fn is_state(entries: &[u16], finals: &[u8], letters: usize, state: usize) -> bool
-    ensures { λ r. ⌜ Says r (WellFormedState letters (now (entries .entry)) (now (finals .entry)) state) ⌝ }
+// ---- the call
+
+// Whether the state is a row of a table that is well formed, and an accepted sheet could have the streams, which make the table's letters.
+fn is_fit(
+    entries: &[u16],
+    finals: &[u8],
+    letters: usize,
+    streams: StreamsDescription,
+    state: usize,
+) -> bool
+    ensures { λ r. ⌜ Says r (IsFit letters (now (entries .entry)) (now (finals .entry)) streams state) ⌝ }
 {
     if !tables::is_well_formed(entries, finals, letters) {
+        return false;
+    }
+    if !streams::streams_fit(streams, letters) {
         return false;
     }
     state < finals.len()
@@ -254,45 +378,74 @@ fn refused(refusal: u32) -> CourseAnswer
     CourseAnswer { refusal, count: 0 }
 }
 
-// The course from a state of a table that is well formed. The list is zero, and the other lists have a number for each row.
-fn find_course(
+// The costs and the way forward, where there is a course and room for it.
+fn write_course(
     entries: &[u16],
     finals: &[u8],
     letters: usize,
-    start: u16,
-    layers: &mut [u16],
-    queue: &mut [u16],
-    next_letters: &mut [u32],
+    shape: Shape,
+    start: usize,
+    met: MetRows,
+    layers: &[u16],
+    queue: &[u16],
     list: &mut [u32],
-) -> CourseAnswer
-    requires { ⌜ WellFormedState letters (now entries) (now finals) start ⌝ }
-    requires { ⌜ (length (now layers) ≡ length (now finals)) × (length (now queue) ≡ length (now finals)) × (length (now «next_letters») ≡ length (now finals)) × (letters ≤ noLetter) ⌝ }
-    requires { ⌜ (now layers ≡ replicate (length (now layers)) notMet) × (now list ≡ replicate (length (now list)) 0) ⌝ }
-    ensures { λ r. ⌜ ShortestCourse letters (now (entries .entry)) (now (finals .entry)) start (length (now (list .entry))) (r .refusal) (r .count) (now (list .exit)) ⌝ }
+    work: &mut [u16],
+)
+    requires { ⌜ WholeTable letters (length (now layers)) (now entries) ⌝ }
+    requires { ⌜ (length (now finals) ≡ length (now layers)) × (length (now queue) ≡ length (now layers)) × (length (now layers) * letters ≤ length (now work)) × (met .goal ≢ notMet) × (met .goal ≤ length (now list)) × (letterTotal (axesIn shape) ≡ letters) × (letters ≤ 1024) ⌝ }
+    requires { ⌜ IsSearched letters (now entries) (now finals) start (now layers) (now queue) (met .count) (met .goal) ⌝ }
+    ensures { λ r. ⌜ HoldsBest (axesIn shape) (layeredIn letters (now (entries .entry)) (now (finals .entry)) (now (layers .entry)) (met .goal)) start (now (list .entry)) (now (list .exit)) ⌝ }
 {
-    let met = meet_rows(entries, letters, start, layers, queue);
-    let goal = goal_layer(finals, layers);
-    let refusal = goal_refusal(goal, list.len());
-    if refusal != 0 {
-        return refused(refusal);
-    }
-    find_next_letters(
+    find_costs(entries, finals, letters, shape, met, layers, queue, work);
+    let mut changes = [0u16; 1024];
+    follow(
         entries,
         finals,
         letters,
-        goal,
+        shape,
+        start,
+        met.goal,
+        layers,
+        work,
+        &mut changes[..letters],
+        list,
+    );
+}
+
+// The course where 11 does not apply and the rows are met. The list is zero.
+fn settle_course(
+    entries: &[u16],
+    finals: &[u8],
+    letters: usize,
+    shape: Shape,
+    start: usize,
+    met: MetRows,
+    layers: &[u16],
+    queue: &[u16],
+    list: &mut [u32],
+    work: &mut [u16],
+) -> CourseAnswer
+    requires { ⌜ WholeTable letters (length (now layers)) (now entries) ⌝ }
+    requires { ⌜ (length (now finals) ≡ length (now layers)) × (length (now queue) ≡ length (now layers)) × (letterTotal (axesIn shape) ≡ letters) × (letters ≤ 1024) × (now list ≡ replicate (length (now list)) 0) ⌝ }
+    requires { ⌜ IsSearched letters (now entries) (now finals) start (now layers) (now queue) (met .count) (met .goal) ⌝ }
+    ensures { λ r. ⌜ ((streams : StreamsDescription) → IsShape streams shape → IsFit letters (now (entries .entry)) (now (finals .entry)) streams start → BestCourse letters (now (entries .entry)) (now (finals .entry)) streams start (length (now (list .entry))) (length (now (work .entry))) (r .refusal) (r .count) (now (list .exit))) ⌝ }
+{
+    let goal = met.goal;
+    let refusal = goal_refusal(goal, list.len(), work.len(), entries.len());
+    if refusal != 0 {
+        return refused(refusal);
+    }
+    write_course(
+        entries,
+        finals,
+        letters,
+        shape,
+        start,
+        met,
         layers,
         queue,
-        met,
-        next_letters,
-    );
-    follow(
-        entries,
-        letters,
-        start as usize,
-        goal as usize,
-        next_letters,
         list,
+        work,
     );
     CourseAnswer {
         refusal: 0,
@@ -300,32 +453,92 @@ fn find_course(
     }
 }
 
-// The course from a state of any table that is lent.
-pub fn course(
+// The course where 11 does not apply. The list is zero, and layers and queue have a number for each row.
+fn find_course(
     entries: &[u16],
     finals: &[u8],
-    letters: u32,
-    state: u32,
+    letters: usize,
+    shape: Shape,
+    start: u16,
+    layers: &mut [u16],
+    queue: &mut [u16],
     list: &mut [u32],
+    work: &mut [u16],
 ) -> CourseAnswer
-    ensures { λ r. ⌜ ShortestCourse letters (now (entries .entry)) (now (finals .entry)) state (length (now (list .entry))) (r .refusal) (r .count) (now (list .exit)) ⌝ }
+    requires { ⌜ WholeTable letters (length (now layers)) (now entries) ⌝ }
+    requires { ⌜ (length (now finals) ≡ length (now layers)) × (length (now queue) ≡ length (now layers)) × (start < length (now layers)) × (letterTotal (axesIn shape) ≡ letters) × (letters ≤ 1024) ⌝ }
+    requires { ⌜ (now layers ≡ replicate (length (now layers)) notMet) × (now list ≡ replicate (length (now list)) 0) ⌝ }
+    ensures { λ r. ⌜ ((streams : StreamsDescription) → IsShape streams shape → IsFit letters (now (entries .entry)) (now (finals .entry)) streams start → BestCourse letters (now (entries .entry)) (now (finals .entry)) streams start (length (now (list .entry))) (length (now (work .entry))) (r .refusal) (r .count) (now (list .exit))) ⌝ }
 {
-    basics::fill(list, 0);
-    if !is_state(entries, finals, letters as usize, state as usize) {
+    let met = search(entries, finals, letters, start, layers, queue);
+    settle_course(
+        entries,
+        finals,
+        letters,
+        shape,
+        start as usize,
+        met,
+        layers,
+        queue,
+        list,
+        work,
+    )
+}
+
+// The course, or 11. The list is zero.
+fn judged_course(
+    entries: &[u16],
+    finals: &[u8],
+    letters: usize,
+    streams: StreamsDescription,
+    state: usize,
+    list: &mut [u32],
+    work: &mut [u16],
+) -> CourseAnswer
+    requires { ⌜ now list ≡ replicate (length (now list)) 0 ⌝ }
+    ensures { λ r. ⌜ BestCourse letters (now (entries .entry)) (now (finals .entry)) streams state (length (now (list .entry))) (length (now (work .entry))) (r .refusal) (r .count) (now (list .exit)) ⌝ }
+{
+    if !is_fit(entries, finals, letters, streams, state) {
         return refused(11);
     }
     let rows = finals.len();
     let mut layers = [NOT_MET; MOST_ROWS];
     let mut queue = [0u16; MOST_ROWS];
-    let mut next_letters = [NO_LETTER; MOST_ROWS];
     find_course(
         entries,
         finals,
-        letters as usize,
+        letters,
+        changes::shape_of(streams),
         state as u16,
         &mut layers[..rows],
         &mut queue[..rows],
-        &mut next_letters[..rows],
         list,
+        work,
     )
+}
+
+// The course from a state of any table that is lent, with the streams that make its letters.
+pub fn course(
+    entries: &[u16],
+    finals: &[u8],
+    letters: u32,
+    streams: StreamsDescription,
+    state: u32,
+    list: &mut [u32],
+    work: &mut [u16],
+) -> CourseAnswer
+    ensures { λ r. ⌜ CourseCall letters (now (entries .entry)) (now (finals .entry)) streams state (length (now (list .entry))) (length (now (work .entry))) (r .refusal) (r .count) (now (list .exit)) (now (work .exit)) ⌝ }
+{
+    basics::fill(list, 0);
+    let answer = judged_course(
+        entries,
+        finals,
+        letters as usize,
+        streams,
+        state as usize,
+        list,
+        work,
+    );
+    basics::clear_entries(work, 0);
+    answer
 }

@@ -1,9 +1,13 @@
-// Asks for the courses that standard input gives, in lists that are not 0, and prints each answer with the whole list. The enumerator wrote
-// the input and what is expected: five numbers of four bytes, low first (how many bytes follow, how many entries there are, the letters, the
-// state, and the length of the list), then the entries of two bytes, low first, and the final bytes, case after case.
+// Asks for the courses that standard input gives, in lists and work room that are not 0, and prints each answer, how many numbers of the work room are not 0
+// afterwards, and the whole list. The enumerator wrote the input and what is expected: seven numbers of four bytes, low first (how many bytes follow, how many
+// entries there are, the letters, the state, the length of the list, that of the work room, and the number of streams), then the streams (64 bytes of names,
+// 8 of their lengths, 8 of kinds, 8 lowest values and 8 highest values of four bytes, each 2^31 more than the value), the entries of two bytes, low first,
+// and the final bytes, case after case.
 use cases::number;
 use cases::print;
 use libc::STDOUT_FILENO;
+use streams::StreamsDescription;
+ghost use Prim.Native.Nat.{_≤_};
 
 fn print_list(list: &[u32]) {
     let mut i = 0;
@@ -22,40 +26,111 @@ fn read_entries(bytes: &[u8], entries: &mut [u16]) {
     }
 }
 
+// Eight bytes from a place on.
+fn eight_bytes(bytes: &[u8], at: usize) -> [u8; 8]
+    requires { ⌜ at ≤ 144 ⌝ }
+{
+    let mut found = [0u8; 8];
+    let mut i = 0;
+    while i < 8 {
+        found[i] = (number(bytes, at + i) % 256) as u8;
+        i += 1;
+    }
+    found
+}
+
+fn names(bytes: &[u8]) -> [u8; 64] {
+    let mut found = [0u8; 64];
+    let mut i = 0;
+    while i < 64 {
+        found[i] = (number(bytes, i) % 256) as u8;
+        i += 1;
+    }
+    found
+}
+
+// The value that a number stands for, which is 2^31 more.
+fn value_of(raised: u32) -> i64 {
+    raised as i64 - 2147483648
+}
+
+// Eight values from a place on, each of four bytes.
+fn eight_values(bytes: &[u8], at: usize) -> [i64; 8]
+    requires { ⌜ at ≤ 144 ⌝ }
+{
+    let mut found = [0i64; 8];
+    let mut i = 0;
+    while i < 8 {
+        found[i] = value_of(number(bytes, at + i * 4));
+        i += 1;
+    }
+    found
+}
+
+fn streams_in(count: u32, bytes: &[u8]) -> StreamsDescription {
+    StreamsDescription {
+        count: count as usize,
+        names: names(bytes),
+        lengths: eight_bytes(bytes, 64),
+        kinds: eight_bytes(bytes, 72),
+        lows: eight_values(bytes, 80),
+        highs: eight_values(bytes, 112),
+    }
+}
+
 // Asks for one course, and prints the answer and the list.
-fn ask(entries: &[u16], finals: &[u8], letters: u32, state: u32, list: &mut [u32]) {
-    let answer = course::course(entries, finals, letters, state, list);
+fn ask(
+    entries: &[u16],
+    finals: &[u8],
+    letters: u32,
+    streams: StreamsDescription,
+    state: u32,
+    list: &mut [u32],
+    work: &mut [u16],
+) {
+    let answer = course::course(entries, finals, letters, streams, state, list, work);
     print(answer.refusal as u64, b" ");
-    print(answer.count as u64, b" : ");
+    print(answer.count as u64, b" ");
+    print(cases::nonzero_entries(work) as u64, b" : ");
     print_list(list);
     io::write_all(STDOUT_FILENO, b"\n");
 }
 
-// The course that the heading gives, along the table of these bytes, with room for its entries.
-fn answer(heading: &[u8], table: &[u8], entries: &mut [u16]) {
+// The course that the heading gives, with these streams and along the table of these bytes, with room for its entries.
+fn answer(heading: &[u8], streams: StreamsDescription, table: &[u8], entries: &mut [u16]) {
     read_entries(table, entries);
     let start = cases::bytes_within(entries.len() * 2, table);
     let mut list = cases::work_room();
     let size = cases::words_lent(heading, 16, &list);
+    let mut work = cases::entry_room();
+    let work_size = cases::entries_lent(heading, 20, &work);
     ask(
         entries,
         &table[start..],
         number(heading, 8),
+        streams,
         number(heading, 12),
         &mut list[..size],
+        &mut work[..work_size],
     );
 }
 
-fn run_case(heading: &[u8], table: &[u8]) {
+fn run_case(heading: &[u8], bytes: &[u8]) {
     let mut entries = cases::entry_room();
     let count = cases::entries_lent(heading, 4, &entries);
-    answer(heading, table, &mut entries[..count]);
+    let start = cases::bytes_within(144, bytes);
+    answer(
+        heading,
+        streams_in(number(heading, 24), bytes),
+        &bytes[start..],
+        &mut entries[..count],
+    );
 }
 
 // One case; whether there was one.
 fn one() -> bool {
     let mut space = io::large_buffer();
-    let case = cases::read_case(20, &mut space);
+    let case = cases::read_case(28, &mut space);
     let size = case.size;
     let heading = case.heading;
     if case.found {

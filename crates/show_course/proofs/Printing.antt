@@ -15,7 +15,6 @@ use Rattle.meaning.specs.Letter.{letterCount}
 use Rattle.sheet.specs.Reading.{answerTo}
 use Rattle.sheet.proofs.Accepted.{accepted-facts}
 use Rattle.sheet.proofs.Names.{short-names}
-use Rattle.automaton.specs.Course.{ShortestCourse}
 use Rattle.reader.specs.Stored.{storedSheet, readingOf, nameBytes, nameLengths}
 use Rattle.situations.proofs.Stored.{part-held, lows-part, highs-part, sheet-letters}
 use Rattle.outcome.specs.Room.{zeros}
@@ -28,6 +27,8 @@ use Rattle.print.specs.Text.{refusalLine}
 use Rattle.pages.proofs.Refused.{refused-text}
 use Rattle.show.specs.Answer.{HasRanges}
 use Rattle.show.proofs.Answer.{read-ranges}
+use Rattle.compiled_sheet.specs.Told.{sheetStreams}
+use Rattle.course.specs.Outcome.{BestCourse}
 use Rattle.course.specs.declared.CourseAnswer.{CourseAnswer}
 use Rattle.opening.specs.declared.OpenedTable.{OpenedTable}
 use Rattle.opening.specs.Opens.{OpensTable, OpensTable.refusedSheet as givesNoTable, OpensTable.noStart as givesNoState, OpensTable.opened as table}
@@ -53,16 +54,18 @@ module _ {text : List ℕ} {s : Sheet} {a : CompileAnswer} {t : Tables} (c : Com
       subst (λ k. a .states * k ≤ 32768) (sym letters-are) (le-trans (held .table .entries-fit) (omega (arith, held .entriesSize, lent-entries (letterCount (s .streams)))))
 
   -- With zeros behind them the rows lent have the same used rows.
-  along-used : (m n : ℕ) {state refusal count room : ℕ} {list : List ℕ}
-      → ShortestCourse letters (take (a .states * letters) (t .entries ++ zeros m)) (take (a .states) (t .finals ++ zeros n)) state room refusal count list
-      → ShortestCourse (letterCount (s .streams)) (usedEntries s a t) (usedFinals a t) state room refusal count list
-  along-used m n {state} {refusal} {count} {room} {list} o =
+  along-used : (m n : ℕ) {state refusal count room work : ℕ} {list : List ℕ}
+      → BestCourse letters (take (a .states * letters) (t .entries ++ zeros m)) (take (a .states) (t .finals ++ zeros n)) (sheetStreams (readingOf (answerTo text) .sheet)) state room work refusal count list
+      → BestCourse (letterCount (s .streams)) (usedEntries s a t) (usedFinals a t) (sheetStreams (storedSheet s)) state room work refusal count list
+  along-used m n {state} {refusal} {count} {room} {work} {list} o =
       let held = compiled-held c z .table in
       let k = letterCount (s .streams) in
       let entries = take-append-le (a .states * k) (t .entries) (zeros m) (held .entries-fit) in
       let finals = take-append-le (a .states) (t .finals) (zeros n) (held .finals-fit) in
-      let same = subst (λ l. ShortestCourse l (take (a .states * l) (t .entries ++ zeros m)) (take (a .states) (t .finals ++ zeros n)) state room refusal count list) letters-are o in
-      transport (λ i. ShortestCourse k (entries i) (finals i) state room refusal count list) same
+      let streams = sheetStreams (readingOf (answerTo text) .sheet) in
+      let stored : streams ≡ sheetStreams (storedSheet s) = ap sheetStreams (stored-is text refl (c .reads)) in
+      let same = subst (λ l. BestCourse l (take (a .states * l) (t .entries ++ zeros m)) (take (a .states) (t .finals ++ zeros n)) streams state room work refusal count list) letters-are o in
+      transport (λ i. BestCourse k (entries i) (finals i) (stored i) state room work refusal count list) same
 
   -- The text of a course that is given.
   course-bytes : {state refusal : ℕ} (course : List ℕ) → refusal ≡ 0 → IsCourseFrom s a t state course

@@ -1,26 +1,34 @@
 -- What `shortest` prints is there for every sheet and every text of a state, and is one: the table that a compile gave has one best course from each of its
--- states, and a call for it with a list of 256 numbers gives it. From the one outcome of a compile in the rows lent (lend), what a call for a course gives
--- on the used rows of a compile (theorems, Courses), and the laws of courses (automaton).
-use Prim.Native.Nat.{ℕ, _≤_, _<_}
+-- states, and a call for it with the sheet's streams, a list of 256 numbers and work room for every entry gives it. From the one outcome of a compile in the
+-- rows lent (lend), what a call for a course gives on the used rows of a compile (theorems, Courses), and the laws of courses (automaton).
+use Prim.Native.Nat.{ℕ, _*_, _≤_, _<_}
 use native.Mathlib.Omega.{arith}
-use mathlib.Core.Path.{_≡_, refl, sym, ap, ap₂, transport}
+use mathlib.Core.Path.{_≡_, refl, sym, ap, ap₂, subst, transport}
 use mathlib.Core.List.{List}
 use mathlib.Core.Option.{Option, none, some}
-use lib.ListN.{length, take}
-use lib.Seq.{take-at}
+use lib.ListN.{length, take, replicate}
+use lib.Seq.{length-take-le, take-at}
 use Rattle.text.specs.Bytes.{Token}
 use Rattle.meaning.specs.Expression.{Sheet}
 use Rattle.meaning.specs.Letter.{letterCount}
 use Rattle.automaton.specs.Stored.{entryAt, finalAt}
-use Rattle.automaton.specs.Course.{IsBest, CourseOutcome.unfit, CourseOutcome.endless, CourseOutcome.short, CourseOutcome.found as best, ShortestCourse}
+use Rattle.automaton.specs.Course.{IsBest, CourseOutcome.unfit, CourseOutcome.endless, CourseOutcome.short, CourseOutcome.found as best}
 use Rattle.automaton.proofs.Course.{best-unique}
-use Rattle.automaton.proofs.CourseOutcome.{shortest-total}
+use Rattle.sheet.proofs.Accepted.{accepted-facts}
+use Rattle.reader.specs.Stored.{storedSheet}
+use Rattle.streams.specs.Description.{descriptionOf}
+use Rattle.streams.specs.declared.StreamsDescription.{StreamsDescription}
+use Rattle.changes.specs.Changes.{changed}
+use Rattle.compiled_sheet.specs.Told.{sheetStreams}
+use Rattle.compiled_sheet.proofs.Sheets.{stored-description, stored-streams-fit}
+use Rattle.course.specs.Outcome.{BestCourse, CourseCall}
+use Rattle.course.proofs.Outcome.{call-total}
 use Rattle.outcome.specs.Compile.{CompileAnswer, Tables}
 use Rattle.theorems.specs.UsedRows.{usedEntries, usedFinals}
 use Rattle.theorems.proofs.Courses.{state-answered}
 use Rattle.theorems.proofs.Replaying.{start-is-state}
 use Rattle.lend.specs.Lend.{CompiledLent, HasOutcome, isRefused, isCompiled}
-use Rattle.lend.proofs.Rows.{lent-rows}
+use Rattle.lend.proofs.Rows.{lent-entries, lent-rows}
 use Rattle.lend.proofs.Outcome.{compiled-unique, compiled-held, refused-unique, refused-not-compiled, lent-total}
 use Rattle.print.specs.Text.{refusalLine}
 use Rattle.opening.specs.Start.{startState}
@@ -31,8 +39,8 @@ use Rattle.show_course.specs.Prints.{IsCourseFrom, PrintsCourse, refused
 -- ---- the course from a state of a compiled sheet
 
 -- The front of the list that a call without refusal leaves is the best course.
-front-best : {k : ℕ} {entries finals : List ℕ} {state room refusal count : ℕ} {list : List ℕ} → ShortestCourse k entries finals state room refusal count list → refusal ≡ 0
-    → IsBest (λ a b. 0) k (entryAt k entries) (finalAt finals) state (take count list)
+front-best : {k : ℕ} {entries finals : List ℕ} {streams : StreamsDescription} {state room work refusal count : ℕ} {list : List ℕ} → BestCourse k entries finals streams state room work refusal count list
+    → refusal ≡ 0 → IsBest (changed (descriptionOf streams)) k (entryAt k entries) (finalAt finals) state (take count list)
 front-best (unfit x) e = absurd (omega arith)
 front-best (endless f x) e = absurd (omega arith)
 front-best (short f b h) e = absurd (omega arith)
@@ -43,12 +51,26 @@ module _ {text : List ℕ} {s : Sheet} {a : CompileAnswer} {t : Tables} (c : Com
   pub few-rows : a .states ≤ 256
   few-rows = let held = compiled-held c z in omega (arith, held .table .finals-fit, held .finalsSize, lent-rows (letterCount (s .streams)))
 
-  -- "from every state of a compiled table one of fewer letters than there are states does": so neither 15 nor 10 is met.
+  -- Nor more entries of them than numbers of work room lent.
+  few-entries : length (usedEntries s a t) ≤ 32768
+  few-entries =
+      let held = compiled-held c z in
+      omega (arith, length-take-le (a .states * letterCount (s .streams)) (t .entries) (held .table .entries-fit), held .table .entries-fit, held .entriesSize, lent-entries (letterCount (s .streams)))
+
+  -- "from every state of a compiled table one of fewer letters than there are states does": so neither 15 nor 10 is met; and the streams of a sheet that is
+  -- compiled fit.
   pub course-exists : (start : Option Token) {state refusal count : ℕ} {list : List ℕ} → startState (a .states) start ≡ some state
-      → ShortestCourse (letterCount (s .streams)) (usedEntries s a t) (usedFinals a t) state 256 refusal count list → (refusal ≡ 0) × (count < 256) × IsCourseFrom s a t state (take count list)
-  course-exists start e o =
-      let answered = state-answered (c .call) (c .reads) z o (start-is-state (c .call) (c .reads) z start e) (omega (arith, few-rows)) in
-      (answered .0, omega (arith, answered .1, few-rows), front-best o (answered .0))
+      → BestCourse (letterCount (s .streams)) (usedEntries s a t) (usedFinals a t) (sheetStreams (storedSheet s)) state 256 32768 refusal count list
+      → (refusal ≡ 0) × (count < 256) × IsCourseFrom s a t state (take count list)
+  course-exists start {state} {refusal} {count} {list} e o =
+      let k = letterCount (s .streams) in
+      let f = accepted-facts (c .reads) in
+      let call : CourseCall k (usedEntries s a t) (usedFinals a t) (sheetStreams (storedSheet s)) state 256 32768 refusal count list (replicate 32768 0) = record { outcome = o; cleared = refl } in
+      let answered = state-answered (c .call) (c .reads) z call (start-is-state (c .call) (c .reads) z start e) (stored-streams-fit s f) (omega (arith, few-rows)) few-entries in (
+        answered .0,
+        omega (arith, answered .1, few-rows),
+        subst (λ ss. IsBest (changed ss) k (entryAt k (usedEntries s a t)) (finalAt (usedFinals a t)) state (take count list)) (stored-description s f) (front-best o (answered .0)),
+      )
 
 -- ---- one outcome
 
@@ -67,7 +89,7 @@ module _ {text : List ℕ} (start : Option Token) where
       let state = same-state start c d e f in
       let moved = transport (λ i. IsCourseFrom (same .0 i) (same .1 .0 i) (same .1 .1 i) (state i) p) x in
       let k = letterCount (q .streams) in
-      ap₂ courseText (ap (λ y. y .streams) (same .0)) (best-unique (λ a b. 0) k (entryAt k (usedEntries q b u)) (finalAt (usedFinals b u)) j p r moved w)
+      ap₂ courseText (ap (λ y. y .streams) (same .0)) (best-unique (changed (q .streams)) k (entryAt k (usedEntries q b u)) (finalAt (usedFinals b u)) j p r moved w)
 
 -- ---- and always one
 
@@ -77,8 +99,8 @@ prints-total text start = go (lent-total text)
     by : {s : Sheet} {a : CompileAnswer} {t : Tables} → CompiledLent text s a t → a .refusal ≡ 0 → (o : Option ℕ) → startState (a .states) start ≡ o → HasCourseOutput text start
     by c z none e = record { bytes = _; prints = noStart c z e }
     by {s} {a} {t} c z (some state) e =
-        let o = shortest-total (letterCount (s .streams)) (usedEntries s a t) (usedFinals a t) state 256 in
-        record { bytes = _; prints = found c z e (course-exists c z start e (o .3) .2) }
+        let o = call-total (letterCount (s .streams)) (usedEntries s a t) (usedFinals a t) (sheetStreams (storedSheet s)) state 256 32768 in
+        record { bytes = _; prints = found c z e (course-exists c z start e (o .call .outcome) .2) }
 
     go : HasOutcome text → HasCourseOutput text start
     go (isRefused r) = record { bytes = _; prints = refusedSheet r }

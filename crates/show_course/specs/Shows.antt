@@ -6,8 +6,9 @@ use mathlib.Core.List.{List}
 use mathlib.Core.Option.{Option}
 use lib.ListN.{take}
 use Rattle.text.specs.Bytes.{Token}
-use Rattle.automaton.specs.Course.{ShortestCourse}
 use Rattle.reader.specs.declared.StoredSheet.{StoredSheet}
+use Rattle.compiled_sheet.specs.Told.{sheetStreams}
+use Rattle.course.specs.Outcome.{BestCourse}
 use Rattle.course.specs.declared.CourseAnswer.{CourseAnswer}
 use Rattle.opening.specs.declared.OpenedTable.{OpenedTable}
 use Rattle.output.specs.Output.{Hands}
@@ -27,7 +28,7 @@ pub record ShowsCourse (sheetText : List ℕ) (start : Option Token) (r : Handed
 pub record FindsCourse (table : OpenedTable) (entries finals list : List ℕ) (r : CourseAnswer) : Type 0 where
   pub refused : table .refusal ≢ 0 → r .refusal ≡ table .refusal
   pub found : table .refusal ≡ 0
-      → ShortestCourse (table .sheet .letters) (take (table .states * table .sheet .letters) entries) (take (table .states) finals) (table .state) 256 (r .refusal) (r .count) list
+      → BestCourse (table .sheet .letters) (take (table .states * table .sheet .letters) entries) (take (table .states) finals) (sheetStreams (table .sheet)) (table .state) 256 32768 (r .refusal) (r .count) list
 
 -- A refusal or a course, with the names and ranges of a stored sheet.
 abbrev pub coursePrintout : StoredSheet → (refusal : ℕ) (course : List ℕ) → CoursePrintout

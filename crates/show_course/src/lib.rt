@@ -1,4 +1,4 @@
-// Prints what `shortest` prints for a sheet and a state: the shortest course to a final state, or the line of a refusal. The crate `course_text` gives the
+// Prints what `shortest` prints for a sheet and a state: the best course to a final state, or the line of a refusal. The crate `course_text` gives the
 // bytes; what is left here is the call for the course and the loop that writes the bytes and counts those that it hands over.
 use basics::fewer;
 use course::CourseAnswer;
@@ -15,8 +15,14 @@ ghost use Rattle.output.specs.Output.{Hands};
 ghost use Rattle.show_course.specs.Shows.{ShowsCourse, FindsCourse, coursePrintout};
 
 // The course from the state with which a table was opened, along the used rows. It has fewer letters than there are rows, so the list has room for it.
-fn find_course(table: OpenedTable, entries: &[u16], finals: &[u8], list: &mut [u32]) -> CourseAnswer
-    requires { ⌜ (table .states ≤ length (now finals)) × (table .states * table .sheet .letters ≤ length (now entries)) × (length (now list) ≡ 256) ⌝ }
+fn find_course(
+    table: OpenedTable,
+    entries: &[u16],
+    finals: &[u8],
+    list: &mut [u32],
+    work: &mut [u16],
+) -> CourseAnswer
+    requires { ⌜ (table .states ≤ length (now finals)) × (table .states * table .sheet .letters ≤ length (now entries)) × (length (now list) ≡ 256) × (length (now work) ≡ 32768) ⌝ }
     ensures { λ r. ⌜ FindsCourse table (now (entries .entry)) (now (finals .entry)) (now (list .exit)) r ⌝ }
 {
     let refusal = table.refusal;
@@ -33,8 +39,10 @@ fn find_course(table: OpenedTable, entries: &[u16], finals: &[u8], list: &mut [u
         &entries[..used],
         &finals[..states],
         sheet.letters,
+        compiled_sheet::stored_streams(sheet),
         table.state,
         list,
+        work,
     )
 }
 
@@ -104,7 +112,7 @@ fn print_course(sheet: reader::StoredSheet, answer: CourseAnswer, list: &[u32]) 
     )
 }
 
-// Prints the shortest course from a state of the sheet's table to a final state, or the refusal of the sheet or the state. Without a state given it is 0.
+// Prints the best course from a state of the sheet's table to a final state, or the refusal of the sheet or the state. Without a state given it is 0.
 pub fn show_course(text: &[u8], given: bool, start: &[u8]) -> Handed
     ensures { λ r. ⌜ ShowsCourse (now (text .entry)) (startText given (now (start .entry))) r ⌝ }
 {
@@ -112,7 +120,8 @@ pub fn show_course(text: &[u8], given: bool, start: &[u8]) -> Handed
     let mut finals = [0u8; 256];
     let table = opening::open_table(text, given, start, &mut entries, &mut finals);
     let mut list = [0u32; 256];
-    let answer = find_course(table, &entries, &finals, &mut list);
+    let mut work = [0u16; 32768];
+    let answer = find_course(table, &entries, &finals, &mut list, &mut work);
     let sheet = table.sheet;
     print_course(sheet, answer, &list)
 }

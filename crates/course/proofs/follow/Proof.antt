@@ -1,74 +1,90 @@
--- `course::follow` meets its contract: before each turn the next letters so far are written (`Following`).
-use mathlib.Core.Path.{_≡_, subst}
+-- `course::follow` meets its contract: before each turn the letters so far are written (`Following`).
+use mathlib.Core.Path.{_≡_, sym, ap, _∙_, subst}
 use Prim.Native.Nat.{ℕ, _+_, _*_, _≤_, _<_, _-_}
 use native.Mathlib.Omega.{arith}
-use lib.ListN.{length, drop}
-use mathlib.Core.List.{_++_}
-use Rattle.automaton.specs.Stored.{entryAt}
+use lib.ListN.{length, length-replicate}
+use Rattle.basics.specs.Lists.{at}
+use Rattle.automaton.specs.Layers.{IsFirstCheapest}
 use Rattle.automaton.proofs.WellFormed.{place-inside}
-use Rattle.course.specs.Queue.{at}
-use Rattle.course.specs.NextLetters.{lettersTo}
-use Rattle.course.proofs.Following.{Following, following-start, following-next, following-length}
+use Rattle.changes.specs.Axes.{axesIn}
+use Rattle.course.specs.Costs.{Layered, layeredIn, noCourse, costAt}
+use Rattle.course.proofs.Following.{Following, following-start, following-length, following-first, following-next, following-end}
 use Rattle.course.proofs.follow.Statement.{statement}
 use Rattle.course.proofs.follow.Tie as tie
 
 abbrev Inv-loop : tie.InvT-loop
-Inv-loop entries letters start goal nextLetters list₀ row₀ taken₀ list row taken =
-    (taken ≤ goal) × Following (entryAt letters entries) (at nextLetters) start list₀ list row taken
+Inv-loop entries finals letters shape start goal layers costs changes₀ list₀ end row₀ taken₀ changes list row taken =
+    (taken ≤ end) × (length changes ≡ letters) × Following (axesIn shape) (layeredIn letters entries finals layers goal) costs start list₀ list changes row taken
 
 abbrev μ-loop : tie.MeasureT-loop
-μ-loop entries letters start goal nextLetters list₀ row₀ taken₀ list row taken = goal - taken
+μ-loop entries finals letters shape start goal layers costs changes₀ list₀ end row₀ taken₀ changes list row taken = end - taken
 
--- the row, its next letter and the place of that letter's entry
-row-inside : (c : tie.In-loop Inv-loop μ-loop) → c .before .loop .row < length (c .before .before .args .next-letters .now)
-row-inside c = rw (c .before .loop .inv .1 .reached) (c .before .before .pre .1 .0 .rows (c .before .loop .taken) (c .loop-test .taken))
+abbrev table : (c : tie.Start Inv-loop μ-loop) → Layered
+table c = let a = c .args in layeredIn (a .letters) (a .entries .now) (a .finals .now) (a .layers .now) (a .goal)
 
-letter-inside : (c : tie.In-loop Inv-loop μ-loop) → at (c .before .before .args .next-letters .now) (c .before .loop .row) < c .before .before .args .letters
-letter-inside c = rw (c .before .loop .inv .1 .reached) (c .before .before .pre .1 .0 .letters (c .before .loop .taken) (c .loop-test .taken))
+-- the list keeps its length
+list-long : (c : tie.At-loop Inv-loop μ-loop) → length (c .loop .list) ≡ length (c .before .before .before .before .before .before .before .args .list .now)
+list-long c =
+    let start = c .before .before .before .before .before .before .before in
+    following-length (c .loop .inv .2) (omega (arith, start .pre .1 .0 .2, c .loop .inv .0))
 
-place : (c : tie.In-loop Inv-loop μ-loop)
-    → c .before .loop .row * c .before .before .args .letters + at (c .before .before .args .next-letters .now) (c .before .loop .row) < length (c .before .before .args .entries .now)
-place c = place-inside (c .before .before .pre .0) (c .before .loop .row) (at (c .before .before .args .next-letters .now) (c .before .loop .row)) (row-inside c) (letter-inside c)
+-- the letter that is written
+first : (c : tie.After-cheapest-letter Inv-loop μ-loop) → let start = c .before .before .before .before .before .before .before .before .before .before in
+    IsFirstCheapest (start .args .letters) (table start .entry) (table start .layer) noCourse (costAt (table start) (start .args .costs .now)) (at (c .before .before .before .loop .changes)) (c .before .before .before .loop .row) (c .cheapest-letter .result)
+first c =
+    let start = c .before .before .before .before .before .before .before .before .before .before in
+    following-first (c .before .before .before .loop .inv .2) (start .pre .1 .1 .1 .1) (c .before .before .loop-test .taken) (c .cheapest-letter .ensures)
 
-in-list : (c : tie.In-loop Inv-loop μ-loop) → c .before .loop .taken < length (c .before .loop .list)
-in-list c = let start = c .before .before in
-    omega (arith, following-length (entryAt (start .args .letters) (start .args .entries .now)) (at (start .args .next-letters .now)) (start .args .start) (omega (arith, start .pre .1 .1)) (c .before .loop .inv .1), start .pre .1 .1)
+-- the place of its entry
+place : (c : tie.After-cheapest-letter Inv-loop μ-loop) → let start = c .before .before .before .before .before .before .before .before .before .before in
+    c .before .before .before .loop .row * start .args .letters + c .cheapest-letter .result < length (start .args .entries .now)
+place c =
+    let start = c .before .before .before .before .before .before .before .before .before .before in
+    let turn = c .before .before .before .loop in
+    place-inside (start .pre .0) (turn .row) (c .cheapest-letter .result) (turn .inv .2 .met .is-row) (first c .onward .has-entry .is-letter)
 
 loop-holds : tie.Need-loop-holds Inv-loop μ-loop
-loop-holds c = (omega arith, following-start (entryAt (c .args .letters) (c .args .entries .now)) (at (c .args .next-letters .now)) (c .args .start) (c .args .list .now))
+loop-holds c =
+    let start = c .before .before .before .before .before .before in
+    let zero = start .pre .1 .0 .6 in
+    let some : 0 < start .args .letters = let ne = start .pre .0 .some-letter in omega arith in
+    (omega arith, ap length zero ∙ length-replicate (start .args .letters) 0, following-start (start .pre .1 .1 .1 .1) (start .pre .1 .1 .0) (start .pre .1 .1 .1 .0) some zero)
 
-mul-letter : tie.Need-mul-letter Inv-loop μ-loop
-mul-letter c = omega (arith, row-inside c)
+cheapest-letter-requires : tie.Need-cheapest-letter-requires Inv-loop μ-loop
+cheapest-letter-requires c κs =
+    let start = c .before .before .before .before .before .before .before .before .before in
+    let sizes = start .pre .1 .0 in
+    let turn = c .before .before .loop in
+    (start .pre .0, (sizes .0, sizes .1, turn .inv .2 .met .is-row, omega (arith, turn .inv .2 .in-layer, turn .inv .0, sizes .3), turn .inv .1))
 
-shared-slice-read-letter : tie.Need-shared-slice-read-letter Inv-loop μ-loop
-shared-slice-read-letter c = row-inside (c .before)
+cast-list : tie.Need-cast-list Inv-loop μ-loop
+cast-list c = omega (arith, first c .onward .has-entry .is-letter, c .before .before .before .before .before .before .before .before .before .before .pre .1 .0 .5)
 
 mul-list : tie.Need-mul-list Inv-loop μ-loop
-mul-list c = omega (arith, in-list (c .before))
+mul-list c = omega (arith, list-long (c .before .before .before), c .before .before .before .before .before .before .before .before .before .before .pre .1 .0 .2)
 
 slice-write-list : tie.Need-slice-write-list Inv-loop μ-loop
-slice-write-list c = in-list (c .before)
+slice-write-list c = omega (arith, list-long (c .before .before .before), c .before .before .before .before .before .before .before .before .before .before .pre .1 .0 .2)
 
 mul-row : tie.Need-mul-row Inv-loop μ-loop
-mul-row c = omega (arith, place (c .before))
-
-cast-row : tie.Need-cast-row Inv-loop μ-loop
-cast-row c = omega (arith, letter-inside (c .before))
+mul-row c = omega (arith, place c)
 
 add-row : tie.Need-add-row Inv-loop μ-loop
-add-row c = omega (arith, place (c .before))
+add-row c = omega (arith, place c)
 
 mul-row-2 : tie.Need-mul-row-2 Inv-loop μ-loop
-mul-row-2 c = omega (arith, place (c .before))
+mul-row-2 c = omega (arith, place c)
 
 shared-slice-read-row : tie.Need-shared-slice-read-row Inv-loop μ-loop
-shared-slice-read-row c = place (c .before .before)
+shared-slice-read-row c = place (c .before)
 
-cast-row-2 : tie.Need-cast-row-2 Inv-loop μ-loop
-cast-row-2 c =
-    let a = c .before .before .before .before .args in
-    let row = c .before .before .before .loop .row in
-    omega (arith, c .shared-slice-known2 .given (row * a .letters + at (a .next-letters .now) row))
+cast-row : tie.Need-cast-row Inv-loop μ-loop
+cast-row c =
+    let a = c .before .before .before .before .before .before .before .before .before .before .before .args in
+    omega (arith, c .shared-slice-known5 .given (c .before .before .before .before .loop .row * a .letters + c .before .cheapest-letter .result))
+
+count-changes-requires : tie.Need-count-changes-requires Inv-loop μ-loop
+count-changes-requires c κs = tt
 
 add-taken : tie.Need-add-taken Inv-loop μ-loop
 add-taken c = omega arith
@@ -77,18 +93,31 @@ loop-less : tie.Need-loop-less Inv-loop μ-loop
 loop-less c = omega arith
 
 loop-again : tie.Need-loop-again Inv-loop μ-loop
-loop-again c = let start = c .before .before .before .before in
-    (omega arith, following-next (entryAt (start .args .letters) (start .args .entries .now)) (at (start .args .next-letters .now)) (start .args .start) (omega (arith, start .pre .1 .1)) (c .before .before .before .loop .inv .1))
+loop-again c =
+    let up = c .before .before .before .before .before in
+    let start = up .before .before .before .before .before .before .before .before .before .before in
+    let turn = up .before .before .before .loop in
+    let letters = start .pre .1 .0 .4 in
+    let counts = c .before .before .count-changes .ensures in
+    let x = first up in (
+      omega arith,
+      counts .same-length ∙ turn .inv .1,
+      following-next (turn .inv .2) (start .pre .1 .1 .1 .1) (up .before .before .loop-test .taken) (omega (arith, start .pre .1 .0 .2)) (start .pre .1 .1 .0) x
+          (λ b h. counts .counted (letters ∙ sym (turn .inv .1)) (omega (arith, turn .inv .1, x .onward .has-entry .is-letter)) b (omega (arith, turn .inv .1))),
+    )
 
 same-length : tie.Need-same-length Inv-loop μ-loop
-same-length c = let start = c .before .before in
-    following-length (entryAt (start .args .letters) (start .args .entries .now)) (at (start .args .next-letters .now)) (start .args .start) (omega (arith, start .pre .1 .1)) (c .before .loop .inv .1)
+same-length c =
+    let start = c .before .before .before .before .before .before .before .before in
+    c .before .loop .inv .1 ∙ sym (ap length (start .pre .1 .0 .6) ∙ length-replicate (start .args .letters) 0)
+
+same-length-2 : tie.Need-same-length-2 Inv-loop μ-loop
+same-length-2 c = list-long (c .before)
 
 returns : tie.Need-returns Inv-loop μ-loop
 returns c =
-    let a = c .before .before .args in
-    let end : c .before .loop .taken ≡ a .goal = omega arith in
-    subst (λ (m : ℕ). c .before .loop .list ≡ lettersTo (entryAt (a .letters) (a .entries .now)) (at (a .next-letters .now)) (a .start) m ++ drop m (a .list .now)) end (c .before .loop .inv .1 .written)
+    let start = c .before .before .before .before .before .before .before .before in
+    following-end (start .pre .1 .1 .1 .1) (start .pre .1 .1 .0) (start .pre .1 .1 .1 .0) (omega arith) (c .before .loop .inv .2)
 
 pub follow-spec : {M : Type 1} → statement M
 follow-spec =
@@ -97,18 +126,19 @@ follow-spec =
     Inv-loop
     μ-loop
     loop-holds
-    mul-letter
-    shared-slice-read-letter
+    cheapest-letter-requires
+    cast-list
     mul-list
     slice-write-list
     mul-row
-    cast-row
     add-row
     mul-row-2
     shared-slice-read-row
-    cast-row-2
+    cast-row
+    count-changes-requires
     add-taken
     loop-less
     loop-again
     same-length
+    same-length-2
     returns)

@@ -5,10 +5,10 @@ use Prim.Native.Nat.{ℕ, _≤_, _-_}
 use native.Mathlib.Omega.{arith}
 use lib.ListN.{length}
 use borrow.Author.Needs.{needs}
+use Rattle.basics.specs.Lists.{at}
 use Rattle.automaton.specs.Stored.{finalAt}
-use Rattle.course.specs.Queue.{at}
-use Rattle.course.specs.NextLetters.{IsGoalBelow}
-use Rattle.course.proofs.NextLetters.{goal-kept, goal-lower}
+use Rattle.course.specs.Goal.{IsGoalBelow}
+use Rattle.course.proofs.Goal.{goal-kept, goal-lower}
 use Rattle.course.proofs.goal_layer.Statement.{statement}
 use Rattle.course.proofs.goal_layer.Tie as tie
 

@@ -2,10 +2,10 @@
 use Prim.Native.Nat.{ℕ, _+_, _*_, _≤_, _<_, _-_}
 use native.Mathlib.Omega.{arith}
 use lib.ListN.{length}
+use Rattle.basics.specs.Lists.{at}
 use Rattle.basics.proofs.Lists.{row-fits}
 use Rattle.automaton.specs.WellFormed.{mostRows}
 use Rattle.automaton.proofs.WellFormed.{place-inside}
-use Rattle.course.specs.Queue.{at}
 use Rattle.course.proofs.Queue.{queue-most}
 use Rattle.course.proofs.Meeting.{RowTurn, row-turn-start, row-turn-room, row-turn-next, row-turn-end}
 use Rattle.course.proofs.meet_row.Statement.{statement}

@@ -1,0 +1,4 @@
+pub mod Changes
+pub mod Axes
+pub mod Least
+pub mod Passes
