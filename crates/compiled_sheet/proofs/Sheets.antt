@@ -16,7 +16,8 @@ use Rattle.sheet.proofs.Reading.{answer-complete}
 use Rattle.sheet.proofs.Accepted.{accepted-facts}
 use Rattle.sheet.proofs.Names.{short-names}
 use Rattle.nodes.specs.Bounds.{lowsOf, highsOf}
-use Rattle.reader.specs.Stored.{nameBytes, nameLengths, streamKindCodes, storedSheet, readingOf}
+use Rattle.header.specs.Streams.{nameBytes, nameLengths, streamKindCodes}
+use Rattle.reader.specs.Stored.{storedSheet, readingOf}
 use Rattle.streams.specs.Description.{descriptionOf, StreamsFit}
 use Rattle.streams.proofs.Stored.{describing, description-stored, stored-fit}
 use Rattle.compiled_sheet.specs.Told.{sheetStreams, toldWith, noStreams, told, compiledIn, Tells}

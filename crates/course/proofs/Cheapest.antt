@@ -8,8 +8,8 @@ use native.Mathlib.Omega.{arith}
 use native.Mathlib.Decide.{ℕ-discrete, decLt}
 use borrow.Author.Count.{below-more}
 use borrow.Author.Tests.{eq-eqb, ne-eqb}
-use Rattle.automaton.specs.Layers.{IsFirstCheapest}
-use Rattle.course.specs.Costs.{Layered, noCourse, costAt, behind, totalCost, IsCheapest, is-first, is-none}
+use Rattle.course_tests.specs.Cost.{noCourse, totalCost}
+use Rattle.course.specs.Costs.{Layered, costAt, behind, IsCheapest, is-first, is-none}
 use Rattle.course.proofs.Costs.{On, behind-onward, behind-some}
 
 total-none : (changes cost : ℕ) → cost ≡ noCourse → totalCost changes cost ≡ 131072

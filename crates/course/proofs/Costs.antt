@@ -19,9 +19,9 @@ use Rattle.changes.specs.Axes.{Axis, letterTotal, changedAlong}
 use Rattle.changes.specs.Least.{IsLeastFrom}
 use Rattle.changes.proofs.Axes.{changed-most}
 use Rattle.changes.proofs.Passes.{least-lower}
-use Rattle.course.specs.Queue.{notMet, IsMet, IsQueue}
-use Rattle.course.specs.Costs.{Layered, noCourse, costAt, costBehind, behind, FindsRow, IsKnown, AreKnown}
-use Rattle.course.proofs.Queue.{queue-met}
+use Rattle.course.specs.Queue.{IsMet, IsQueue}
+use Rattle.course_tests.specs.Cost.{noCourse}
+use Rattle.course.specs.Costs.{Layered, costAt, costBehind, behind, FindsRow, IsKnown, AreKnown}
 
 -- ---- the cost behind a letter
 

@@ -14,7 +14,8 @@ use Rattle.automaton.specs.Layers.{IsLayers, IsGoal, IsCost, goal-final, goal-o
 use Rattle.automaton.proofs.Costs.{start-cost, chosen-best}
 use Rattle.changes.specs.Axes.{Axis, changedAlong}
 use Rattle.course.specs.Queue.{IsMet}
-use Rattle.course.specs.Costs.{Layered, noCourse, costAt, AreKnown, IsCheapest, is-first, is-none, HoldsBest}
+use Rattle.course_tests.specs.Cost.{noCourse}
+use Rattle.course.specs.Costs.{Layered, costAt, AreKnown, IsCheapest, is-first, is-none, HoldsBest}
 use Rattle.course.proofs.Costs.{cost-other, known-costs}
 
 -- what the way forward gives from a row on, where the next letter costs by `first`

@@ -1,30 +1,14 @@
--- The least layer of a final row, found row by row, is the goal; where there is none, no final row is met. From the laws of the queue.
+-- The least layer of a final row is the goal; where there is none, no final row is met. From the laws of the queue.
 use mathlib.Core.Path.{_≡_, refl, sym, _∙_}
 use mathlib.Core.Logic.{_⊎_, inl, inr, _≢_}
 use Prim.Native.Nat.{ℕ, _+_, _<_, _≤_}
 use native.Mathlib.Omega.{arith}
-use borrow.Author.Count.{below-more}
 use Rattle.automaton.specs.WellFormed.{mostRows}
 use Rattle.automaton.specs.Layers.{IsGoal}
-use Rattle.course.specs.Queue.{notMet, IsMet, IsQueue}
-use Rattle.course.specs.Goal.{IsGoalBelow}
+use Rattle.course_tests.specs.Goal.{notMet}
+use Rattle.course.specs.Queue.{IsMet, IsQueue}
+use Rattle.course_tests.specs.Goal.{IsGoalBelow}
 use Rattle.course.proofs.Queue.{met-small}
-
-module _ {final layer : ℕ → ℕ} {m v : ℕ} (g : IsGoalBelow final layer m v) where
-  -- one more row leaves the least layer as it is
-  pub goal-kept : (final m ≡ 1 → v ≤ layer m) → IsGoalBelow final layer (m + 1) v
-  goal-kept f = record { least = below-more (λ i. final i ≡ 1 → v ≤ layer i) m (g .least) f; attained = attained (g .attained) }
-    where
-      attained : (v ≡ notMet) ⊎ ((i : ℕ) × (i < m) × (final i ≡ 1) × (layer i ≡ v)) → (v ≡ notMet) ⊎ ((i : ℕ) × (i < m + 1) × (final i ≡ 1) × (layer i ≡ v))
-      attained (inl e) = inl e
-      attained (inr x) = inr (x .0, omega (arith, x .1), x .2, x .3)
-
-  -- or lowers it
-  pub goal-lower : final m ≡ 1 → layer m < v → IsGoalBelow final layer (m + 1) (layer m)
-  goal-lower f l = record {
-    least = below-more (λ i. final i ≡ 1 → layer m ≤ layer i) m (λ i h e. omega (arith, g .least i h e)) (λ e. omega arith);
-    attained = inr (m, omega arith, f, refl);
-  }
 
 module _ {n : ℕ} {final layer queue : ℕ → ℕ} {count : ℕ} (Q : IsQueue n layer queue count) (few : n ≤ mostRows) where
   -- no final row is met

@@ -26,9 +26,13 @@ use Rattle.changes.specs.Changes.{changed}
 use Rattle.changes.specs.Axes.{axesIn, IsShape}
 use Rattle.changes.specs.declared.Shape.{Shape}
 use Rattle.changes.proofs.Streams.{shape-changes}
-use Rattle.course.specs.Outcome.{IsFit, IsShort, BestCourse, CourseCall}
-use Rattle.course.specs.Queue.{notMet, IsMet}
-use Rattle.course.specs.Goal.{IsGoalBelow, IsSearched, GoalRefusal}
+use Rattle.course_tests.specs.Refusals.{IsFit, IsShort}
+use Rattle.course.specs.Outcome.{BestCourse, CourseCall}
+use Rattle.course_tests.specs.Goal.{notMet}
+use Rattle.course.specs.Queue.{IsMet}
+use Rattle.course_tests.specs.Goal.{IsGoalBelow}
+use Rattle.course_tests.specs.Refusals.{GoalRefusal}
+use Rattle.course.specs.Goal.{IsSearched}
 use Rattle.course.specs.Costs.{layeredIn, HoldsBest}
 use Rattle.course.proofs.Goal.{goal-none, goal-some}
 

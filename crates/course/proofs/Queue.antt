@@ -12,7 +12,8 @@ use Rattle.automaton.specs.WellFormed.{mostRows}
 use Rattle.automaton.specs.Layers.{MetFrom, IsLayers}
 use Rattle.automaton.proofs.Pigeonhole.{pigeonhole}
 use Rattle.automaton.proofs.Places.{before-extend, before-row-end}
-use Rattle.course.specs.Queue.{notMet, IsMet, IsQueue, QueueTurn}
+use Rattle.course_tests.specs.Goal.{notMet}
+use Rattle.course.specs.Queue.{IsMet, IsQueue, QueueTurn}
 
 -- one more row v is met, a layer after the row at the head
 pub record IsMore (layer layer′ queue queue′ : ℕ → ℕ) (count head v : ℕ) : Type 0 where

@@ -14,6 +14,7 @@ use Rattle.automaton.specs.Course.{IsBest}
 use Rattle.automaton.specs.Layers.{Onward, IsCost, IsFirstCheapest}
 use Rattle.changes.specs.Axes.{Axis, changedAlong}
 use Rattle.changes.specs.Least.{IsLeastFrom}
+use Rattle.course_tests.specs.Cost.{noCourse}
 use Rattle.course.specs.Queue.{IsMet}
 
 -- A table with the layers of its rows and the goal layer.
@@ -29,10 +30,6 @@ pub record Layered : Type 0 where
 abbrev pub layeredIn : (k : ℕ) (entries finals layers : List ℕ) (goal : ℕ) → Layered
 layeredIn k entries finals layers goal =
     record { letters = k; rows = length layers; entry = entryAt k entries; final = finalAt finals; layer = at layers; goal = goal }
-
--- what stands for no course
-abbrev pub noCourse : ℕ
-noCourse = 65535
 
 -- The cost at the row i behind the letter p. At the goal layer nothing is left to pay if the row is final, and no course goes on
 -- otherwise; before it the cost is stored.
@@ -69,10 +66,6 @@ pub record AreKnown (xs : List Axis) (t : Layered) (costs : List ℕ) : Type 0 w
   pub known : (i p : ℕ) → IsMet (t .rows) (t .layer) i → t .layer i ≤ t .goal → p < t .letters → IsKnown xs t costs i p
 
 -- the way forward
-
--- what a letter costs with what follows it; no sum of two stored numbers is as large as what stands for none
-abbrev pub totalCost : (changes cost : ℕ) → ℕ
-totalCost changes cost = cond (eqb cost noCourse) 131072 (changes + cost)
 
 -- the first of the letters that are cheapest with what follows, or that no course goes on by any letter
 pub data IsCheapest (t : Layered) (costs : List ℕ) (first : ℕ → ℕ) (i r : ℕ) : Type 0 where

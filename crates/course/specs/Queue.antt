@@ -9,10 +9,7 @@ use Rattle.basics.specs.Lists.{at}
 use Rattle.automaton.specs.Table.{noState, Before}
 use Rattle.automaton.specs.Stored.{entryAt}
 use Rattle.automaton.specs.Layers.{MetFrom, IsLayers}
-
--- the layer of a row that is not met
-abbrev pub notMet : ℕ
-notMet = 65535
+use Rattle.course_tests.specs.Goal.{notMet}
 
 -- i is one of n rows, and it is met
 pub record IsMet (n : ℕ) (layer : ℕ → ℕ) (i : ℕ) : Type 0 where

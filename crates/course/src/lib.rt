@@ -12,25 +12,27 @@ ghost use mathlib.Core.List.{List};
 ghost use Prim.Native.Nat.{ℕ, _*_, _<_, _≤_};
 ghost use lib.ListN.{length, replicate};
 ghost use Rattle.basics.specs.Lists.{at};
-ghost use Rattle.basics.specs.Answers.{Says};
 ghost use Rattle.automaton.specs.Stored.{entryAt, finalAt};
 ghost use Rattle.automaton.specs.WellFormed.{mostRows, WholeTable};
 ghost use Rattle.automaton.specs.Layers.{IsLayers, IsGoal};
 ghost use Rattle.streams.specs.declared.StreamsDescription.{StreamsDescription};
 ghost use Rattle.changes.specs.Axes.{letterTotal, axesIn, IsShape};
-ghost use Rattle.course.specs.Outcome.{IsFit, BestCourse, CourseCall};
-ghost use Rattle.course.specs.Queue.{notMet, StoredTurn, EntryFits, HasRoom, EntryMet, RowMet, IsMet, IsQueue, QueueEnded};
-ghost use Rattle.course.specs.Goal.{IsGoalBelow, IsSearched, GoalRefusal};
-ghost use Rattle.course.specs.Costs.{layeredIn, costBehind, LoadsRow, FindsRow, AreKnown, totalCost, IsCheapest, HoldsBest};
+ghost use Rattle.course_tests.specs.Refusals.{IsFit};
+ghost use Rattle.course.specs.Outcome.{BestCourse, CourseCall};
+ghost use Rattle.course_tests.specs.Goal.{notMet};
+ghost use Rattle.course.specs.Queue.{StoredTurn, EntryFits, HasRoom, EntryMet, RowMet, IsMet, IsQueue, QueueEnded};
+ghost use Rattle.course.specs.Goal.{IsSearched};
+ghost use Rattle.course.specs.Costs.{layeredIn, costBehind, LoadsRow, FindsRow, AreKnown, IsCheapest, HoldsBest};
 use automaton::MOST_ROWS;
 use automaton::NO_STATE;
 use changes::Shape;
+use course_tests::NO_COURSE;
+use course_tests::NOT_MET;
+use course_tests::goal_layer;
+use course_tests::goal_refusal;
+use course_tests::is_fit;
+use course_tests::total_cost;
 use streams::StreamsDescription;
-
-// The layer of a row that is not met.
-const NOT_MET: u16 = 65535;
-// The cost that stands for no course.
-const NO_COURSE: u16 = 65535;
 
 // The answer: 0 or the refusal, and how many letters the course has.
 #[repr(C)]
@@ -106,24 +108,6 @@ fn meet_rows(
     count
 }
 
-// The least layer of a final row that is met, or NOT_MET if there is none.
-fn goal_layer(finals: &[u8], layers: &[u16]) -> u16
-    requires { ⌜ length (now finals) ≡ length (now layers) ⌝ }
-    ensures { λ r. ⌜ IsGoalBelow (finalAt (now (finals .entry))) (at (now (layers .entry))) (length (now (layers .entry))) r ⌝ }
-{
-    let mut goal = NOT_MET;
-    let mut row = 0;
-    while row < layers.len() {
-        if finals[row] == 1 {
-            if layers[row] < goal {
-                goal = layers[row];
-            }
-        }
-        row += 1;
-    }
-    goal
-}
-
 // How many rows are met, and the goal layer.
 struct MetRows {
     count: usize,
@@ -148,19 +132,6 @@ fn search(
         count: count,
         goal: goal_layer(finals, layers),
     }
-}
-
-// The refusal by the goal layer and the rooms lent, or 0.
-fn goal_refusal(goal: u16, room: usize, work: usize, entries: usize) -> u32
-    ensures { λ r. ⌜ GoalRefusal goal room work entries r ⌝ }
-{
-    if goal == NOT_MET {
-        return 15;
-    }
-    if work < entries {
-        return 10;
-    }
-    if room < goal as usize { 10 } else { 0 }
 }
 
 // ---- costs, the last layer first
@@ -276,16 +247,6 @@ fn find_costs(
 
 // ---- the way forward
 
-// What a letter costs with what follows it. No sum is as large as what stands for none.
-fn total_cost(changes: u16, cost: u16) -> u32
-    ensures { λ r. ⌜ r ≡ totalCost changes cost ⌝ }
-{
-    if cost == NO_COURSE {
-        return 131072;
-    }
-    changes as u32 + cost as u32
-}
-
 // The first of the letters that cost least at a row, with what follows them.
 fn cheapest_letter(
     entries: &[u16],
@@ -352,25 +313,6 @@ fn follow(
 }
 
 // ---- the call
-
-// Whether the state is a row of a table that is well formed, and an accepted sheet could have the streams, which make the table's letters.
-fn is_fit(
-    entries: &[u16],
-    finals: &[u8],
-    letters: usize,
-    streams: StreamsDescription,
-    state: usize,
-) -> bool
-    ensures { λ r. ⌜ Says r (IsFit letters (now (entries .entry)) (now (finals .entry)) streams state) ⌝ }
-{
-    if !tables::is_well_formed(entries, finals, letters) {
-        return false;
-    }
-    if !streams::streams_fit(streams, letters) {
-        return false;
-    }
-    state < finals.len()
-}
 
 fn refused(refusal: u32) -> CourseAnswer
     ensures { λ r. ⌜ (r .refusal ≡ refusal) × (r .count ≡ 0) ⌝ }

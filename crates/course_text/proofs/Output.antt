@@ -24,10 +24,10 @@ use Rattle.letters.specs.Described.{described, hasLetter, withLetter}
 use Rattle.letters.proofs.Counts.{length-described}
 use Rattle.letters.proofs.Streams.{unnamed, letterOf-unnamed, letter-reflects}
 use Rattle.print.specs.Text.{decimal, tokensLine}
-use Rattle.print.specs.Table.{linesFrom, storedNames, AllFit}
+use Rattle.print.specs.Lines.{linesFrom, storedNames, AllFit}
 use Rattle.print.proofs.Names.{stored-names}
-use Rattle.print.proofs.Places.{letter-front}
-use Rattle.print.proofs.Table.{has-letter}
+use Rattle.table_text.proofs.Places.{letter-front}
+use Rattle.table_text.proofs.Table.{has-letter}
 use Rattle.print.proofs.Lengths.{names-line-length, numbers-line-length, letter-fits}
 use Rattle.pages.specs.Lines.{lineRoom}
 use Rattle.pages.proofs.Lines.{first-line}

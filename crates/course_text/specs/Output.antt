@@ -7,7 +7,7 @@ use lib.IntN.{ℤ}
 use lib.ListN.{length, getD}
 use Rattle.letters.specs.Described.{described, hasLetter}
 use Rattle.print.specs.Text.{tokensLine}
-use Rattle.print.specs.Table.{linesFrom, storedNames}
+use Rattle.print.specs.Lines.{linesFrom, storedNames}
 use Rattle.pages.specs.Lines.{orRefused, placesOr}
 use Rattle.course_text.specs.Course.{letterLine}
 

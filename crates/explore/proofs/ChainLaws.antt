@@ -9,7 +9,7 @@ use native.Mathlib.Decide.{ℕ-discrete}
 use lib.ListN.{length, getD, set, take, drop, length-drop, length-set, List·getD-append, replicate, length-replicate}
 use lib.Seq.{getD-set-same, getD-set-other, getD-take, getD-drop, length-take-le, ext-getD, paste, length-paste, getD-append-add, take-paste}
 use Rattle.basics.proofs.Clearing.{zeros}
-use Rattle.extend.proofs.Parts.{part-size}
+use Rattle.prepare.proofs.Parts.{part-size}
 use Rattle.sizes.specs.Room.{keySize}
 use Rattle.explore.specs.Chains.{rowAt, bucketOf, Chained, KeyTables, Inserts}
 

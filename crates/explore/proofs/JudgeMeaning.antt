@@ -13,7 +13,7 @@ use Rattle.meaning.specs.Expression.{Constraint, always, until, holds}
 use Rattle.meaning.specs.Window.{allUntils}
 use Rattle.nodes.specs.Code.{relationCode, signAt}
 use Rattle.nodes.proofs.SignCodes.{sign-code}
-use Rattle.extend.specs.Key.{digit, marksNumber}
+use Rattle.prepare.specs.Key.{digit, marksNumber}
 use Rattle.sides.specs.Mark.{odd}
 use Rattle.extend.specs.Step.{unlawful, lawfulWith, withDigit, judgedFrom}
 use Rattle.extend.specs.declared.judge.Judged.{Judged}

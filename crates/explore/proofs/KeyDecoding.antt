@@ -21,13 +21,14 @@ use Rattle.sheet.specs.Accepted.{Accepted}
 use Rattle.nodes.specs.Postfix.{Node}
 use Rattle.nodes.specs.Evaluate.{view}
 use Rattle.nodes.proofs.Record.{flat}
-use Rattle.extend.specs.Key.{withZeros, encodedKey, raised, lowered, sizeIn, lettersIn, firstsIn, width, keyOf}
-use Rattle.extend.specs.Step.{windowOf, lettersAfter, viewAfter}
+use Rattle.prepare.specs.Key.{withZeros, encodedKey, raised, lowered, sizeIn, lettersIn, firstsIn, width, keyOf}
+use Rattle.prepare.specs.Prepared.{windowOf}
+use Rattle.extend.specs.Step.{lettersAfter, viewAfter}
 use Rattle.explore.specs.Rows.{letterNumbers}
 use Rattle.nodes.specs.FirstPlaces.{allFirstPlaces}
 use Rattle.nodes.proofs.FirstPlaces.{allPlaces-long}
 use Rattle.explore.specs.StoredSheet.{storeFor, HasLetters}
-use Rattle.extend.proofs.KeyLists.{length-padded}
+use Rattle.prepare.proofs.KeyLists.{length-padded}
 use Rattle.explore.proofs.KeySituations.{padded-take, drop-below, firsts-long, key-cut}
 use Rattle.extend.proofs.StepLaws.{encoded-size}
 

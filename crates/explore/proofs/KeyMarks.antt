@@ -17,10 +17,10 @@ use Rattle.meaning.specs.Situation.{all, done, untilMarks}
 use Rattle.meaning.specs.Evaluation.{allDone}
 use Rattle.meaning.proofs.Congruence.{marksOf-situation}
 use Rattle.nodes.specs.Code.{relationCode}
-use Rattle.extend.specs.Key.{withZeros, encodedKey, digit, marksNumber, marksIn, keyOf}
+use Rattle.prepare.specs.Key.{withZeros, encodedKey, digit, marksNumber, marksIn, keyOf}
 use Rattle.explore.specs.Search.{startKey, everyMark, flagOf}
 use Rattle.explore.specs.Rows.{situationOf}
-use Rattle.extend.proofs.KeyLists.{length-padded}
+use Rattle.prepare.proofs.KeyLists.{length-padded}
 use Rattle.explore.proofs.KeySituations.{key-whole}
 
 -- ---- the number of the marks of n untils that are all done

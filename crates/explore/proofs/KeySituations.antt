@@ -20,10 +20,10 @@ use Rattle.meaning.specs.Situation.{firstValues, untilMarks, whole, cut}
 use Rattle.meaning.proofs.Letter.{letterNumber-letterOf}
 use Rattle.meaning.proofs.Lawful.{situation-whole, situation-cut, whole-injective, cut-injective, whole≢cut}
 use Rattle.nodes.specs.Bounded.{storedValue, SmallValue}
-use Rattle.extend.specs.Key.{withZeros, encodedKey, raised, lowered, marksNumber, width, keyOf}
+use Rattle.prepare.specs.Key.{withZeros, encodedKey, raised, lowered, marksNumber, width, keyOf}
 use Rattle.explore.specs.Rows.{situationOf, letterNumbers}
-use Rattle.extend.proofs.KeyLists.{length-padded}
-use Rattle.extend.proofs.KeyNumbers.{stored-raised}
+use Rattle.prepare.proofs.KeyLists.{length-padded}
+use Rattle.prepare.proofs.KeyNumbers.{stored-raised}
 
 -- ---- the parts of a key
 

@@ -22,7 +22,7 @@ use Rattle.meaning.proofs.Facts.{length-snoc}
 use Rattle.meaning.proofs.Lawful.{append-begins, lawful-short, lawful-snoc, untilMarks-begins}
 use Rattle.sheet.specs.Accepted.{Accepted}
 use Rattle.nodes.specs.Postfix.{Node, StoredConstraint, storedConstraints}
-use Rattle.extend.specs.Key.{marksNumber, marksIn, keyOf}
+use Rattle.prepare.specs.Key.{marksNumber, marksIn, keyOf}
 use Rattle.extend.specs.Step.{Store, unlawful, lawfulWith, judgedFrom, viewAfter, lettersAfter, valueAt, judgedAfter}
 use Rattle.explore.specs.Rows.{isLawful, letterNumbers}
 use Rattle.explore.specs.StoredSheet.{storeFor, HasLetters}

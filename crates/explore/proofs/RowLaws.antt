@@ -18,7 +18,7 @@ use Rattle.meaning.specs.Situation.{Situation, lawful, situation, IsSituation}
 use Rattle.meaning.specs.Evaluation.{allDone}
 use Rattle.meaning.proofs.Lawful.{lawful-short, lawful-beginning}
 use Rattle.meaning.proofs.Letter.{letterOf-letter}
-use Rattle.extend.specs.Key.{digit, keyOf}
+use Rattle.prepare.specs.Key.{digit, keyOf}
 use Rattle.extend.specs.Step.{Store, judgedAfter, keyAfter}
 use Rattle.explore.specs.Search.{startKey, flagOf, keySystem, Searched}
 use Rattle.explore.specs.Rows.{isLawful, situationOf, letterNumbers, ExploreOutcome}

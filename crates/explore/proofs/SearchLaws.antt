@@ -26,7 +26,7 @@ use Rattle.automaton.proofs.Reachable.{known-start, turn-start, turn-old, turn-
 use Rattle.explore.specs.Chains.{rowAt, KeyTables, Finds, Inserts}
 use Rattle.extend.specs.Step.{Store, keyAfter, HasValues, IsKey}
 use Rattle.explore.specs.Search.{startKey, everyMark, flagOf, keySystem, Settled, LetterFollowed, Searched, Turn, Known, Kept, KeptBehind, IsLent}
-use Rattle.extend.proofs.PreparedLaws.{one-more}
+use Rattle.prepare.proofs.PreparedLaws.{one-more}
 use Rattle.extend.proofs.StepLaws.{keyAfter-key}
 
 pub true-not-false : {P : Type 0} → true ≡ false → P

@@ -24,7 +24,7 @@ use Rattle.sheet.specs.Refusal.{onLeft, onRight, InBounds}
 use Rattle.sheet.specs.Accepted.{Accepted}
 use Rattle.nodes.specs.Bounded.{SmallValue}
 use Rattle.nodes.proofs.Accepted.{any-small, lasting, lasting-same, lasting-ranged}
-use Rattle.extend.specs.Key.{width}
+use Rattle.prepare.specs.Key.{width}
 use Rattle.explore.specs.Rows.{letterNumbers}
 use Rattle.explore.proofs.RowLaws.{below-letters}
 

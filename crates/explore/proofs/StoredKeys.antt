@@ -24,7 +24,7 @@ use Rattle.sheet.specs.Accepted.{Accepted}
 use Rattle.nodes.specs.Postfix.{Node}
 use Rattle.nodes.specs.Bounded.{valueIn}
 use Rattle.nodes.specs.Evaluate.{View, nodeValue}
-use Rattle.extend.specs.Key.{encodedKey, raised, marksNumber, sizeIn, firstsIn, width, keyOf}
+use Rattle.prepare.specs.Key.{encodedKey, raised, marksNumber, sizeIn, firstsIn, width, keyOf}
 use Rattle.extend.specs.Step.{Store, unlawful, lawfulWith, viewAfter, lettersAfter, firstsFrom, judgedAfter, keyAfter}
 use Rattle.explore.specs.Search.{everyMark, Searched}
 use Rattle.explore.specs.Rows.{isLawful, letterNumbers, ExploreOutcome}

@@ -33,7 +33,7 @@ use Rattle.nodes.specs.Evaluate.{Nodes, nodesOf, View, view, nodeValue}
 use Rattle.nodes.proofs.Postfix.{firstsBefore, stored-length}
 use Rattle.nodes.proofs.Accepted.{FirstsWithin, IsSide, leftOf, rightOf, accepted-value, accepted-windowValue}
 use Rattle.nodes.proofs.Record.{flat, record-places, record-letters}
-use Rattle.extend.specs.Key.{raised, lowered, width, keyOf}
+use Rattle.prepare.specs.Key.{raised, lowered, width, keyOf}
 use Rattle.extend.specs.Step.{viewAfter, lettersAfter, valueAt}
 use Rattle.explore.specs.Rows.{letterNumbers}
 use Rattle.explore.specs.StoredSheet.{storeFor, HasLetters}

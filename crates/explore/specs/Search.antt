@@ -15,7 +15,7 @@ use Rattle.automaton.specs.Reachable
 use Rattle.automaton.specs.Reachable.{System}
 use Rattle.sizes.specs.Room.{keySize}
 use Rattle.explore.specs.Chains.{rowAt, KeyTables, Inserts}
-use Rattle.extend.specs.Key.{digit, marksIn}
+use Rattle.prepare.specs.Key.{digit, marksIn}
 use Rattle.extend.specs.Step.{Store, judgedAfter, keyAfter, IsReady, HasValues, IsKey, PreparedFor}
 
 abbrev pub startKey : List ℕ

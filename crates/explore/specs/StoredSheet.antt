@@ -11,7 +11,8 @@ use Rattle.meaning.specs.Window.{B, D}
 use Rattle.nodes.specs.Postfix.{Node, StoredConstraint, allNodes, storedConstraints}
 use Rattle.nodes.specs.FirstPlaces.{allFirstPlaces}
 use Rattle.nodes.specs.Evaluate.{nodesOf}
-use Rattle.extend.specs.Step.{Store, letterAt}
+use Rattle.prepare.specs.Prepared.{letterAt}
+use Rattle.extend.specs.Step.{Store}
 
 -- The stored sheet with these nodes behind its own and these values of its letters. No side of a constraint reads what stands behind its nodes.
 abbrev pub storeFor : Sheet → List Node → List ℤ → Store

@@ -2,7 +2,7 @@
 -- key; and for a key, a letter and what is prepared as they should be, that is the key's step. From the laws of lists and of what is prepared.
 use Prim.Native.Nat.{ℕ, _+_, _-_, _*_, min}
 use native.Mathlib.Omega.{arith}
-use mathlib.Core.Path.{_≡_, sym, _∙_, ap, subst}
+use mathlib.Core.Path.{_≡_, refl, sym, _∙_, ap, subst}
 use mathlib.Core.Bool.{Bool}
 use mathlib.Core.List.{List, []}
 use lib.Dec.{leb}
@@ -10,10 +10,15 @@ use lib.IntN.{ℤ}
 use lib.ListN.{length, take, drop}
 use lib.Seq.{length-take-le, take-all}
 use Rattle.nodes.specs.Evaluate.{view}
-use Rattle.sizes.specs.Room.{keySize, windowRoom}
-use Rattle.extend.specs.Key.{sizeIn, firstsIn, marksIn}
+use Rattle.sizes.specs.Room.{keySize, windowRoom, preparedSize}
+use Rattle.prepare.specs.Key.{sizeIn, firstsIn, marksIn}
+use Rattle.prepare.specs.Prepared.{IsPreparable}
 use Rattle.extend.specs.Step.{Store, lettersAfter, viewAfter, viewIn, judgedIn, keyFrom, judgedAfter, keyAfter, IsReady, withinBounds, constraintsWithin, HasValues, IsKey, PreparedFor, Finished, Extended, Continues, Extends}
-use Rattle.extend.proofs.PreparedLaws.{values-after, firsts-after, prepared-again}
+use Rattle.prepare.proofs.PreparedLaws.{values-after, firsts-after, prepared-again}
+
+-- For a key of a stored sheet within the bounds, what its letters need can be prepared.
+pub key-preparable : {K : Store} {key : List ℕ} → IsReady K → IsKey K key → IsPreparable (length (K .letterValues)) (K .streams) (K .width) (length (K .firstNodes)) key preparedSize
+key-preparable r k = record { sizes = (r .few-letters, r .few-streams, r .few-firsts, k .long, refl); letters = λ p h. k .letters p h .inside }
 
 -- ---- the stored sheet within the bounds
 

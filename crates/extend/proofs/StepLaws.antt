@@ -8,9 +8,9 @@ use lib.ListN.{length, getD, take, drop, length-append, length-drop, drop-of-len
 use lib.Seq.{take-all, drop-append-le, length-take-le, getD-take, getD-drop, getD-append-seam}
 use Rattle.sheet.specs.Refusal.{windowBound, firstBound}
 use Rattle.sizes.specs.Room.{keySize}
-use Rattle.extend.specs.Key.{withZeros, encodedKey, sizeIn, lettersIn, firstsIn, marksIn}
+use Rattle.prepare.specs.Key.{withZeros, encodedKey, sizeIn, lettersIn, firstsIn, marksIn}
 use Rattle.extend.specs.Step.{Store, lettersAfter, viewAfter, judgedIn, firstsFrom, keyAfter, HasValues, IsKey}
-use Rattle.extend.proofs.KeyLists.{length-padded, getD-padded}
+use Rattle.prepare.proofs.KeyLists.{length-padded, getD-padded}
 
 -- The letters that the longer record's key holds: the known ones from `from` on with the newest, or none if a key holds none.
 module _ (letters : List ℕ) (a width kept from : ℕ) (within : length letters ≤ width) (is : kept ≡ min (length letters + 1) width) (starts : from ≡ min (length letters + 1 - kept) (length letters)) where

@@ -5,12 +5,10 @@ mod keys;
 use basics::fewer;
 use judge::Judged;
 use judge::judge;
-use keys::add_letter;
-use keys::fill_window;
-use keys::have_values;
-use keys::lower_all;
 use keys::raise_all;
 use keys::write_key;
+use prepare::Dimensions;
+use prepare::add_letter;
 use sizes::CONSTRAINT_BOUND;
 use sizes::FIRST_BOUND;
 use sizes::FIRSTS_PLACE;
@@ -31,15 +29,8 @@ ghost use Rattle.nodes.specs.Bounded.{valueIn};
 ghost use Rattle.nodes.specs.Evaluate.{stored, view, nodeValue};
 ghost use Rattle.basics.specs.Answers.{Says};
 ghost use Rattle.sizes.specs.Room.{keySize};
-ghost use Rattle.extend.specs.Key.{raised};
-ghost use Rattle.extend.specs.Step.{lawfulWith, judgedFrom, storeOf, IsReady, PreparableSizes, IsPreparable, Prepares, Finished, SizesFit, Extends};
-
-// How many streams a sheet has, D, and D+B.
-pub struct Dimensions {
-    pub streams: usize,
-    pub ahead: usize,
-    pub width: usize,
-}
+ghost use Rattle.prepare.specs.Key.{raised};
+ghost use Rattle.extend.specs.Step.{lawfulWith, judgedFrom, storeOf, IsReady, Finished, SizesFit, Extends};
 
 // Judges the record with one more letter at the time that is newly judged, D letters back; before D letters are there, nothing is judged.
 fn judge_letter(
@@ -194,72 +185,6 @@ fn finish(
         told,
     );
     true
-}
-
-// Whether the sheet is small, and a key and the list for what is prepared have their sizes.
-fn are_preparable(dimensions: Dimensions, count: usize, key: usize, room: usize) -> bool
-    ensures { λ r. ⌜ Says r (PreparableSizes (dimensions .streams) (dimensions .width) count key room) ⌝ }
-{
-    if WINDOW_BOUND < dimensions.width {
-        return false;
-    }
-    if STREAM_BOUND < dimensions.streams {
-        return false;
-    }
-    if FIRST_BOUND < count {
-        return false;
-    }
-    if key != KEY_SIZE {
-        return false;
-    }
-    if room != PREPARED_SIZE {
-        return false;
-    }
-    true
-}
-
-// Whether what the letters after a key need can be prepared. `values` is how many values there are, `room` how long the list is.
-fn is_preparable(
-    values: usize,
-    dimensions: Dimensions,
-    count: usize,
-    key: &[u32],
-    room: usize,
-) -> bool
-    ensures { λ r. ⌜ Says r (IsPreparable values (dimensions .streams) (dimensions .width) count (now (key .entry)) room) ⌝ }
-{
-    if !are_preparable(dimensions, count, key.len(), room) {
-        return false;
-    }
-    let held = fewer(key[0] as usize, dimensions.width);
-    let end = held + 1;
-    have_values(&key[1..end], dimensions.streams, values)
-}
-
-// What every letter after a key needs, in one list: the values of the key's letters, and behind the room for one more those of its firsts, of which
-// there are `count`. If something has not its size, or a letter's values are not there, the list stays.
-pub fn prepare(
-    letter_values: &[i64],
-    dimensions: Dimensions,
-    count: usize,
-    key: &[u32],
-    prepared: &mut [i64],
-)
-    ensures { λ r. ⌜ Prepares (now («letter_values» .entry)) (dimensions .streams) (dimensions .width) count (now (key .entry)) (now (prepared .entry)) (now (prepared .exit)) ⌝ }
-{
-    if !is_preparable(letter_values.len(), dimensions, count, key, prepared.len()) {
-        return;
-    }
-    let held = fewer(key[0] as usize, dimensions.width);
-    let letters_end = held + 1;
-    fill_window(
-        prepared,
-        letter_values,
-        dimensions.streams,
-        &key[1..letters_end],
-    );
-    let firsts_end = FIRSTS_PLACE + count;
-    lower_all(prepared, &key[FIRSTS_PLACE..firsts_end]);
 }
 
 // Whether the key, the prepared values and the new key have their sizes.

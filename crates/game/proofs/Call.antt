@@ -37,7 +37,7 @@ use Rattle.choices.specs.Counted.{RowsHeld}
 use Rattle.choices.proofs.Fit.{fit-can-count, choices-counted, rows-counted, choices-filled}
 use Rattle.winning_rows.specs.Play.{PlayOutcome, unfit, lost, won}
 use Rattle.game.specs.Call.{ForceSheetCall}
-use Rattle.game.specs.Parts.{keptIf, PlayMade}
+use Rattle.make_play.specs.Parts.{keptIf, PlayMade}
 use Rattle.game.proofs.Cut.{withFinals, outcome-behind}
 use Rattle.game.proofs.Play.{AreSheetChoices, play-call}
 

@@ -11,7 +11,7 @@ use Rattle.basics.specs.Count.{MoreThan}
 use Rattle.automaton.specs.Words.{Word}
 use Rattle.automaton.proofs.Transfer.{rows-table}
 use Rattle.outcome.specs.Room.{LentTable, fewestRows, zeros, zeroTables}
-use Rattle.outcome.specs.Compile.{CompileAnswer, Room, roomRows, Tables, allZero, HoldsTable, CountFits, WordsOutcome, tooManySituations, tooFewRows, noSolution, compiled, situationBound}
+use Rattle.outcome.specs.Compile.{CompileAnswer, Room, roomRows, Tables, allZero, HoldsTable, CountFits, WordsOutcome, tooManySituations, tooFewRows, noSolution, compiled}
 
 -- The room with another number of final bytes, the room with one more work table, and what is left in them.
 abbrev pub withFinals : Room → ℕ → Room

@@ -8,12 +8,12 @@ use mathlib.Core.List.{List, [], _∷_, _++_}
 use lib.ListN.{length, take, drop, replicate, length-drop, length-replicate, replicate-append-replicate}
 use lib.Seq.{length-take-le, getD-drop}
 use Rattle.basics.specs.Clearing.{ClearedFrom}
-use Rattle.basics.proofs.Clearing.{all-zero, cleared-all}
+use Rattle.basics.proofs.Clearing.{all-zero}
 use Rattle.basics.proofs.Lists.{drop-replicate}
 use Rattle.sheet.specs.Reading.{answerTo}
 use Rattle.meaning.specs.Letter.{letterCount}
 use Rattle.outcome.specs.Room.{LentTable, fewestRows, zeros}
-use Rattle.outcome.specs.Compile.{CompileAnswer, Room, roomRows, Tables, tooManySituations, tooFewRows, noSolution, compiled, SheetOutcome, CompileOutcome, unread, read}
+use Rattle.outcome.specs.Compile.{CompileAnswer, Room, roomRows, Tables, tooManySituations, tooFewRows, noSolution, compiled, CompileOutcome, unread, read}
 use Rattle.outcome.proofs.Leaves.{compile-leaves}
 use Rattle.outcome.proofs.AcceptedCompile.{refusal-positive}
 use Rattle.outcome.proofs.CompileTotal.{fewest-first}
@@ -21,50 +21,16 @@ use Rattle.outcome.proofs.StateCount.{states-at-most-situations}
 use Rattle.reader.specs.Stored.{readingOf}
 use Rattle.reader.specs.declared.Reading.{Reading}
 use Rattle.streams.specs.declared.StreamsDescription.{StreamsDescription}
-use Rattle.compiled_sheet.specs.Told.{sheetStreams, toldWithPlay, SheetCall}
+use Rattle.compiled_sheet.specs.Told.{sheetStreams, SheetCall}
 use Rattle.compiled_sheet.specs.declared.CompiledSheet.{CompiledSheet}
 use Rattle.compile.specs.Lent.{lent, roomOf, tablesOf}
-use Rattle.choices.specs.Counted.{ChoicesCounted, ChoicesFilled, RowsHeld}
-use Rattle.winning_rows.specs.Play.{PlayOutcome}
+use Rattle.choices.specs.Counted.{RowsHeld}
 use Rattle.game.specs.Call.{ForceSheetCall}
-use Rattle.game.specs.Parts.{keptIf, PlayMade}
+use Rattle.make_play.specs.Parts.{PlayMade}
 use Rattle.game.proofs.Cut.{withFinals}
 use Rattle.game.proofs.Call.{force-call}
 
--- ---- lists that are kept or cleared
-
-pub list-cleared : {forced : Bool} {old new : List ℕ} → forced ≡ false → ClearedFrom old new 0 → new ≡ keptIf forced old
-list-cleared {old = old} e C = cleared-all C ∙ sym (ap (λ b. keptIf b old) e)
-
-pub list-kept : (forced : Bool) (list : List ℕ) → forced ≡ true → list ≡ keptIf forced list
-list-kept forced list e = sym (ap (λ b. keptIf b list) e)
-
--- ---- the play table that is made
-
-pub made : {told : CompiledSheet} {entries finals live play choice ranks′ play′ entries′ finals′ : List ℕ} {letters states choices : ℕ} {isFilled forced : Bool} {r : CompiledSheet}
-    → letters ≡ min (told .letters) 1024 → states ≡ min (told .states) (length live) → ChoicesCounted (told .streams) choices → ChoicesFilled (told .streams) (replicate 1024 0) isFilled choice
-    → PlayOutcome entries finals (take letters choice) choices (length (take states live)) (length play) forced play′ × (ranks′ ≡ replicate (length (take states live)) 0)
-    → (entries′ ≡ keptIf forced entries) × (finals′ ≡ keptIf forced finals) → r ≡ toldWithPlay told forced → PlayMade told entries finals live play r entries′ finals′ (ranks′ ++ drop states live) play′
-made {told} {entries} {finals} {live} {play} {choice} {play′ = play′} {letters} {states} {choices} {forced = forced} l s counted filled played kept answer =
-    let long : length (take states live) ≡ min (told .states) (length live) = length-take-le states live (omega (arith, s)) ∙ s in
-    record {
-      choices = choices;
-      counted = counted;
-      isFilled = _;
-      choice = choice;
-      filled = filled;
-      forced = forced;
-      played =
-          subst (λ n. PlayOutcome entries finals (take n choice) choices (min (told .states) (length live)) (length play) forced play′) l
-          (subst (λ n. PlayOutcome entries finals (take letters choice) choices n (length play) forced play′) long (played .0));
-      entriesKept = kept .0;
-      finalsKept = kept .1;
-      liveCleared = ap₂ (λ xs n. xs ++ drop n live) (played .1 ∙ ap zeros long) s;
-      answer = answer;
-    }
-
 -- ---- final bytes that are cleared from a place on
-
 module _ {finals cleared : List ℕ} {rows : ℕ} (inside : rows ≤ length finals) (C : ClearedFrom finals cleared rows) where
   pub rows-inside : rows ≤ length cleared
   rows-inside = omega (arith, C .same)

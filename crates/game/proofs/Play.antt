@@ -8,10 +8,9 @@ use mathlib.Core.Bool.{Bool, true, false, cond}
 use mathlib.Core.List.{List}
 use lib.ListN.{length, getD, drop}
 use Rattle.automaton.specs.Stored.{entryAt, finalAt}
-use Rattle.automaton.specs.Table.{noState}
 use Rattle.automaton.specs.PlayTable.{Game}
 use Rattle.automaton.specs.Ranking.{IsRanking, PlaysRanking}
-use Rattle.automaton.proofs.RankedPlay.{withChoice, ranking-choice, play-choice}
+use Rattle.automaton.proofs.RankedPlay.{ranking-choice, play-choice}
 use Rattle.meaning.specs.Expression.{Stream, Sheet}
 use Rattle.meaning.specs.Letter.{letterCount}
 use Rattle.meaning.specs.Choice.{choiceCount, choiceOf}
@@ -23,7 +22,6 @@ use Rattle.outcome.specs.Compile.{CompileAnswer, refusedAnswer, Room, Tables, a
 use Rattle.outcome.specs.Force.{sheetGame, withPlay, withZeroPlay, ForceOutcome}
 use Rattle.outcome.proofs.StateCount.{states-at-most-situations}
 use Rattle.outcome.proofs.ForceTotal.{play-fits, ranked-forced, unranked-prevented}
-use Rattle.winning_rows.specs.Answers.{ChoicesFit}
 use Rattle.winning_rows.specs.Sweeps.{lentGame}
 use Rattle.winning_rows.specs.Play.{PlayFits, HoldsRanking, PlayOutcome, unfit, lost, won}
 

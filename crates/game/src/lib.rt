@@ -2,49 +2,9 @@
 // compile is the one of the crate compile, in tables that hold no more rows than the play table does.
 use basics::fewer;
 use compiled_sheet::CompiledSheet;
-ghost use mathlib.Core.Path.{_≡_};
 ghost use lib.ListN.{length};
 ghost use Rattle.compile.specs.Lent.{roomOf, tablesOf};
 ghost use Rattle.game.specs.Call.{ForceSheetCall};
-ghost use Rattle.game.specs.Parts.{keptIf, PlayMade};
-
-// Clears entries and final bytes where nothing can be forced.
-fn keep_if(forced: bool, entries: &mut [u16], finals: &mut [u8])
-    ensures { λ r. ⌜ (now (entries .exit) ≡ keptIf forced (now (entries .entry))) × (now (finals .exit) ≡ keptIf forced (now (finals .entry))) ⌝ }
-{
-    if !forced {
-        basics::clear_entries(entries, 0);
-        basics::clear_bytes(finals, 0);
-    }
-}
-
-// Makes the play table of a compiled table. Where none is compiled there are no states, so that nothing is forced.
-fn make_play(
-    told: CompiledSheet,
-    entries: &mut [u16],
-    finals: &mut [u8],
-    live: &mut [u32],
-    play: &mut [u16],
-) -> CompiledSheet
-    ensures { λ r. ⌜ PlayMade told (now (entries .entry)) (now (finals .entry)) (now (live .entry)) (now (play .entry)) r (now (entries .exit)) (now (finals .exit)) (now (live .exit)) (now (play .exit)) ⌝ }
-{
-    let streams = told.streams;
-    let choices = choices::choice_count(streams) as usize;
-    let mut choice = [0u16; 1024];
-    choices::fill_choices(streams, &mut choice);
-    let letters = fewer(told.letters as usize, 1024);
-    let states = fewer(told.states as usize, live.len());
-    let forced = winning_rows::find_play(
-        entries,
-        finals,
-        &choice[..letters],
-        choices,
-        &mut live[..states],
-        play,
-    );
-    keep_if(forced, entries, finals);
-    compiled_sheet::with_play(told, forced)
-}
 
 // Compiles a sheet's bytes with a play table: as the compile, with the play table among the lent tables, in the first rows of `play`; or a refusal, and every
 // table 0. The final bytes are lent to the compile for as many rows as the play table holds, so that its refusals 8 and 10 count them.
@@ -80,5 +40,5 @@ pub fn force(
         links,
         shared,
     );
-    make_play(told, entries, finals, live, play)
+    make_play::make_play(told, entries, finals, live, play)
 }

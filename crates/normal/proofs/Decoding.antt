@@ -13,7 +13,8 @@ use Rattle.meaning.specs.NormalForm.{added, addedCount, rewritten, equation, ad
 use Rattle.nodes.specs.Code.{signCode, signAt}
 use Rattle.nodes.proofs.SignCodes.{sign-code}
 use Rattle.spans.specs.Postfix.{inPostfix, nodeCount, nodeExpressions}
-use Rattle.normal.specs.Rows.{Row, Rewriting, rewriting, fbyEntries, untilEntries, Line, untilLine, alwaysLine, relationLine, lineAt, rewritingLines, ownRows, addedRows, streamsAfter}
+use Rattle.normal_entries.specs.Row.{Row}
+use Rattle.normal.specs.Rows.{Rewriting, rewriting, fbyEntries, untilEntries, Line, untilLine, alwaysLine, relationLine, lineAt, rewritingLines, ownRows, addedRows, streamsAfter}
 use Rattle.normal.specs.Encoded.{expressionAt, normalRows, entryRecord, normalEntries}
 use Rattle.normal.proofs.Places.{Stand, Stand-append, stand-self, root-at, sides-stand}
 

@@ -1,7 +1,7 @@
 pub mod Writing
 pub mod Recursion
 pub mod Lines
-pub mod Entries
+pub mod Ends
 pub mod Places
 pub mod Decoding
 pub mod SheetRows

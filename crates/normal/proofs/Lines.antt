@@ -10,10 +10,12 @@ use lib.IntN.{ℤ, pos}
 use lib.ListN.{length, getD, set, drop, replicate, length-append}
 use lib.Seq.{sets, set-comm, drop-cons}
 use borrow.Author.Tests.{eq-eqb, ne-eqb, lt-ltb, le-ltb}
-use Rattle.normal.specs.Rows.{Row, Rewriting, bothRewritings, untilRow, untilEntries, untilRewriting, Line, untilLine, alwaysLine, relationLine, ownRows, addedRows, allRows, streamsAfter}
+use Rattle.normal_entries.specs.Row.{Row}
+use Rattle.normal.specs.Rows.{Rewriting, bothRewritings, untilRow, untilEntries, untilRewriting, Line, untilLine, alwaysLine, relationLine, ownRows, addedRows, allRows, streamsAfter}
 use Rattle.normal.specs.Stored.{rewritingBefore, storedLine, storedLines}
-use Rattle.normal.specs.Table.{rowBound, streamLimit, flat, putRows, RewritingFits, Wrote, WroteLine, WroteLines, LinesHaveRoom, endsUpTo, refusedMade, numbersWith, withSpans, madeTables}
-use Rattle.normal.specs.declared.Made.{Made}
+use Rattle.normal_entries.specs.Entries.{rowBound, refusedMade, withSpans}
+use Rattle.normal.specs.Table.{streamLimit, flat, putRows, RewritingFits, Wrote, WroteLine, WroteLines, LinesHaveRoom, endsUpTo, numbersWith, madeTables}
+use Rattle.normal_entries.specs.declared.Made.{Made}
 use Rattle.normal.specs.declared.RowsWritten.{RowsWritten}
 use Rattle.nodes.specs.declared.Range.{Range}
 use Rattle.normal.proofs.Writing.{length-flat, put-append, put-more, rowOf, written, room-left, room-right}

@@ -19,13 +19,15 @@ use Rattle.spans.specs.Token.{span}
 use Rattle.spans.specs.Stored.{spanBound, spanPlaces, putSpans, noSpans, spanTable}
 use Rattle.spans.specs.Spans.{spansIn}
 use Rattle.spans.proofs.Tables.{places-length, table-few}
-use Rattle.normal.specs.Rows.{Row}
-use Rattle.normal.specs.Fields.{entryWith}
-use Rattle.normal.specs.Table.{rowBound, numbersOf, flat, sourceAt, endsOf, endsUpTo, spansFrom, withSpans, blank, rowIn, storedPlace, storedSpan, storedEntry, numbersWith, endsWith, listed}
+use Rattle.normal_entries.specs.Row.{Row}
+use Rattle.normal_entries.specs.Fields.{entryWith}
+use Rattle.normal_entries.specs.Entries.{rowBound, spansFrom, withSpans, blank, rowIn, storedPlace, storedSpan, storedEntry, listed}
+use Rattle.normal.specs.Table.{numbersOf, flat, sourceAt, endsOf, endsUpTo, numbersWith, endsWith}
 use Rattle.normal.specs.Encoded.{spanBefore, entryFor}
-use Rattle.normal.specs.declared.Entry.{Entry}
+use Rattle.normal_entries.specs.declared.Entry.{Entry}
 use Rattle.normal.proofs.Writing.{length-flat}
-use Rattle.normal.proofs.Entries.{length-endsUpTo, length-listed, entry-within, entry-beyond}
+use Rattle.normal_entries.proofs.Entries.{length-listed, entry-within, entry-beyond}
+use Rattle.normal.proofs.Ends.{length-endsUpTo}
 
 -- ---- lists
 

@@ -18,11 +18,12 @@ use Rattle.outcome.specs.NormalForm.{NormalOutcome, unread, tooShort, given, re
 use Rattle.spans.specs.Postfix.{nodeExpressions}
 use Rattle.spans.specs.Stored.{spanTable}
 use Rattle.normal.specs.Rows.{rewritingLines, streamsAfter}
-use Rattle.normal.specs.Table.{blank, storedEntry, listed, refusedMade, withSpans, numbersWith, endsWith, madeTables}
+use Rattle.normal_entries.specs.Entries.{blank, storedEntry, listed, refusedMade, withSpans}
+use Rattle.normal.specs.Table.{numbersWith, endsWith, madeTables}
 use Rattle.normal.specs.Encoded.{sourceInterval, normalRows, normalEntries, normalAnswerOf}
 use Rattle.normal.specs.Outcome.{sheetRange, entriesFor}
-use Rattle.normal.specs.declared.Entry.{Entry}
-use Rattle.normal.specs.declared.Made.{Made}
+use Rattle.normal_entries.specs.declared.Entry.{Entry}
+use Rattle.normal_entries.specs.declared.Made.{Made}
 use Rattle.normal.proofs.Decoding.{rows-counted, streams-counted}
 use Rattle.normal.proofs.TextSpans.{spans-few}
 use Rattle.normal.proofs.Places.{stand-self}

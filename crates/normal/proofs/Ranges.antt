@@ -20,12 +20,13 @@ use Rattle.meaning.proofs.NormalForm.{range-added}
 use Rattle.meaning.proofs.NormalForm.Names.{streams-length}
 use Rattle.nodes.specs.Code.{streamKindCode}
 use Rattle.spans.specs.Postfix.{inPostfix, nodeCount, nodeExpressions}
-use Rattle.normal.specs.Rows.{Row, rewriting, Line, lineAt, rewritingLines, ownRows, addedRows, streamsAfter}
+use Rattle.normal_entries.specs.Row.{Row}
+use Rattle.normal.specs.Rows.{rewriting, Line, lineAt, rewritingLines, ownRows, addedRows, streamsAfter}
 use Rattle.normal.specs.Encoded.{expressionAt, sourceInterval, normalRows, entryRecord, normalEntries}
-use Rattle.normal.specs.Fields.{leftIsNode}
+use Rattle.normal_entries.specs.Fields.{leftIsNode}
 use Rattle.normal.specs.Says.{standsFor}
 use Rattle.normal.specs.Solved.{rangeIn}
-use Rattle.normal.specs.declared.Entry.{Entry}
+use Rattle.normal_entries.specs.declared.Entry.{Entry}
 use Rattle.normal.proofs.Decoding.{added-counted, always-line, line-count, streams-counted}
 use Rattle.normal.proofs.Places.{Stand, Stand-append, stand-self, some-node, root-at, sides-stand}
 

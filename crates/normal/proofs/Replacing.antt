@@ -17,8 +17,9 @@ use Rattle.meaning.specs.Expression.{Expression, integer, name, first, next, ne
 use Rattle.spans.specs.Token.{span}
 use Rattle.spans.specs.Postfix.{inPostfix, nodeCount, nodeExpressions}
 use Rattle.spans.specs.Spans.{spansIn}
-use Rattle.normal.specs.Rows.{Row, rewriting, Line, lineAt, rewritingLines, ownRows, addedRows}
-use Rattle.normal.specs.Fields.{replacesIn, leftBehind}
+use Rattle.normal_entries.specs.Row.{Row}
+use Rattle.normal.specs.Rows.{rewriting, Line, lineAt, rewritingLines, ownRows, addedRows}
+use Rattle.normal_entries.specs.Fields.{replacesIn, leftBehind}
 use Rattle.normal.specs.Encoded.{expressionAt, spanBefore, normalRows, entryRecord, normalEntries}
 use Rattle.normal.specs.Says.{standsFor, isReplaced, Replaces}
 use Rattle.normal.proofs.Decoding.{always-line}

@@ -9,7 +9,8 @@ use Rattle.basics.proofs.Lists.{All-append}
 use Rattle.meaning.specs.Expression.{Expression, integer, name, first, next, negation, binary, conditional, fby, Constraint, leftSide, rightSide}
 use Rattle.nodes.specs.Code.{relationCode}
 use Rattle.spans.specs.Postfix.{nodeCount}
-use Rattle.normal.specs.Rows.{Row, Rewriting, rewriting, untilLine, alwaysLine, lineAt, rewritingLines, ownRows, addedRows}
+use Rattle.normal_entries.specs.Row.{Row}
+use Rattle.normal.specs.Rows.{Rewriting, rewriting, untilLine, alwaysLine, lineAt, rewritingLines, ownRows, addedRows}
 
 -- The row of a rewritten constraint, and that of an added entry.
 abbrev pub IsLine : Row → Type 0

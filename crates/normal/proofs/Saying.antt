@@ -22,10 +22,10 @@ use Rattle.spans.specs.Postfix.{nodeExpressions}
 use Rattle.spans.specs.Spans.{spansIn}
 use Rattle.spans.specs.Reading.{SpanReads, EachReads}
 use Rattle.spans.proofs.Sheets.{each-at}
-use Rattle.normal.specs.Rows.{Row}
+use Rattle.normal_entries.specs.Row.{Row}
 use Rattle.normal.specs.Encoded.{expressionAt, normalRows, entryRecord, normalEntries}
 use Rattle.normal.specs.Says.{SideSays, side, EntrySays, constraint, streamsUntil, streamIs, streamIsNext, firstsEqual, EachSays}
-use Rattle.normal.specs.declared.Entry.{Entry}
+use Rattle.normal_entries.specs.declared.Entry.{Entry}
 use Rattle.normal.proofs.Decoding.{decoded, rows-decoded}
 use Rattle.normal.proofs.TextSpans.{text-spans, nodes-spanned}
 use Rattle.normal.proofs.Sources.{RowForm, isConstraint, isUntil, isEquation, isNext, isFirst, sheet-sound}

@@ -20,7 +20,8 @@ use Rattle.spans.specs.Postfix.{inPostfix, nodeCount}
 use Rattle.normal.specs.Rows.{fbyEntries, untilEntries, ownRows, allRows, Rewriting, bothRewritings, nextRewriting, fbyRewriting, rewriting, Line, relationLine, lineAt, rewritingLines, addedRows, streamsAfter}
 use Rattle.normal.specs.Stored.{rewritingByKind, rewritingBefore, storedLine, storedLines}
 use Rattle.normal.proofs.Recursion.{rewritingBefore-node}
-use Rattle.normal.specs.Table.{rowBound, LinesHaveRoom}
+use Rattle.normal_entries.specs.Entries.{rowBound}
+use Rattle.normal.specs.Table.{LinesHaveRoom}
 use Rattle.normal.proofs.Lines.{length-ownRows}
 use Rattle.normal.proofs.Decoding.{always-line}
 use Rattle.normal.proofs.Places.{nodes-counted}

@@ -20,10 +20,11 @@ use Rattle.scan.specs.declared.Span.{Span}
 use Rattle.spans.specs.Spans.{spansIn}
 use Rattle.spans.specs.Reading.{EachReads}
 use Rattle.spans.specs.Postfix.{inPostfix, nodeCount, nodeExpressions}
-use Rattle.normal.specs.Rows.{Row, rewriting, Line, lineAt, rewritingLines, ownRows, addedRows, streamsAfter}
+use Rattle.normal_entries.specs.Row.{Row}
+use Rattle.normal.specs.Rows.{rewriting, Line, lineAt, rewritingLines, ownRows, addedRows, streamsAfter}
 use Rattle.normal.specs.Encoded.{spanBefore, normalRows, entryRecord, normalEntries}
-use Rattle.normal.specs.Fields.{leftIsNode, rightIsNode, leftBehind, rightBehind}
-use Rattle.normal.specs.declared.Entry.{Entry}
+use Rattle.normal_entries.specs.Fields.{leftIsNode, rightIsNode, leftBehind, rightBehind}
+use Rattle.normal_entries.specs.declared.Entry.{Entry}
 use Rattle.normal.proofs.Lines.{streams-more}
 use Rattle.normal.proofs.Decoding.{always-line, streams-counted}
 use Rattle.normal.proofs.Places.{stand-self}

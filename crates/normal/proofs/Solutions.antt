@@ -24,12 +24,13 @@ use Rattle.sheet.proofs.Accepted.{accepted-facts}
 use Rattle.outcome.specs.NormalForm.{NormalAnswer, NormalOutcome, unread, tooShort, given, entryCount}
 use Rattle.outcome.proofs.AcceptedCompile.{refusal-positive}
 use Rattle.spans.specs.Postfix.{nodeExpressions}
-use Rattle.normal.specs.Table.{blank}
-use Rattle.normal.specs.Rows.{Row, rewritingLines, ownRows, addedRows}
+use Rattle.normal_entries.specs.Entries.{blank}
+use Rattle.normal_entries.specs.Row.{Row}
+use Rattle.normal.specs.Rows.{rewritingLines, ownRows, addedRows}
 use Rattle.normal.specs.Encoded.{normalRows, entryRecord, normalEntries}
 use Rattle.normal.specs.Says.{EntrySays, EachSays, LeftStands}
 use Rattle.normal.specs.Solved.{rangeIn, ListEntryMet, ListSolution, ExtendsTo}
-use Rattle.normal.specs.declared.Entry.{Entry}
+use Rattle.normal_entries.specs.declared.Entry.{Entry}
 use Rattle.normal.proofs.Places.{stand-self}
 use Rattle.normal.proofs.Decoding.{decoded, own-say, added-say, encoded-length}
 use Rattle.normal.proofs.Saying.{rows-say, entries-say, says-unique, each-says-unique}

@@ -25,7 +25,8 @@ use Rattle.nodes.specs.declared.Summary.{Summary}
 use Rattle.nodes.proofs.Bounds.{nodeSummary-summaryOf, bounded-inBounds}
 use Rattle.nodes.proofs.Postfix.{StoredAt, storedInteger, storedName, storedFirst, storedNext, storedNegation, storedBinary, storedConditional, storedFby, stored-ends, Holds, Holds-append, postfix-stored}
 use Rattle.spans.specs.Postfix.{inPostfix, nodeCount, nodeExpressions}
-use Rattle.normal.specs.Rows.{Row, rewriting, Line, lineAt, rewritingLines, ownRows, addedRows}
+use Rattle.normal_entries.specs.Row.{Row}
+use Rattle.normal.specs.Rows.{rewriting, Line, lineAt, rewritingLines, ownRows, addedRows}
 use Rattle.normal.specs.Table.{endsOf}
 use Rattle.normal.specs.Encoded.{expressionAt, sourceInterval, normalRows}
 use Rattle.normal.specs.Outcome.{sheetRange}

@@ -20,8 +20,8 @@ use Rattle.spans.specs.Postfix.{nodeExpressions}
 use Rattle.spans.specs.Spans.{spansIn}
 use Rattle.spans.specs.Reading.{SpanReads, EachReads}
 use Rattle.spans.proofs.Sheets.{each-at}
-use Rattle.normal.specs.Rows.{Row}
-use Rattle.normal.specs.Fields.{leftBehind}
+use Rattle.normal_entries.specs.Row.{Row}
+use Rattle.normal_entries.specs.Fields.{leftBehind}
 use Rattle.normal.specs.Encoded.{expressionAt, spanBefore, normalRows, entryRecord, normalEntries}
 use Rattle.normal.specs.Says.{standsFor, LeftStands}
 use Rattle.normal.proofs.TextSpans.{text-spans, nodes-spanned}

@@ -19,15 +19,17 @@ use Rattle.nodes.specs.Postfix.{Node, StoredConstraint, allNodes, storedConstra
 use Rattle.nodes.specs.Evaluate.{stored, nodesOf}
 use Rattle.nodes.specs.Bounds.{lowsOf, highsOf}
 use Rattle.nodes.proofs.Postfix.{sides-inside, stored-length}
-use Rattle.reader.specs.Stored.{padded, relationsOf, leftsOf, rightsOf, storedSheet, readingOf}
+use Rattle.header.specs.Streams.{padded}
+use Rattle.reader.specs.Stored.{relationsOf, leftsOf, rightsOf, storedSheet, readingOf}
 use Rattle.reader.specs.declared.StoredSheet.{StoredSheet}
 use Rattle.reader.specs.declared.Reading.{Reading}
 use Rattle.spans.specs.Stored.{spanTable}
 use Rattle.normal.specs.Rows.{rewritingLines}
 use Rattle.normal.specs.Stored.{storedLines, rangeBefore}
-use Rattle.normal.specs.Table.{HasLines, LinesHaveRoom, refusedMade, madeTables}
+use Rattle.normal_entries.specs.Entries.{refusedMade}
+use Rattle.normal.specs.Table.{HasLines, LinesHaveRoom, madeTables}
 use Rattle.normal.specs.Outcome.{sheetRange, entriesFor}
-use Rattle.normal.specs.declared.Made.{Made}
+use Rattle.normal_entries.specs.declared.Made.{Made}
 use Rattle.normal.proofs.SheetRows.{lines-stored, sheet-holds, nodes-total, sheet-room}
 
 -- ---- the lists of a stored sheet

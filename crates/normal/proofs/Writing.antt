@@ -7,8 +7,10 @@ use lib.IntN.{ℤ}
 use lib.ListN.{length, set, length-append}
 use lib.Seq.{sets}
 use Rattle.basics.proofs.Lists.{sets-append}
-use Rattle.normal.specs.Rows.{Row, Rewriting, equationRow, nothingAdded, bothRewritings, nextEntries, nextRewriting, fbyEntries, fbyRewriting, untilRow, untilEntries}
-use Rattle.normal.specs.Table.{rowBound, streamLimit, numbersOf, flat, putRows, RewritingFits, Wrote}
+use Rattle.normal_entries.specs.Row.{Row}
+use Rattle.normal.specs.Rows.{Rewriting, equationRow, nothingAdded, bothRewritings, nextEntries, nextRewriting, fbyEntries, fbyRewriting, untilRow, untilEntries}
+use Rattle.normal_entries.specs.Entries.{rowBound}
+use Rattle.normal.specs.Table.{streamLimit, numbersOf, flat, putRows, RewritingFits, Wrote}
 use Rattle.normal.specs.declared.RowsWritten.{RowsWritten}
 
 -- ---- stores

@@ -24,10 +24,11 @@ use Rattle.spans.specs.Token.{span}
 use Rattle.spans.specs.Postfix.{nodeExpressions}
 use Rattle.spans.specs.Spans.{spansIn}
 use Rattle.outcome.specs.NormalForm.{NormalAnswer}
-use Rattle.normal.specs.Rows.{Row, rewritingLines, allRows}
-use Rattle.normal.specs.Fields.{entryWith}
-use Rattle.normal.specs.declared.Entry.{Entry}
-use Rattle.normal.specs.declared.NormalForm.{NormalForm}
+use Rattle.normal_entries.specs.Row.{Row}
+use Rattle.normal.specs.Rows.{rewritingLines, allRows}
+use Rattle.normal_entries.specs.Fields.{entryWith}
+use Rattle.normal_entries.specs.declared.Entry.{Entry}
+use Rattle.normal_entries.specs.declared.NormalForm.{NormalForm}
 
 abbrev pub expressionAt : Sheet → ℕ → Expression
 expressionAt s i = getD (nodeExpressions (s .constraints)) i (integer (pos 0))

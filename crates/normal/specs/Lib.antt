@@ -1,5 +1,4 @@
 pub mod Rows
-pub mod Fields
 pub mod Stored
 pub mod Table
 pub mod Encoded

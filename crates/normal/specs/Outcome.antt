@@ -11,8 +11,9 @@ use Rattle.nodes.specs.declared.Range.{Range}
 use Rattle.spans.specs.Stored.{spanTable}
 use Rattle.normal.specs.Rows.{rewritingLines}
 use Rattle.normal.specs.Stored.{rangeBefore}
-use Rattle.normal.specs.Table.{refusedMade, madeTables}
-use Rattle.normal.specs.declared.Made.{Made}
+use Rattle.normal_entries.specs.Entries.{refusedMade}
+use Rattle.normal.specs.Table.{madeTables}
+use Rattle.normal_entries.specs.declared.Made.{Made}
 
 -- The range of the part of the sheet's stored nodes that ends before a place.
 abbrev pub sheetRange : Sheet → ℕ → Range

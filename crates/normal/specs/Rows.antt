@@ -7,18 +7,7 @@ use lib.Dec.{eqb}
 use Rattle.meaning.specs.Expression.{Expression, integer, name, first, next, negation, binary, conditional, fby, Constraint, leftSide, rightSide}
 use Rattle.nodes.specs.Code.{relationCode}
 use Rattle.spans.specs.Postfix.{nodeCount}
-
--- One entry. `source` is the place behind the node of the expression whose interval the stream `left` ranges over, or 0 where `left` is no stream.
--- A side of a rewritten constraint or of an equation is named by the place of its last node and by the number of the first stream that its
--- rewriting adds.
-pub record Row : Type 0 where
-  pub kind : ℕ
-  pub relation : ℕ
-  pub left : ℕ
-  pub leftAdded : ℕ
-  pub right : ℕ
-  pub rightAdded : ℕ
-  pub source : ℕ
+use Rattle.normal_entries.specs.Row.{Row}
 
 -- Kind 1: a rewritten constraint with one of the signs; its sides end before the places l and r, and add streams from m and from n on.
 abbrev pub constraintRow : ℕ → ℕ → ℕ → ℕ → ℕ → Row

@@ -14,7 +14,7 @@ use Rattle.sheet.specs.Form.{lineTokens, layoutIn}
 use Rattle.scan.specs.declared.Span.{Span}
 use Rattle.spans.specs.Token.{span}
 use Rattle.spans.specs.Reading.{SpanReads}
-use Rattle.normal.specs.declared.Entry.{Entry}
+use Rattle.normal_entries.specs.declared.Entry.{Entry}
 
 -- The text from `begin` to before `end` is read as an expression, by the names of line 1; rewritten, with added streams numbered from n on, it is this one.
 pub data SideSays (text : List ℕ) (begin end n : ℕ) : Expression → Type 0 where

@@ -10,7 +10,7 @@ use Rattle.meaning.specs.Expression.{Constraint, Sheet, rangeOf, MeetsFrom}
 use Rattle.meaning.specs.NormalForm.{MeetsEntry}
 use Rattle.meaning.specs.Scope.{AgreeBelow}
 use Rattle.normal.specs.Says.{EntrySays}
-use Rattle.normal.specs.declared.Entry.{Entry}
+use Rattle.normal_entries.specs.declared.Entry.{Entry}
 
 -- The range that a record gives its stream `left`.
 abbrev pub rangeIn : Entry → Interval

@@ -2,9 +2,9 @@
 ghost use lib.ListN.{length};
 ghost use Rattle.outcome.specs.NormalForm.{NormalOutcome};
 ghost use Rattle.normal.specs.Encoded.{normalEntries, normalAnswerOf};
-ghost use Rattle.normal.specs.Table.{blank};
-use normal::Entry;
-use normal::NormalForm;
+ghost use Rattle.normal_entries.specs.Entries.{blank};
+use normal_entries::Entry;
+use normal_entries::NormalForm;
 
 #[no_mangle]
 pub extern "C" fn normal_form_c(text: &[u8], list: &mut [Entry]) -> NormalForm

@@ -4,7 +4,7 @@
 use cases::number;
 use cases::print;
 use cases::print_signed;
-use normal::Entry;
+use normal_entries::Entry;
 
 fn print_entry(entry: Entry) {
     print(entry.kind as u64, b" ");
@@ -26,7 +26,7 @@ fn print_entry(entry: Entry) {
 fn print_entries(numbers: &[u16; 30944], ends: &[i64; 8256], count: usize) {
     let mut i = 0;
     while i < count {
-        let entry = normal::entry_at(numbers, ends, i);
+        let entry = normal_entries::entry_at(numbers, ends, i);
         print_entry(entry);
         i += 1;
     }

@@ -14,7 +14,8 @@ use Rattle.meaning.specs.Expression.{Sheet}
 use Rattle.sheet.specs.Accepted.{Accepted}
 use Rattle.sheet.proofs.Accepted.{accepted-facts}
 use Rattle.reader.specs.declared.StoredSheet.{StoredSheet}
-use Rattle.reader.specs.Stored.{nameBytes, nameLengths, storedSheet}
+use Rattle.header.specs.Streams.{nameBytes, nameLengths}
+use Rattle.reader.specs.Stored.{storedSheet}
 use Rattle.situations.proofs.Stored.{IsPadded, part-held, held-lows, held-highs}
 use Rattle.replaying.specs.Replay.{replayedLines}
 use Rattle.replaying.specs.Machine.{playedSheet}

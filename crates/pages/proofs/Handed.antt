@@ -10,7 +10,7 @@ use lib.ListN.{length, take}
 use lib.Seq.{length-take-le}
 use Rattle.basics.proofs.Tests.{not-both}
 use Rattle.output.specs.Output.{Hands}
-use Rattle.print.specs.Table.{linesFrom}
+use Rattle.print.specs.Lines.{linesFrom}
 use Rattle.pages.specs.Lines.{lineRoom, IsPage}
 use Rattle.pages.specs.declared.Page.{Page}
 use Rattle.pages.proofs.Lines.{same-room, text-short, text-grows, page-continues, page-advances, page-empty}

@@ -12,7 +12,7 @@ use lib.Seq.{sets, sets-eq, length-sets, take-at}
 use borrow.Author.Tests.{leb-true, leb-false, ltb-true, ltb-false}
 use Rattle.basics.proofs.Lists.{sets-append}
 use Rattle.print.specs.Append.{Appends}
-use Rattle.print.specs.Table.{linesFrom}
+use Rattle.print.specs.Lines.{linesFrom}
 use Rattle.pages.specs.Lines.{lineRoom, HoldsLine, HoldsLines, IsPage}
 use Rattle.pages.specs.declared.Page.{Page}
 

@@ -18,10 +18,12 @@ use Rattle.automaton.specs.Table.{noState}
 use Rattle.letters.specs.Described.{described, cutCount}
 use Rattle.letters.proofs.Streams.{letterCount-unnamed}
 use Rattle.print.specs.Text.{headingLine}
-use Rattle.print.specs.Table.{printed, placeText, linesFrom, storedNames, AllFit}
-use Rattle.print.proofs.Places.{getD-inside, nothing-beyond}
-use Rattle.print.proofs.Lengths.{heading-length, place-length}
-use Rattle.print.proofs.Table.{printed-whole}
+use Rattle.table_text.specs.Table.{printed, placeText}
+use Rattle.print.specs.Lines.{linesFrom, storedNames, AllFit}
+use Rattle.table_text.proofs.Places.{getD-inside, nothing-beyond}
+use Rattle.table_text.proofs.Lengths.{place-length}
+use Rattle.print.proofs.Lengths.{heading-length}
+use Rattle.table_text.proofs.Table.{printed-whole}
 use Rattle.pages.specs.Lines.{lineRoom, placesOr}
 use Rattle.pages.specs.Output.{Printout, tableLine, outputAt, outputText}
 use Rattle.pages.proofs.Refused.{given-text, short-or-refused}

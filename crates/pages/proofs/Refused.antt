@@ -9,7 +9,7 @@ use lib.ListN.{length}
 use borrow.Author.Tests.{eq-eqb, ne-eqb}
 use Rattle.basics.proofs.Tests.{cond-cases}
 use Rattle.print.specs.Text.{refusalLine}
-use Rattle.print.specs.Table.{linesFrom}
+use Rattle.print.specs.Lines.{linesFrom}
 use Rattle.print.proofs.Lengths.{refusal-length}
 use Rattle.pages.specs.Lines.{lineRoom, refusedLine, orRefused, placesOr}
 use Rattle.pages.proofs.Lines.{first-line, same-lines}

@@ -8,7 +8,7 @@ use lib.Dec.{eqb}
 use lib.ListN.{length, take}
 use lib.Seq.{sets}
 use Rattle.print.specs.Text.{refusalLine}
-use Rattle.print.specs.Table.{linesFrom}
+use Rattle.print.specs.Lines.{linesFrom}
 use Rattle.pages.specs.declared.Page.{Page}
 
 -- ---- a text, or a refusal

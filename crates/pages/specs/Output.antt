@@ -7,7 +7,8 @@ use lib.ListN.{length}
 use Rattle.meaning.specs.Letter.{letterCount}
 use Rattle.letters.specs.Described.{described, cutCount}
 use Rattle.print.specs.Text.{headingLine}
-use Rattle.print.specs.Table.{placeText, linesFrom, storedNames}
+use Rattle.table_text.specs.Table.{placeText}
+use Rattle.print.specs.Lines.{linesFrom, storedNames}
 use Rattle.pages.specs.Lines.{orRefused, placesOr}
 
 -- What is printed: a refusal's number, or 0 and the table of so many states. A name is stored as eight bytes and a length.

@@ -49,7 +49,7 @@ fn line_at(
     if place == 0 {
         return print::heading(names, lengths, lows.len(), line);
     }
-    print::entry_text(entries, finals, lows, highs, place - 1, line)
+    table_text::entry_text(entries, finals, lows, highs, place - 1, line)
 }
 
 // Copies the first bytes of a line to a place.

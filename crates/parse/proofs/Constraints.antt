@@ -16,8 +16,8 @@ use Rattle.nodes.specs.Postfix.{postfix, sideNodes}
 use Rattle.sheet.specs.Vocabulary.{Relation, sign, untilSign, related, relationTokens, relationOf}
 use Rattle.sheet.specs.Reading.{anyOf, isIntegerBeyond}
 use Rattle.sheet.specs.Parser.{andThen, Reader, expressionBy, wholeLine, constraintFrom, secondSide, partTo, parseConstraint}
-use Rattle.scan.specs.Word.{codeOr255, relationNumber}
-use Rattle.scan.proofs.Words.{code-none, code-some}
+use Rattle.vocabulary.specs.Word.{codeOr255, relationNumber}
+use Rattle.vocabulary.proofs.Words.{code-none, code-some}
 use Rattle.parse.specs.declared.NumberedToken.{NumberedToken}
 use Rattle.parse.specs.declared.Read.{Read}
 use Rattle.parse.specs.declared.ConstraintRead.{ConstraintRead}

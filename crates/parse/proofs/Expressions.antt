@@ -16,7 +16,7 @@ use Rattle.meaning.specs.Expression.{Expression, conditional}
 use Rattle.nodes.specs.Postfix.{node}
 use Rattle.sheet.specs.Vocabulary.{infixed, operatorOf}
 use Rattle.sheet.specs.Parser.{parsed, andThen, expect, afterPart, conditionalBy, expressionBy, partTo}
-use Rattle.scan.specs.Word.{codeOr255, infixCode}
+use Rattle.vocabulary.specs.Word.{codeOr255, infixCode}
 use Rattle.parse.specs.declared.NumberedToken.{NumberedToken}
 use Rattle.parse.specs.declared.Read.{Read}
 use Rattle.parse.specs.Numbered.{TokenNumbered}

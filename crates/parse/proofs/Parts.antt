@@ -17,9 +17,9 @@ use Rattle.sheet.specs.Vocabulary.{Prefix, prefixed, prefixOf}
 use Rattle.sheet.specs.Parser.{Parsed, parsed, Reader, expressionBy, partTo}
 use Rattle.sheet.specs.Brackets.{BytePartner}
 use Rattle.scan.specs.Place.{between, PartnerAt, noPartner, aPartner}
-use Rattle.scan.specs.Word.{codeOr255, prefixCode}
+use Rattle.vocabulary.specs.Word.{codeOr255, prefixCode}
 use Rattle.scan.proofs.Tokens.{between-first}
-use Rattle.scan.proofs.Words.{code-some}
+use Rattle.vocabulary.proofs.Words.{code-some}
 use Rattle.parse.specs.declared.NumberedToken.{NumberedToken}
 use Rattle.parse.specs.declared.Read.{Read}
 use Rattle.parse.specs.Stored.{store, SameBelow}

@@ -15,7 +15,7 @@ use Rattle.nodes.specs.Postfix.{node}
 use Rattle.sheet.specs.Vocabulary.{prefixTokens, prefixOf}
 use Rattle.sheet.specs.Parser.{partTo}
 use Rattle.scan.specs.Place.{between}
-use Rattle.scan.specs.Word.{codeOr255, prefixCode}
+use Rattle.vocabulary.specs.Word.{codeOr255, prefixCode}
 use Rattle.scan.proofs.Tokens.{between-none}
 use Rattle.parse.specs.declared.NumberedToken.{NumberedToken}
 use Rattle.parse.specs.declared.Read.{Read}

@@ -7,7 +7,7 @@ use mathlib.Core.Option.{Option, some, none}
 use native.Mathlib.Omega.{arith}
 use lib.ListN.{length, take, drop, length-take, length-append}
 use lib.Seq.{take-append-seam, drop-append-add, drop-drop}
-use Rattle.scan.proofs.Codes.{infix-small}
+use Rattle.vocabulary.proofs.Codes.{infix-small}
 use Rattle.basics.proofs.Reflects.{from-true}
 use Rattle.text.specs.Bytes.{Token, bytesOf, tokens}
 use Rattle.text.specs.Token.{sameBytes, isName, isInteger, isReserved}
@@ -21,9 +21,9 @@ use Rattle.sheet.proofs.Balance.{Partner, bracket-read, bracket-read-back, no-p
 use Rattle.sheet.specs.Brackets.{BytePartner}
 use Rattle.sheet.proofs.BracketBytes.{byte-partner-tokens, byte-partner, partner-bytes}
 use Rattle.scan.specs.Place.{between}
-use Rattle.scan.specs.Word.{codeOr255, infixCode}
+use Rattle.vocabulary.specs.Word.{codeOr255, infixCode}
 use Rattle.scan.proofs.Tokens.{between-none, between-length}
-use Rattle.scan.proofs.Words.{code-none, code-some}
+use Rattle.vocabulary.proofs.Words.{code-none, code-some}
 use Rattle.parse.specs.declared.NumberedToken.{NumberedToken}
 use Rattle.parse.specs.Numbered.{TokenNumbered, noneLeft, numbered}
 use Rattle.parse.proofs.Numbers.{token-within, token-bytes, token-tokens}

@@ -15,7 +15,7 @@ use Rattle.nodes.specs.Code.{operatorCode}
 use Rattle.nodes.specs.Postfix.{Node, node, postfix}
 use Rattle.sheet.specs.Vocabulary.{Infix, pointwise, followedBy, infixed, Prefix, firstPrefix, nextPrefix, notPrefix, prefixed}
 use Rattle.sheet.specs.Reading.{anyOf, isBeyond, isIntegerBeyond}
-use Rattle.scan.specs.Word.{infixCode, prefixCode}
+use Rattle.vocabulary.specs.Word.{infixCode, prefixCode}
 use Rattle.parse.specs.Stored.{store}
 use Rattle.parse.specs.Bounded.{zeroBeyond, boundedExpression, hasBeyond}
 use Rattle.parse.specs.Reading.{StoresTree, firstsInside, prefixValue}

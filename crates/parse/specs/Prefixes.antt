@@ -8,7 +8,7 @@ use Rattle.nodes.specs.Evaluate.{Nodes}
 use Rattle.text.specs.Bytes.{Token}
 use Rattle.sheet.specs.Vocabulary.{prefixOf}
 use Rattle.sheet.specs.Parser.{partTo}
-use Rattle.scan.specs.Word.{codeOr255, prefixCode}
+use Rattle.vocabulary.specs.Word.{codeOr255, prefixCode}
 use Rattle.parse.specs.declared.Read.{Read}
 use Rattle.parse.specs.Reading.{TreeRead, firstsInside}
 

@@ -136,7 +136,7 @@ fn leaf(
             beyond: integer.beyond,
         };
     }
-    if scan::is_reserved(word) {
+    if vocabulary::is_reserved(word) {
         return nothing();
     }
     if !scan::is_name(word) {
@@ -230,7 +230,7 @@ fn pass_prefixes(
         let token = token_at(text, origin, token_starts, number);
         let start = token.start;
         let end = token.end;
-        let kind = scan::prefix_code(&text[start..end]);
+        let kind = vocabulary::prefix_code(&text[start..end]);
         if kind == nodes::NO_CODE {
             return Passed {
                 at: number,
@@ -270,7 +270,7 @@ fn put_prefixes(
         let token = token_at(text, origin, token_starts, number);
         let start = token.start;
         let end = token.end;
-        let kind = scan::prefix_code(&text[start..end]);
+        let kind = vocabulary::prefix_code(&text[start..end]);
         inside = firsts_before(kind, inside);
         let value = prefix_value(kind, inside);
         put(kinds, values, starts, last, kind, value, nodes);
@@ -311,7 +311,7 @@ fn part(
         return nothing();
     }
     let word = &text[start..end];
-    let kind = scan::prefix_code(word);
+    let kind = vocabulary::prefix_code(word);
     if kind != nodes::NO_CODE {
         let inside = firsts_inside(kind, firsts);
         let passed = pass_prefixes(text, origin, token_starts, token.next, inside);
@@ -344,7 +344,7 @@ fn part(
             inner,
         );
     }
-    if !scan::is_opening(word) {
+    if !vocabulary::is_opening(word) {
         return leaf(
             names,
             word,
@@ -426,7 +426,7 @@ fn conditional(
     let then = token_at(text, origin, token_starts, condition.next);
     let then_start = then.start;
     let then_end = then.end;
-    if !scan::is_then(&text[then_start..then_end]) {
+    if !vocabulary::is_then(&text[then_start..then_end]) {
         return nothing();
     }
     let branch = part(
@@ -447,7 +447,7 @@ fn conditional(
     let other = token_at(text, origin, token_starts, branch.next);
     let other_start = other.start;
     let other_end = other.end;
-    if !scan::is_else(&text[other_start..other_end]) {
+    if !vocabulary::is_else(&text[other_start..other_end]) {
         return nothing();
     }
     let last = part(
@@ -496,7 +496,7 @@ fn expression(
     let token = token_at(text, origin, token_starts, at);
     let start = token.start;
     let end = token.end;
-    if scan::is_if(&text[start..end]) {
+    if vocabulary::is_if(&text[start..end]) {
         return conditional(
             names,
             text,
@@ -528,7 +528,7 @@ fn expression(
     let sign = token_at(text, origin, token_starts, left.next);
     let sign_start = sign.start;
     let sign_end = sign.end;
-    let kind = scan::operator_code(&text[sign_start..sign_end]);
+    let kind = vocabulary::operator_code(&text[sign_start..sign_end]);
     if kind == nodes::NO_CODE {
         return left;
     }
@@ -594,7 +594,7 @@ fn sides(
     let sign = token_at(line, 0, token_starts, left.next);
     let sign_start = sign.start;
     let sign_end = sign.end;
-    let relation = scan::relation_code(&line[sign_start..sign_end]);
+    let relation = vocabulary::relation_code(&line[sign_start..sign_end]);
     if relation == nodes::NO_CODE {
         return unread(true);
     }

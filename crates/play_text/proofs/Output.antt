@@ -24,9 +24,10 @@ use Rattle.nodes.specs.Bounds.{lowsOf, highsOf}
 use Rattle.automaton.specs.Table.{noState}
 use Rattle.letters.specs.Described.{described, cutCount}
 use Rattle.letters.proofs.Streams.{letterCount-unnamed}
-use Rattle.print.specs.Table.{placeText, linesFrom, AllFit}
-use Rattle.print.proofs.Places.{getD-inside}
-use Rattle.print.proofs.Table.{place-text, heading-stored}
+use Rattle.table_text.specs.Table.{placeText}
+use Rattle.print.specs.Lines.{linesFrom, AllFit}
+use Rattle.table_text.proofs.Places.{getD-inside}
+use Rattle.table_text.proofs.Table.{place-text, heading-stored}
 use Rattle.print.proofs.Lengths.{heading-length}
 use Rattle.pages.specs.Lines.{lineRoom}
 use Rattle.pages.proofs.Output.{heading, place-short}

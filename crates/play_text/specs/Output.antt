@@ -9,7 +9,8 @@ use lib.ListN.{length, getD}
 use Rattle.meaning.specs.Letter.{letterCount}
 use Rattle.automaton.specs.Table.{noState}
 use Rattle.letters.specs.Described.{described, cutCount}
-use Rattle.print.specs.Table.{placeText, linesFrom}
+use Rattle.table_text.specs.Table.{placeText}
+use Rattle.print.specs.Lines.{linesFrom}
 use Rattle.pages.specs.Lines.{orRefused, placesOr}
 use Rattle.pages.specs.Output.{Printout, tableLine}
 

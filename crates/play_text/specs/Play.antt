@@ -9,7 +9,7 @@ use Rattle.meaning.specs.Expression.{Stream}
 use Rattle.meaning.specs.Choice.{choiceCount}
 use Rattle.automaton.specs.Table.{noState}
 use Rattle.print.specs.Text.{headingLine}
-use Rattle.print.specs.Table.{entryText}
+use Rattle.table_text.specs.Table.{entryText}
 
 -- The line of the letter held for a state and a choice, or nothing.
 abbrev pub heldLine : List Stream → (entries finals play : List ℕ) (state choice : ℕ) → List ℕ

@@ -44,7 +44,7 @@ fn held_line(
     let letters = letters::letter_count(lows, highs) as usize;
     let state = place / choices as usize;
     let held = state * letters + letter as usize;
-    print::entry_text(entries, finals, lows, highs, held, line)
+    table_text::entry_text(entries, finals, lows, highs, held, line)
 }
 
 // Writes the line at a place to the front of the bytes and gives its length.

@@ -2,7 +2,7 @@
 -- of eight streams 73 and 169.
 use Prim.Native.Nat.{ℕ, zero, suc, _+_, _*_, _/_, _%_, _≤_, _<_, min}
 use native.Mathlib.Omega.{arith}
-use native.Mathlib.Nat.{div-lt-iff-lt-mul, div-le-self}
+use native.Mathlib.Nat.{div-lt-iff-lt-mul}
 use mathlib.Core.Path.{_≡_, refl, _∙_, ap}
 use mathlib.Core.Bool.{Bool, true, false}
 use mathlib.Core.List.{List, [], _∷_, _++_, map}
@@ -12,21 +12,15 @@ use lib.ListN.{length, getD, drop, length-append, length-take}
 use borrow.Author.Tests.{ltb-true, ltb-false}
 use mir.Syntax.{w64}
 use mir.Val.{SFits}
-use Rattle.basics.proofs.Reflects.{from-true}
 use Rattle.text.specs.Bytes.{Token}
-use Rattle.meaning.specs.Letter.{Letter, IsLetter, none, more, letterCount, letterOf}
-use Rattle.meaning.proofs.Letter.{letterOf-letter}
-use Rattle.nodes.proofs.Record.{letter-length}
-use Rattle.automaton.specs.Table.{noState}
+use Rattle.meaning.specs.Letter.{Letter, IsLetter, none, more}
 use Rattle.letters.specs.Described.{described}
 use Rattle.letters.proofs.Above.{between-fits}
-use Rattle.letters.proofs.Streams.{letter-reflects}
 use Rattle.print.specs.Text.{digits, decimal, spaced, line, tokensLine, headingLine, entryLine, refusalLine}
 use Rattle.sheet.specs.Names.{nameIn}
-use Rattle.print.specs.Table.{placeText, storedNames, AllFit}
+use Rattle.print.specs.Lines.{storedNames, AllFit}
 use Rattle.print.proofs.Decimal.{digits-one, digits-more}
 use Rattle.print.proofs.Lines.{spaced-more}
-use Rattle.print.proofs.Places.{place-cases}
 
 -- ---- digits
 
@@ -138,22 +132,9 @@ entry-length state final values next s f v n x =
     let t = digits-length 4 next (omega arith) in
     omega arith
 
--- ---- the text of a place
+-- ---- the values of a letter
 
 pub letter-fits : (lows highs : List ℤ) (l : Letter) → AllFit lows → AllFit highs → IsLetter (described lows highs) l → AllFit l
 letter-fits [] highs [] f g none = tt
 letter-fits (a ∷ lows) [] [] f g none = tt
 letter-fits (a ∷ lows) (b ∷ highs) (v ∷ l) f g (more w m) = (between-fits a v b (f .0) (g .0) (w .above) (w .below), letter-fits lows highs l (f .1) (g .1) m)
-
-pub place-length : (lows highs : List ℤ) (entries finals : List ℕ) (place : ℕ) → AllFit lows → AllFit highs → getD entries place noState < 65536
-    → ((state : ℕ) → getD finals state 0 < 256) → place < 18446744073709551616 → length (placeText lows highs entries finals place) ≤ 256
-place-length lows highs entries finals place f g e b p =
-    let ss = described lows highs in
-    let n = place % letterCount ss in
-    place-cases lows highs entries finals place (λ l. length l ≤ 256) (omega arith) λ h.
-    let d = div-le-self place (letterCount ss) in
-    let t = from-true (letter-reflects ss n 8) h in
-    let m = letterOf-letter ss n (t .known) in
-    let k = letter-length m in
-    entry-length (place / letterCount ss) (getD finals (place / letterCount ss) 0) (letterOf ss n) (getD entries place noState) (omega arith) (b (place / letterCount ss))
-    (letter-fits lows highs (letterOf ss n) f g m) (omega arith) e

@@ -1,10 +1,7 @@
 pub mod Append
 pub mod Decimal
 pub mod Digits
-pub mod Examples
 pub mod Lengths
 pub mod Lines
 pub mod Machine
 pub mod Names
-pub mod Places
-pub mod Table

@@ -15,7 +15,7 @@ use Rattle.text.specs.Bytes.{Token, bytesOf}
 use Rattle.sheet.specs.Names.{nameIn}
 use Rattle.arithmetic.proofs.Machine.{held, number-negative, number-natural}
 use Rattle.print.specs.Text.{digits, decimal, spaced, line, tokensLine, headingLine, entryLine, refusalLine}
-use Rattle.print.specs.Table.{storedNames}
+use Rattle.print.specs.Lines.{storedNames}
 
 -- ---- one integer
 

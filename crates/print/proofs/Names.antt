@@ -10,7 +10,7 @@ use Rattle.meaning.specs.Window.{joinOver}
 use Rattle.sheet.specs.Form.{namesOf}
 use Rattle.sheet.specs.Names.{eightBytes, ShortNames}
 use Rattle.sheet.proofs.Names.{name-found}
-use Rattle.print.specs.Table.{storedNames}
+use Rattle.print.specs.Lines.{storedNames}
 
 module _ (moreNames moreLengths : List ℕ) where
   abbrev names : List Stream → List ℕ

@@ -1,3 +1,3 @@
 pub mod Append
 pub mod Text
-pub mod Table
+pub mod Lines

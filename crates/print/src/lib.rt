@@ -9,7 +9,7 @@ ghost use lib.ListN.{length, getD};
 ghost use lib.Seq.{sets};
 ghost use Rattle.print.specs.Append.{Appends};
 ghost use Rattle.print.specs.Text.{digits, decimal, spaced, line, tokensLine, headingLine, entryLine, refusalLine};
-ghost use Rattle.print.specs.Table.{placeText, storedNames};
+ghost use Rattle.print.specs.Lines.{storedNames};
 ghost use Rattle.sheet.specs.Names.{nameIn};
 
 // ---- pieces of a line, each from the place where the last one ended
@@ -134,7 +134,7 @@ fn append_values(out: &mut [u8], at: usize, values: &[i64]) -> usize
 }
 
 // The byte at a place, or 0 beyond the list.
-fn byte_at(list: &[u8], i: usize) -> u8
+pub fn byte_at(list: &[u8], i: usize) -> u8
     ensures { λ r. ⌜ r ≡ getD (now (list .entry)) i 0 ⌝ }
 {
     if i < list.len() {
@@ -250,37 +250,4 @@ pub fn text(bytes: &[u8], out: &mut [u8]) -> usize
     ensures { λ r. ⌜ Appends 0 (now (bytes .entry)) (now (out .entry)) (now (out .exit)) r ⌝ }
 {
     append_bytes(out, 0, bytes)
-}
-
-// The line of the entry at a place, counted by state and letter; nothing where the entry is 65,535, where there is no such place, or where the
-// streams have no letters, or more of either than a sheet can have.
-pub fn entry_text(
-    entries: &[u16],
-    finals: &[u8],
-    lows: &[i64],
-    highs: &[i64],
-    place: usize,
-    out: &mut [u8],
-) -> usize
-    ensures { λ r. ⌜ Appends 0 (placeText (now (lows .entry)) (now (highs .entry)) (now (entries .entry)) (now (finals .entry)) place) (now (out .entry)) (now (out .exit)) r ⌝ }
-{
-    if entries.len() <= place {
-        return 0;
-    }
-    let next = entries[place];
-    if next == 65535 {
-        return 0;
-    }
-    let count = letters::letter_count(lows, highs) as usize;
-    if count == 0 {
-        return 0;
-    }
-    let letter = (place % count) as u32;
-    let mut values = [0i64; 8];
-    if !letters::letter_values(lows, highs, letter, &mut values) {
-        return 0;
-    }
-    let state = place / count;
-    let streams = fewer(lows.len(), highs.len());
-    entry_line(state, byte_at(finals, state), &values[..streams], next, out)
 }

@@ -19,12 +19,13 @@ use Rattle.sheet.specs.Reading.{anyOf, isIntegerBeyond, allExpressions, sidesBe
 use Rattle.parse.specs.Stored.{store}
 use Rattle.parse.specs.Bounded.{boundedConstraint}
 use Rattle.reader.specs.Constraints.{State, state, counts, LinesFit, ConstraintsOutcome}
-use Rattle.refusals.specs.Names.{namesRefused, formRefusal}
+use Rattle.lowest_refusal.specs.Tested.{formRefusal}
+use Rattle.refusals.specs.Names.{namesRefused}
 use Rattle.refusals.specs.Places.{saidTokens}
-use Rattle.reader.specs.Stored.{padded, relationsOf, leftsOf, rightsOf, refusedReading, readingOf}
-use Rattle.reader.specs.Streams.{StreamTables, StreamsOutcome, KindsOutcome}
+use Rattle.header.specs.Streams.{padded, StreamTables, StreamsOutcome, KindsOutcome}
+use Rattle.reader.specs.Stored.{relationsOf, leftsOf, rightsOf, refusedReading, readingOf}
 use Rattle.reader.specs.Held.{constraintTables, Held, HeldSheet, HeldReading}
-use Rattle.reader.specs.declared.StreamsRead.{StreamsRead}
+use Rattle.header.specs.declared.StreamsRead.{StreamsRead}
 use Rattle.reader.specs.declared.Reading.{Reading}
 use Rattle.reader.proofs.Stored.{withAll, withAll-nodes, withAll-relations, withAll-lefts, withAll-rights}
 use Rattle.reader.proofs.Room.{sets-padded}

@@ -27,7 +27,7 @@ use Rattle.nodes.proofs.Postfix.{length-postfix}
 use Rattle.nodes.proofs.FirstPlaces.{places-long, allPlaces-long}
 use Rattle.arithmetic.proofs.Machine.{held, number-cast}
 use Rattle.reader.specs.FirstNodes.{withFirsts, FewFirsts}
-use Rattle.reader.specs.Stored.{padded}
+use Rattle.header.specs.Streams.{padded}
 use Rattle.reader.proofs.Elements.{drop-next}
 use Rattle.reader.proofs.Room.{sets-padded}
 use Rattle.reader.proofs.Unknown.{operator-beyond}

@@ -20,11 +20,10 @@ use Rattle.sheet.proofs.Parser.{andThen-some}
 use Rattle.refusals.specs.Places.{saidTokens}
 use Rattle.reader.specs.Constraints.{State, state, counts, readAll, ConstraintsOutcome}
 use Rattle.reader.specs.Constraints as constraints
-use Rattle.reader.specs.Stored.{padded, streamKindCodes}
-use Rattle.reader.specs.Streams.{StreamTables, streamTablesOf, streamsRead, StreamsOutcome, KindsOutcome, noKinds, kindsRead}
-use Rattle.reader.specs.Streams as streams
-use Rattle.reader.specs.declared.StreamsRead.{StreamsRead}
-use Rattle.reader.proofs.StreamKinds.{kinds-streamsRead, kinds-tables, kinds-codes}
+use Rattle.header.specs.Streams.{padded, streamKindCodes, StreamTables, streamTablesOf, streamsRead, StreamsOutcome, KindsOutcome, noKinds, kindsRead}
+use Rattle.header.specs.Streams as streams
+use Rattle.header.specs.declared.StreamsRead.{StreamsRead}
+use Rattle.header.proofs.StreamKinds.{kinds-streamsRead, kinds-tables, kinds-codes}
 use Rattle.reader.proofs.Stored.{withAll, readAll-constraints}
 use Rattle.reader.proofs.Counts.{withAll-counts}
 

@@ -17,13 +17,13 @@ use Rattle.sheet.specs.Refusal.{sheet}
 use Rattle.sheet.specs.Reading.{anyOf, isRangeFaulty, isIntegerBeyond, allExpressions, answerToSheet}
 use Rattle.parse.specs.Bounded.{zeroBeyond, boundedConstraint}
 use Rattle.reader.specs.Constraints.{State, counts}
-use Rattle.reader.specs.Stored.{padded, relationsOf, leftsOf, rightsOf, storedSheet, refusedReading, readingOf}
-use Rattle.reader.specs.Streams.{StreamTables}
+use Rattle.header.specs.Streams.{padded, StreamTables}
+use Rattle.reader.specs.Stored.{relationsOf, leftsOf, rightsOf, storedSheet, refusedReading, readingOf}
 use Rattle.reader.specs.FirstNodes.{withFirsts, FewFirsts}
 use Rattle.reader.specs.Tested.{testedAs}
 use Rattle.reader.specs.Held.{constraintTables, Held}
-use Rattle.reader.specs.declared.StreamsRead.{StreamsRead}
-use Rattle.refusals.specs.declared.Tested.{Tested}
+use Rattle.header.specs.declared.StreamsRead.{StreamsRead}
+use Rattle.lowest_refusal.specs.declared.Tested.{Tested}
 use Rattle.reader.specs.declared.Reading.{Reading}
 use Rattle.reader.proofs.Room.{length-padded, take-padded}
 use Rattle.reader.proofs.Tests.{storedLows, storedHighs, NothingCut, acceptedAs, Told, isRefused, isSheet, tests-told}

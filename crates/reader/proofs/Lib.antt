@@ -1,7 +1,5 @@
 pub mod Constraints
 pub mod Stored
-pub mod Streams
-pub mod StreamKinds
 pub mod Elements
 pub mod Unknown
 pub mod Room

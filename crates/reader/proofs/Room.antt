@@ -6,7 +6,7 @@ use native.Mathlib.Omega.{arith}
 use lib.ListN.{length, take, drop, replicate, length-append, length-replicate}
 use lib.Seq.{sets, sets-eq, take-at}
 use Rattle.basics.proofs.Lists.{drop-replicate}
-use Rattle.reader.specs.Stored.{padded}
+use Rattle.header.specs.Streams.{padded}
 
 module _ {A : Type 0} (z : A) where
   -- A list that is stored from the start of empty room.

@@ -27,10 +27,10 @@ use Rattle.refusals.specs.Names.{namesRefused}
 use Rattle.reader.specs.Stored.{leftsOf, rightsOf}
 use Rattle.reader.specs.Unknown.{someUnknown}
 use Rattle.reader.specs.Extent.{noExtent, extentFrom}
-use Rattle.refusals.specs.Tested.{failedAs}
+use Rattle.lowest_refusal.specs.Tested.{failedAs}
 use Rattle.reader.specs.Tested.{testedBy, testedAs}
 use Rattle.reader.specs.declared.Extent.{Extent}
-use Rattle.refusals.specs.declared.Tested.{Tested}
+use Rattle.lowest_refusal.specs.declared.Tested.{Tested}
 use Rattle.reader.proofs.Unknown.{unknown-names, bounded-names}
 use Rattle.reader.proofs.SheetExtent.{extent-sheet}
 

@@ -14,9 +14,9 @@ use Rattle.sheet.specs.Reading.{anyOf, isIntegerBeyond, allExpressions, answerT
 use Rattle.parse.specs.Bounded.{boundedConstraint}
 use Rattle.reader.specs.Constraints.{State, state, counts}
 use Rattle.refusals.specs.Names.{namesRefused}
-use Rattle.reader.specs.Stored.{padded, streamKindCodes, relationsOf, leftsOf, rightsOf, readingOf}
-use Rattle.reader.specs.Streams.{StreamTables, streamTablesOf, streamsRead}
-use Rattle.reader.specs.declared.StreamsRead.{StreamsRead}
+use Rattle.header.specs.Streams.{padded, streamKindCodes, StreamTables, streamTablesOf, streamsRead}
+use Rattle.reader.specs.Stored.{relationsOf, leftsOf, rightsOf, readingOf}
+use Rattle.header.specs.declared.StreamsRead.{StreamsRead}
 use Rattle.reader.specs.declared.Reading.{Reading}
 
 -- The tables and counts of the constraints. An integer beyond the magnitude bound is stored as 0; such a sheet is refused.

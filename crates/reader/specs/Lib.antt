@@ -1,5 +1,4 @@
 pub mod Stored
-pub mod Streams
 pub mod Constraints
 pub mod Unknown
 pub mod Extent

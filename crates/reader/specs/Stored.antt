@@ -1,34 +1,19 @@
 -- The stored form of an answer: a refusal's number with a sheet of zeros, or 0 with the stored sheet (document 01, "Room beyond the used
 -- rows, and in a list beyond what is given, is zero").
-use Prim.Native.Nat.{ℕ, _-_}
-use mathlib.Core.List.{List, _++_, map}
+use Prim.Native.Nat.{ℕ}
+use mathlib.Core.List.{List, map}
 use lib.IntN.{pos}
 use lib.ListN.{length, replicate}
-use Rattle.meaning.specs.Expression.{Stream, Sheet}
+use Rattle.meaning.specs.Expression.{Sheet}
 use Rattle.meaning.specs.Letter.{letterCount}
-use Rattle.meaning.specs.Window.{joinOver, allFirsts, allUntils, B, D}
+use Rattle.meaning.specs.Window.{allFirsts, allUntils, B, D}
 use Rattle.sheet.specs.Refusal.{Answer, refused, sheet}
-use Rattle.sheet.specs.Names.{eightBytes}
 use Rattle.nodes.specs.Postfix.{StoredConstraint, allNodes, storedConstraints, kindsOf, valuesOf, startsOf}
-use Rattle.nodes.specs.Code.{streamKindCode}
 use Rattle.nodes.specs.FirstPlaces.{allFirstPlaces}
 use Rattle.nodes.specs.Bounds.{lowsOf, highsOf}
+use Rattle.header.specs.Streams.{padded, nameBytes, nameLengths, streamKindCodes}
 use Rattle.reader.specs.declared.StoredSheet.{StoredSheet}
 use Rattle.reader.specs.declared.Reading.{Reading}
-
--- The list in room for n elements.
-abbrev pub padded : {X : Type 0} → ℕ → X → List X → List X
-padded n z l = l ++ replicate (n - length l) z
-
--- Eight bytes for each name.
-abbrev pub nameBytes : List Stream → List ℕ
-nameBytes ss = joinOver eightBytes ss
-
-abbrev pub nameLengths : List Stream → List ℕ
-nameLengths ss = map (λ x. length (x .name)) ss
-
-abbrev pub streamKindCodes : List Stream → List ℕ
-streamKindCodes ss = map (λ x. streamKindCode (x .kind)) ss
 
 abbrev pub relationsOf : List StoredConstraint → List ℕ
 relationsOf ts = map (λ t. t .relation) ts

@@ -11,8 +11,8 @@ use Rattle.letters.specs.Described.{described, cutCount}
 use Rattle.reader.specs.Unknown.{someUnknown}
 use Rattle.reader.specs.Extent.{noExtent, extentFrom}
 use Rattle.reader.specs.declared.Extent.{Extent}
-use Rattle.refusals.specs.declared.Tested.{Tested}
-use Rattle.refusals.specs.Tested.{testedWith}
+use Rattle.lowest_refusal.specs.declared.Tested.{Tested}
+use Rattle.lowest_refusal.specs.Tested.{testedWith}
 
 -- Refusals 6 and 7, from the extent of all sides and the number of letters.
 abbrev pub testedBy : Extent → ℕ → ℕ → ℕ → Tested

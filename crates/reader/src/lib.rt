@@ -1,6 +1,8 @@
 // Reads a sheet's bytes: gives the lowest refusal 1 to 7, or the stored sheet.
 use basics::either;
 use basics::larger;
+use header::StreamArrays;
+use header::StreamsRead;
 ghost use mathlib.Core.Path.{_≡_};
 ghost use mathlib.Core.Bool.{false, cond};
 ghost use Prim.Native.Nat.{_+_, _*_, _<_, _≤_};
@@ -9,7 +11,7 @@ ghost use lib.ListN.{length, set, replicate};
 ghost use lib.Seq.{sets};
 ghost use Rattle.reader.specs.Constraints.{state, counts, LinesFit, ConstraintsOutcome};
 ghost use Rattle.reader.specs.Stored.{refusedReading, readingOf};
-ghost use Rattle.reader.specs.Streams.{streamTables, noStreamTables, StreamsOutcome, KindsOutcome};
+ghost use Rattle.header.specs.Streams.{streamTables};
 ghost use Rattle.reader.specs.Unknown.{isUnknown, someUnknown};
 ghost use Rattle.reader.specs.Extent.{noExtent, withSummary, extentFrom};
 ghost use Rattle.reader.specs.FirstNodes.{withFirsts, FewFirsts};
@@ -56,22 +58,7 @@ pub struct Reading {
     pub sheet: StoredSheet,
 }
 
-// Whether the header lines have the form, how many streams they give, and whether a range is refused.
-struct StreamsRead {
-    ok: bool,
-    count: usize,
-    faulty: bool,
-}
-
-// What is stored of the streams, and of the constraints.
-struct StreamArrays {
-    names: [u8; 64],
-    lengths: [u8; 8],
-    lows: [i64; 8],
-    highs: [i64; 8],
-    stream_kinds: [u8; 8],
-}
-
+// What is stored of the constraints.
 struct ConstraintArrays {
     kinds: [u8; 1024],
     values: [i64; 1024],
@@ -235,123 +222,6 @@ fn read_constraints(
     }
 }
 
-// Stores a stream's name.
-fn put_name(names: &mut [u8; 64], lengths: &mut [u8; 8], stream: usize, name: &[u8])
-    requires { ⌜ (stream < 8) × (length (now name) ≤ 8) ⌝ }
-    ensures { λ r. ⌜ (now (names .exit) ≡ sets (now (names .entry)) (stream * 8) (now (name .entry))) × (now (lengths .exit) ≡ set (now (lengths .entry)) stream (length (now (name .entry)))) ⌝ }
-{
-    let from = stream * 8;
-    let mut i = 0;
-    while i < name.len() {
-        names[from + i] = name[i];
-        i += 1;
-    }
-    lengths[stream] = name.len() as u8;
-}
-
-// Stores a stream's range.
-fn put_range(lows: &mut [i64; 8], highs: &mut [i64; 8], stream: usize, low: i64, high: i64)
-    requires { ⌜ stream < 8 ⌝ }
-    ensures { λ r. ⌜ (now (lows .exit) ≡ set (now (lows .entry)) stream low) × (now (highs .exit) ≡ set (now (highs .entry)) stream high) ⌝ }
-{
-    lows[stream] = low;
-    highs[stream] = high;
-}
-
-fn no_streams() -> StreamsRead
-    ensures { λ r. ⌜ r .ok ≡ false ⌝ }
-{
-    StreamsRead {
-        ok: false,
-        count: 0,
-        faulty: false,
-    }
-}
-
-// Reads the three header lines token by token and stores the streams.
-fn read_streams(
-    names_line: &[u8],
-    lows_line: &[u8],
-    highs_line: &[u8],
-    names: &mut [u8; 64],
-    lengths: &mut [u8; 8],
-    lows: &mut [i64; 8],
-    highs: &mut [i64; 8],
-) -> StreamsRead
-    requires { ⌜ length (tokens (now «names_line»)) ≤ 8 ⌝ }
-    requires { ⌜ streamTables (now names) (now lengths) (now lows) (now highs) ≡ noStreamTables ⌝ }
-    ensures { λ r. ⌜ StreamsOutcome (tokens (now («names_line» .entry))) (tokens (now («lows_line» .entry))) (tokens (now («highs_line» .entry))) r (streamTables (now (names .exit)) (now (lengths .exit)) (now (lows .exit)) (now (highs .exit))) ⌝ }
-{
-    let mut count: usize = 0;
-    let mut faulty = false;
-    let mut name_at = 0;
-    let mut low_at = 0;
-    let mut high_at = 0;
-    loop {
-        let name = scan::next_token(names_line, name_at);
-        let name_start = name.start;
-        let name_end = name.end;
-        let low = scan::next_token(lows_line, low_at);
-        let low_start = low.start;
-        let low_end = low.end;
-        let high = scan::next_token(highs_line, high_at);
-        let high_start = high.start;
-        let high_end = high.end;
-        if name_start == name_end {
-            return StreamsRead {
-                ok: (low_start == low_end) & (high_start == high_end),
-                count: count,
-                faulty: faulty,
-            };
-        }
-        let named = scan::is_name(&names_line[name_start..name_end]);
-        let lowest = scan::read_integer(&lows_line[low_start..low_end]);
-        let highest = scan::read_integer(&highs_line[high_start..high_end]);
-        if !(named & lowest.ok & highest.ok) {
-            return no_streams();
-        }
-        put_name(names, lengths, count, &names_line[name_start..name_end]);
-        put_range(lows, highs, count, lowest.value, highest.value);
-        faulty = either(
-            faulty,
-            refusals::range_faulty(lowest.beyond, highest.beyond, lowest.value, highest.value),
-        );
-        count += 1;
-        name_at = name_end;
-        low_at = low_end;
-        high_at = high_end;
-    }
-}
-
-// Reads the line of kinds, "one of these for each stream", and stores them; a line without tokens says nothing, and all are `set`.
-fn read_kinds(line: &[u8], count: usize, stream_kinds: &mut [u8; 8]) -> bool
-    requires { ⌜ (count ≤ 8) × (now «stream_kinds» ≡ replicate 8 0) ⌝ }
-    ensures { λ r. ⌜ KindsOutcome (tokens (now (line .entry))) count r (now («stream_kinds» .exit)) ⌝ }
-{
-    let total = scan::token_count(line);
-    if total == 0 {
-        return true;
-    }
-    if total != count {
-        return false;
-    }
-    let mut stream = 0;
-    let mut at = 0;
-    while stream < count {
-        let token = scan::next_token(line, at);
-        let start = token.start;
-        let end = token.end;
-        let kind = scan::stream_kind_code(&line[start..end]);
-        if kind == nodes::NO_CODE {
-            return false;
-        }
-        stream_kinds[stream] = kind;
-        stream += 1;
-        at = end;
-    }
-    true
-}
-
 // Whether a node is a name that is none of the streams.
 fn is_unknown(kind: u8, value: i64, streams: i64) -> bool
     requires { ⌜ streams ≡ pos (natAbs streams) ⌝ }
@@ -462,14 +332,14 @@ fn test_stored(
     faulty: bool,
     untils: usize,
     firsts: usize,
-) -> refusals::Tested
+) -> lowest_refusal::Tested
     requires { ⌜ (length (now values) ≡ length (now kinds)) × (length (now lows) ≤ 8) × (length (now rights) ≡ length (now lefts)) ⌝ }
     ensures { λ r. ⌜ r ≡ testedAs (stored (now (kinds .entry)) (now (values .entry)) (now (starts .entry))) (now (lows .entry)) (now (highs .entry)) (now (lefts .entry)) (now (rights .entry)) faulty untils firsts ⌝ }
 {
     let unknown = some_unknown(kinds, values, lows.len());
     let extent = extent_of(kinds, values, starts, lows, highs, lefts, rights);
     let letters = letters::letter_count(lows, highs);
-    refusals::lowest_refusal(
+    lowest_refusal::lowest_refusal(
         unknown,
         faulty,
         extent.ok,
@@ -563,27 +433,14 @@ fn read_lines(
     requires { ⌜ (length (tokens (now «names_line»)) ≤ 8) × LinesFit (lines (now text)) ⌝ }
     ensures { λ r. ⌜ r ≡ readingOf (answerToForm (formOfLines (tokens (now («names_line» .entry))) (tokens (now («lows_line» .entry))) (tokens (now («highs_line» .entry))) (saidTokens (tokens (now («kinds_line» .entry)))) (lines (now (text .entry))))) ⌝ }
 {
-    let mut names: [u8; 64] = [0; 64];
-    let mut lengths: [u8; 8] = [0; 8];
-    let mut lows: [i64; 8] = [0; 8];
-    let mut highs: [i64; 8] = [0; 8];
-    let streams = read_streams(
-        names_line,
-        lows_line,
-        highs_line,
-        &mut names,
-        &mut lengths,
-        &mut lows,
-        &mut highs,
-    );
+    let header = header::read_header(names_line, lows_line, highs_line, kinds_line);
+    let streams = header.streams;
     if !streams.ok {
         return refused(3);
     }
     if streams.count == 0 {
         return refused(3);
     }
-    let mut stream_kinds: [u8; 8] = [0; 8];
-    let said = read_kinds(kinds_line, streams.count, &mut stream_kinds);
     let mut token_starts: [usize; 1024] = [0; 1024];
     let mut kinds: [u8; 1024] = [0; 1024];
     let mut values: [i64; 1024] = [0; 1024];
@@ -602,8 +459,8 @@ fn read_lines(
         &mut lefts,
         &mut rights,
     );
-    let refusal = refusals::form_refusal(
-        !(said & constraints.ok),
+    let refusal = lowest_refusal::form_refusal(
+        !(header.said & constraints.ok),
         refusals::names_refused(names_line),
     );
     if refusal != 0 {
@@ -611,13 +468,7 @@ fn read_lines(
     }
     store_sheet(
         streams,
-        StreamArrays {
-            names: names,
-            lengths: lengths,
-            lows: lows,
-            highs: highs,
-            stream_kinds: stream_kinds,
-        },
+        header.arrays,
         constraints,
         ConstraintArrays {
             kinds: kinds,

@@ -20,7 +20,7 @@ use Rattle.sheet.specs.Refusal.{isAllowed, tokenCount}
 use Rattle.sheet.specs.Reading.{anyOf, tooDeepFrom, refuses1, refuses2}
 use Rattle.scan.specs.Place as place
 use Rattle.scan.specs.Place.{TokenAt, noToken, aToken, LineAt, noLine, endedLine, lastLine}
-use Rattle.scan.specs.Word.{codeOr255}
+use Rattle.vocabulary.specs.Word.{codeOr255}
 use Rattle.scan.specs.declared.Span.{Span}
 use Rattle.scan.specs.declared.LineSpan.{LineSpan}
 use Rattle.scan.proofs.Lines.{line-within}

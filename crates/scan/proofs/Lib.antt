@@ -1,7 +1,6 @@
 pub mod Tokens
+pub mod Names
 pub mod Lines
-pub mod Words
-pub mod Codes
 pub mod Integers
 pub mod Partners
 pub mod Functional

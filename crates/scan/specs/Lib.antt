@@ -1,4 +1,3 @@
 pub mod Place
-pub mod Word
 pub mod Integer
 pub mod Start

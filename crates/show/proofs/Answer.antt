@@ -24,7 +24,8 @@ use Rattle.sheet.proofs.Reading.{answer-correct}
 use Rattle.sheet.proofs.Accepted.{accepted-facts}
 use Rattle.sheet.proofs.Names.{short-names}
 use Rattle.reader.specs.declared.Reading.{Reading}
-use Rattle.reader.specs.Stored.{storedSheet, readingOf, nameBytes, nameLengths}
+use Rattle.header.specs.Streams.{nameBytes, nameLengths}
+use Rattle.reader.specs.Stored.{storedSheet, readingOf}
 use Rattle.outcome.specs.Compile.{CompileAnswer}
 use Rattle.situations.proofs.Stored.{part-held, lows-part, highs-part}
 use Rattle.lend.specs.Lend.{rowsLent, HasOutcome, isRefused, isCompiled, LentCall}
@@ -33,8 +34,9 @@ use Rattle.pages.specs.Output.{Printout, tableLine, outputText}
 use Rattle.pages.proofs.Refused.{refused-text}
 use Rattle.pages.proofs.Output.{table-text}
 use Rattle.print.specs.Text.{refusalLine}
-use Rattle.print.specs.Table.{printed, AllFit}
-use Rattle.print.proofs.Table.{printed-part}
+use Rattle.table_text.specs.Table.{printed}
+use Rattle.print.specs.Lines.{AllFit}
+use Rattle.table_text.proofs.Table.{printed-part}
 use Rattle.show.specs.declared.Printed.{Printed}
 use Rattle.show.specs.Answer.{Prints, refused, compiled, HasTableOutput, Shown, printoutOf, HasRanges, CompiledWith}
 

@@ -5,7 +5,7 @@ use mathlib.Core.List.{List, [], _∷_}
 use lib.IntN.{ℤ}
 use lib.ListN.{length, getD, take}
 use Rattle.reader.specs.declared.StoredSheet.{StoredSheet}
-use Rattle.print.specs.Table.{AllFit}
+use Rattle.print.specs.Lines.{AllFit}
 use Rattle.pages.specs.Lines.{lineRoom}
 use Rattle.pages.specs.Output.{Printout, outputAt, placesOf}
 use Rattle.pages.proofs.Output.{line-short}

@@ -10,7 +10,8 @@ use Rattle.outcome.specs.Compile.{CompileAnswer, Tables}
 use Rattle.lend.specs.Lend.{CompiledLent, RefusedLent, LentCall}
 use Rattle.output.specs.Output.{Hands}
 use Rattle.print.specs.Text.{refusalLine}
-use Rattle.print.specs.Table.{printed, AllFit}
+use Rattle.table_text.specs.Table.{printed}
+use Rattle.print.specs.Lines.{AllFit}
 use Rattle.pages.specs.Output.{Printout, outputText}
 use Rattle.show.specs.declared.Printed.{Printed}
 

@@ -15,7 +15,8 @@ use Rattle.meaning.specs.Letter.{letterCount}
 use Rattle.sheet.specs.Reading.{answerTo}
 use Rattle.sheet.proofs.Accepted.{accepted-facts}
 use Rattle.sheet.proofs.Names.{short-names}
-use Rattle.reader.specs.Stored.{storedSheet, readingOf, nameBytes, nameLengths}
+use Rattle.header.specs.Streams.{nameBytes, nameLengths}
+use Rattle.reader.specs.Stored.{storedSheet, readingOf}
 use Rattle.situations.proofs.Stored.{part-held, lows-part, highs-part, sheet-letters}
 use Rattle.outcome.specs.Room.{zeros}
 use Rattle.outcome.specs.Compile.{CompileAnswer, Tables}

@@ -7,7 +7,7 @@ use output::Handed;
 ghost use mathlib.Core.Path.{_≡_};
 ghost use Prim.Native.Nat.{_*_, _≤_, min};
 ghost use lib.ListN.{length, take};
-ghost use Rattle.print.specs.Table.{AllFit};
+ghost use Rattle.print.specs.Lines.{AllFit};
 ghost use Rattle.show.specs.Answer.{HasRanges};
 ghost use Rattle.opening.specs.Start.{startText};
 ghost use Rattle.course_text.specs.Output.{courseOutput};

@@ -25,7 +25,8 @@ use Rattle.outcome.specs.Compile.{CompileAnswer, refusedAnswer, Tables, allZero
 use Rattle.outcome.specs.Force.{sheetGame, HoldsPlay, unread, notCompiled, prevented, forced, ForceCall}
 use Rattle.outcome.proofs.AcceptedCompile.{refusal-positive}
 use Rattle.reader.specs.declared.Reading.{Reading}
-use Rattle.reader.specs.Stored.{storedSheet, readingOf, nameBytes, nameLengths}
+use Rattle.header.specs.Streams.{nameBytes, nameLengths}
+use Rattle.reader.specs.Stored.{storedSheet, readingOf}
 use Rattle.situations.proofs.Stored.{part-held, lows-part, highs-part, sheet-letters}
 use Rattle.compiled_sheet.specs.Told.{sheetStreams}
 use Rattle.compiled_sheet.proofs.Sheets.{stored-description, stored-streams-fit}
@@ -36,7 +37,7 @@ use Rattle.lend.proofs.Rows.{lent-entries}
 use Rattle.lend.proofs.Outcome.{stored-is}
 use Rattle.output.specs.declared.Handed.{Handed}
 use Rattle.print.specs.Text.{refusalLine}
-use Rattle.print.proofs.Places.{getD-inside}
+use Rattle.table_text.proofs.Places.{getD-inside}
 use Rattle.pages.proofs.Refused.{refused-text}
 use Rattle.play_text.specs.Play.{playText}
 use Rattle.play_text.specs.Output.{playLine, playOutput}

@@ -18,7 +18,8 @@ use Rattle.nodes.specs.Bounds.{lowsOf, highsOf}
 use Rattle.nodes.specs.FirstPlaces.{allFirstPlaces}
 use Rattle.nodes.specs.Postfix.{Node, node, StoredConstraint, allNodes, storedConstraints}
 use Rattle.reader.specs.declared.StoredSheet.{StoredSheet}
-use Rattle.reader.specs.Stored.{padded, relationsOf, leftsOf, rightsOf, storedSheet}
+use Rattle.header.specs.Streams.{padded}
+use Rattle.reader.specs.Stored.{relationsOf, leftsOf, rightsOf, storedSheet}
 use Rattle.nodes.proofs.FirstPlaces.{allPlaces-long}
 use Rattle.nodes.specs.Evaluate.{stored}
 use Rattle.extend.specs.Step.{storeOf}

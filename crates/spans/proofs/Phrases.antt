@@ -13,9 +13,9 @@ use Rattle.meaning.specs.Arithmetic.{and}
 use Rattle.sheet.specs.Vocabulary.{Infix, operatorTokens, operatorOf, Prefix, prefixOf}
 use Rattle.scan.specs.declared.Span.{Span}
 use Rattle.scan.specs.Place.{TokenAt, noToken, aToken}
-use Rattle.scan.specs.Word.{codeOr255, infixCode, prefixCode}
+use Rattle.vocabulary.specs.Word.{codeOr255, infixCode, prefixCode}
 use Rattle.scan.proofs.Tokens.{between-none}
-use Rattle.scan.proofs.Words.{code-some}
+use Rattle.vocabulary.proofs.Words.{code-some}
 use Rattle.spans.specs.Token.{span, tokenFrom}
 use Rattle.spans.specs.Spans.{Spanned, spanned, closed, tokenIn, branchesBy, spanAfterPart, expressionSpan, partSpanTo, constraintSpan}
 use Rattle.spans.specs.Stored.{spanBound, putSpans, PlaceIn, StoresSpans}

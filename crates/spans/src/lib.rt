@@ -46,12 +46,12 @@ fn part(text: &[u8], at: usize, spans: &mut [u16; 2048], count: usize) -> Reache
         };
     }
     let word = &text[start..end];
-    let kind = scan::prefix_code(word);
+    let kind = vocabulary::prefix_code(word);
     if kind != nodes::NO_CODE {
         let inner = part(text, end, spans, count);
         return put(spans, inner.count, start, inner.next);
     }
-    if scan::is_opening(word) {
+    if vocabulary::is_opening(word) {
         let inner = expression(text, end, spans, count);
         let close = scan::next_token(text, inner.next);
         return Reached {
@@ -82,7 +82,7 @@ fn expression(text: &[u8], at: usize, spans: &mut [u16; 2048], count: usize) -> 
     let token = scan::next_token(text, at);
     let start = token.start;
     let end = token.end;
-    if scan::is_if(&text[start..end]) {
+    if vocabulary::is_if(&text[start..end]) {
         let inside = branches(text, end, spans, count);
         return put(spans, inside.count, start, inside.next);
     }
@@ -90,7 +90,7 @@ fn expression(text: &[u8], at: usize, spans: &mut [u16; 2048], count: usize) -> 
     let sign = scan::next_token(text, left.next);
     let sign_start = sign.start;
     let sign_end = sign.end;
-    if scan::operator_code(&text[sign_start..sign_end]) == nodes::NO_CODE {
+    if vocabulary::operator_code(&text[sign_start..sign_end]) == nodes::NO_CODE {
         return left;
     }
     let right = part(text, sign_end, spans, left.count);

@@ -56,7 +56,7 @@ fn name_fits(names: &[u8], lengths: &[u8], stream: usize) -> bool
     if !scan::is_name(&names[from..to]) {
         return false;
     }
-    if scan::is_reserved(&names[from..to]) {
+    if vocabulary::is_reserved(&names[from..to]) {
         return false;
     }
     is_new(names, lengths, stream)

@@ -34,7 +34,8 @@ use Rattle.compiled.specs.Answer.{answerOf}
 use Rattle.compiled_sheet.specs.Told.{compiledIn, SheetCall}
 use Rattle.compiled_sheet.specs.declared.CompiledSheet.{CompiledSheet}
 use Rattle.compiled_sheet.proofs.Sheets.{letters-told, told-fit}
-use Rattle.course.specs.Outcome.{IsFit, IsShort, BestCourse, CourseCall}
+use Rattle.course_tests.specs.Refusals.{IsFit, IsShort}
+use Rattle.course.specs.Outcome.{BestCourse, CourseCall}
 use Rattle.course.proofs.Outcome.{call-functional}
 use Rattle.theorems.specs.UsedRows.{usedEntries, usedFinals}
 use Rattle.theorems.specs.Courses.{LeadsToFinal, changesIn}

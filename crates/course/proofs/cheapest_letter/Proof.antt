@@ -9,7 +9,8 @@ use borrow.Author.Needs.{needs}
 use Rattle.basics.specs.Lists.{at}
 use Rattle.basics.proofs.Lists.{row-fits}
 use Rattle.automaton.proofs.WellFormed.{place-inside, whole-entries, some-row-entry}
-use Rattle.course.specs.Costs.{Layered, layeredIn, noCourse, behind, totalCost}
+use Rattle.course_tests.specs.Cost.{noCourse, totalCost}
+use Rattle.course.specs.Costs.{Layered, layeredIn, behind}
 use Rattle.course.proofs.Cheapest.{total-small, IsFirstLeast, least-start, least-lower, least-kept, least-end}
 use Rattle.course.proofs.cheapest_letter.Statement.{statement}
 use Rattle.course.proofs.cheapest_letter.Tie as tie

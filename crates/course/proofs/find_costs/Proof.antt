@@ -7,7 +7,7 @@ use Rattle.basics.specs.Lists.{at}
 use Rattle.automaton.proofs.WellFormed.{whole-entries}
 use Rattle.changes.specs.Axes.{axesIn}
 use Rattle.changes.proofs.Axes.{axes-few}
-use Rattle.course.specs.Costs.{Layered, layeredIn}
+use Rattle.course.specs.Costs.{layeredIn}
 use Rattle.course.proofs.Queue.{queue-most}
 use Rattle.course.proofs.Costs.{KnownFrom, known-start, known-passed, known-more, known-end}
 use Rattle.course.proofs.find_costs.Statement.{statement}

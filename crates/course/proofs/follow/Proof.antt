@@ -7,7 +7,8 @@ use Rattle.basics.specs.Lists.{at}
 use Rattle.automaton.specs.Layers.{IsFirstCheapest}
 use Rattle.automaton.proofs.WellFormed.{place-inside}
 use Rattle.changes.specs.Axes.{axesIn}
-use Rattle.course.specs.Costs.{Layered, layeredIn, noCourse, costAt}
+use Rattle.course_tests.specs.Cost.{noCourse}
+use Rattle.course.specs.Costs.{Layered, layeredIn, costAt}
 use Rattle.course.proofs.Following.{Following, following-start, following-length, following-first, following-next, following-end}
 use Rattle.course.proofs.follow.Statement.{statement}
 use Rattle.course.proofs.follow.Tie as tie

@@ -9,8 +9,8 @@ use Rattle.basics.proofs.Answers.{says-yes, says-no}
 use Rattle.automaton.specs.WellFormed.{mostRows}
 use Rattle.automaton.specs.Course.{CourseOutcome.unfit}
 use Rattle.changes.proofs.Streams.{shape-letters}
-use Rattle.course.specs.Outcome.{IsFit}
-use Rattle.course.specs.Queue.{notMet}
+use Rattle.course_tests.specs.Refusals.{IsFit}
+use Rattle.course_tests.specs.Goal.{notMet}
 use Rattle.course.proofs.Outcome.{outcome-refused, filled-length, filled-part}
 use Rattle.course.proofs.judged_course.Statement.{statement}
 use Rattle.course.proofs.judged_course.Tie as tie

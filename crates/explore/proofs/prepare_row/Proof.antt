@@ -2,8 +2,8 @@
 use mathlib.Core.Path.{sym, subst}
 use lib.ListN.{length}
 use borrow.Author.Needs.{needs}
-use Rattle.extend.specs.Step.{IsPreparable, Prepared}
-use Rattle.extend.proofs.PreparedLaws.{prepares-prepared}
+use Rattle.prepare.specs.Prepared.{IsPreparable, Prepared}
+use Rattle.prepare.proofs.PreparedLaws.{prepares-prepared}
 use Rattle.explore.proofs.ChainLaws.{row-part}
 use Rattle.explore.proofs.prepare_row.Statement.{statement}
 use Rattle.explore.proofs.prepare_row.Tie as tie

@@ -10,9 +10,10 @@ use native.Mathlib.Omega.{arith}
 use lib.ListN.{length}
 use Rattle.basics.proofs.Lists.{row-fits}
 use Rattle.explore.specs.Chains.{rowAt}
-use Rattle.extend.specs.Step.{Store, storeOf, IsKey, Prepared}
+use Rattle.prepare.specs.Prepared.{Prepared}
+use Rattle.extend.specs.Step.{Store, storeOf, IsKey}
 use Rattle.explore.specs.Search.{Turn, Kept, IsLent}
-use Rattle.extend.proofs.PreparedLaws.{key-preparable}
+use Rattle.extend.proofs.ExtendLaws.{key-preparable}
 use Rattle.explore.proofs.SearchLaws.{true-not-false, letter-values, reach-key, turn-begin, turn-row, turn-end, follow-fits, follow-old, follow-new, follow-full, kept-refl, kept-trans, kept-old, kept-new, kept-end, SameSizes, sizes-refl, sizes-trans, sizes-stored, sizes-lent}
 use Rattle.explore.proofs.search.Statement.{statement}
 use Rattle.explore.proofs.search.Tie as tie

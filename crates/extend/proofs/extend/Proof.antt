@@ -11,10 +11,11 @@ use borrow.Author.Tests.{not-true, not-false}
 use Rattle.basics.proofs.Answers.{says-yes, says-no}
 use Rattle.sheet.specs.Refusal.{windowBound, firstBound}
 use Rattle.sizes.specs.Room.{windowRoom, preparedSize}
-use Rattle.extend.specs.Key.{firstsIn}
-use Rattle.extend.specs.Step.{Store, storeOf, IsReady, constraintsWithin, withinBounds, withLetterAfter, SizesFit, Continues}
-use Rattle.extend.proofs.Parts.{part-size}
-use Rattle.extend.proofs.PreparedLaws.{one-more, window-room, letters-is, letters-part-long, firsts-is, firsts-part-long}
+use Rattle.prepare.specs.Key.{firstsIn}
+use Rattle.prepare.specs.Prepared.{withLetterAfter}
+use Rattle.extend.specs.Step.{Store, storeOf, IsReady, constraintsWithin, withinBounds, SizesFit, Continues}
+use Rattle.prepare.proofs.Parts.{part-size}
+use Rattle.prepare.proofs.PreparedLaws.{added-within, one-more, window-room, letters-is, letters-part-long, firsts-is, firsts-part-long}
 use Rattle.extend.proofs.ExtendLaws.{within-ready, part-ready, finished-parts}
 use Rattle.extend.proofs.extend.Statement.{statement}
 use Rattle.extend.proofs.extend.Tie as tie
@@ -135,9 +136,7 @@ fewer-requires-5 : tie.Need-fewer-requires-5
 fewer-requires-5 c κs = search needs
 
 add-letter-requires : tie.Need-add-letter-requires
-add-letter-requires c κs =
-    let few = c .before .before .before .before .before .before .before .bounded .ensures in
-    (omega (arith, few .0), omega (arith, c .before .fewer5 .ensures, few .2), omega (arith, room (c .before .before .before .before .before .before .before .before) .1))
+add-letter-requires c κs = search needs
 
 add-letters-end : tie.Need-add-letters-end
 add-letters-end c = search needs
@@ -226,7 +225,7 @@ returns-2 c =
     record {
       done = λ fit. subst (λ K. Continues K key (a .letter) (a .prepared .now) (a .fresh .now) (put .last .0) (c .before .before .finish .last .1 .1 .1 .1 .1 .1 .1 .1 .1 .1 .1 .1 .1 .1 .1 .0) (c .before .before .finish .result)) (cut-is at)
           (record {
-            put = put .ensures ∙ ap (λ n. withLetterAfter (cut at .streams) (a .letter-values .now) n (a .letter) (a .prepared .now)) (fewer .ensures);
+            put = added-within (ready at .few-streams) (few-held at) (omega (arith, sizes .1)) (put .ensures) ∙ ap (λ n. withLetterAfter (cut at .streams) (a .letter-values .now) n (a .letter) (a .prepared .now)) (fewer .ensures);
             finished = finished-parts (cut at) key (a .letter) (put .last .0)
                 (ap (λ n. take ((n + 1) * cut at .streams) (put .last .0)) (fewer .ensures))
                 (ap (λ n. take n (drop windowRoom (put .last .0))) (part-size windowRoom (firsts-count at) ∙ sym (firsts-left at)))

@@ -11,7 +11,7 @@ use borrow.Author.Tests.{not-true, not-false}
 use Rattle.sheet.specs.Refusal.{windowBound}
 use Rattle.basics.proofs.Tests.{not-both}
 use Rattle.nodes.specs.Evaluate.{view}
-use Rattle.extend.specs.Key.{encodedKey}
+use Rattle.prepare.specs.Key.{encodedKey}
 use Rattle.extend.specs.Step.{Store, storeOf, judgedIn}
 use Rattle.extend.proofs.StepLaws.{some-kept, none-kept, last-letters}
 use Rattle.extend.proofs.finish.Statement.{statement}

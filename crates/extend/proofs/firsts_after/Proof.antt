@@ -4,7 +4,7 @@ use mathlib.Core.Path.{_≡_, _∙_, sym, ap}
 use native.Mathlib.Omega.{arith}
 use lib.ListN.{length, take}
 use borrow.Author.Tests.{le-leb, lt-leb, lt-ltb, le-ltb}
-use Rattle.extend.proofs.KeyLists.{copied-all}
+use Rattle.prepare.proofs.KeyLists.{copied-all}
 use borrow.Author.Needs.{needs}
 use Rattle.extend.proofs.firsts_after.Statement.{statement}
 use Rattle.extend.proofs.firsts_after.Tie as tie

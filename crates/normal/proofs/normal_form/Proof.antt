@@ -50,23 +50,23 @@ use denote.Exit.{yes}
 use denote.Triple.Clauses.{ensured, lasts}
 use Rattle.sheet.specs.Reading.{answerTo}
 use Rattle.normal.specs.Outcome.{entriesFor}
-use Rattle.normal.specs.Table.{storedEntry, listed}
-use Rattle.normal.specs.declared.Entry.{Entry}
-use Rattle.normal.specs.declared.Made.{Made}
+use Rattle.normal_entries.specs.Entries.{storedEntry, listed}
+use Rattle.normal_entries.specs.declared.Entry.{Entry}
+use Rattle.normal_entries.specs.declared.Made.{Made}
 use Rattle.normal.proofs.Outcome.{normal-outcome}
-use Rattle.normal.proofs.Entry as T₀
-use Rattle.normal.proofs.Made as D₀
-use Rattle.normal.proofs.Made.Laws as D′
-use Rattle.normal.proofs.NormalForm as F₀
-use Rattle.normal.proofs.NormalForm.Laws as F′
+use Rattle.normal_entries.proofs.Entry as T₀
+use Rattle.normal_entries.proofs.Made as D₀
+use Rattle.normal_entries.proofs.Made.Laws as D′
+use Rattle.normal_entries.proofs.NormalForm as F₀
+use Rattle.normal_entries.proofs.NormalForm.Laws as F′
 use Rattle.normal.proofs.read_entries as read-entries
 use Rattle.normal.proofs.read_entries.Symbol as read-entries-def
 use Rattle.normal.proofs.read_entries.Symbol.{name as #normal·read-entries}
 use Rattle.normal.proofs.read_entries.Met as read-entries-thm
-use Rattle.normal.proofs.fill as fill
-use Rattle.normal.proofs.fill.Symbol as fill-def
-use Rattle.normal.proofs.fill.Symbol.{name as #normal·fill}
-use Rattle.normal.proofs.fill.Met as fill-thm
+use Rattle.normal_entries.proofs.fill as fill
+use Rattle.normal_entries.proofs.fill.Symbol as fill-def
+use Rattle.normal_entries.proofs.fill.Symbol.{name as #normal-entries·fill}
+use Rattle.normal_entries.proofs.fill.Met as fill-thm
 use Rattle.normal.proofs.normal_form.Key.{name as #normal·normal-form}
 use Rattle.normal.proofs.normal_form as normal-form
 use Rattle.normal.proofs.normal_form.Statement as stated
@@ -211,7 +211,7 @@ module _ {M : Type 1} (𝓤 : URA M) (H : Heap 𝓤) (A : Atoms 𝓤) (W : Given
       nothing ! $ move ! (1 ∷ 0 ∷ []) $ fjoin ! $ move ! (1 ∷ 0 ∷ []) $ fjoin ! $
       owned ! F₀.the-row (Is F₀.the-row) (LL.makes F₀.the-type F′.the-plain 𝓤 H A) (r .answer) _ is $ move ! (1 ∷ 0 ∷ []) $ done !
 
-  module _ (C : Calls 𝓤 H) (Λ : Loops 𝓤 H) (fm : FmC 𝓤 H (W .laws) C) (known-read : Triple 𝓤 (C #normal·read-entries) (ReadEntries 𝓤 H A at-mem run)) (known-fill : Triple 𝓤 (C #normal·fill) (Fill 𝓤 H A at-mem run)) where
+  module _ (C : Calls 𝓤 H) (Λ : Loops 𝓤 H) (fm : FmC 𝓤 H (W .laws) C) (known-read : Triple 𝓤 (C #normal·read-entries) (ReadEntries 𝓤 H A at-mem run)) (known-fill : Triple 𝓤 (C #normal-entries·fill) (Fill 𝓤 H A at-mem run)) where
     abbrev numbers-makes : Makes 𝓤 H A (Array u16 30944) (Is (Array u16 30944))
     numbers-makes = array-makes 𝓤 H A W u16 (uint-makes 𝓤 H A W w16) 30944
 
@@ -277,7 +277,7 @@ module _ {M : Type 1} (𝓤 : URA M) (H : Heap 𝓤) (A : Atoms 𝓤) (W : Given
         keep ! (1 ∷ 2 ∷ 4 ∷ 5 ∷ []) $ by ! (exits r (zs .0) e f len (answer-is r v is))))))))))))))))))))))))))))
 
 module _ {M : Type 1} (𝓤 : URA M) (H : Heap 𝓤) (A : Atoms 𝓤) (W : Given 𝓤 H A) (at-mem : Memory → SProp 𝓤) (run : Routine → Fun 𝓤) where
-  normal-form-walks : (C : Calls 𝓤 H) (Λ : Loops 𝓤 H) → FmC 𝓤 H (W .laws) C → Triple 𝓤 (C #normal·read-entries) (ReadEntries 𝓤 H A at-mem run) → Triple 𝓤 (C #normal·fill) (Fill 𝓤 H A at-mem run)
+  normal-form-walks : (C : Calls 𝓤 H) (Λ : Loops 𝓤 H) → FmC 𝓤 H (W .laws) C → Triple 𝓤 (C #normal·read-entries) (ReadEntries 𝓤 H A at-mem run) → Triple 𝓤 (C #normal-entries·fill) (Fill 𝓤 H A at-mem run)
       → Walks 𝓤 H A normal-form.ended stayed (WpFn 𝓤 H C Λ code.function) (normal-form.clauses 𝓤 H A at-mem run)
   normal-form-walks C Λ fm known-read known-fill =
       walked 𝓤 H A normal-form.ended stayed (normal-form.clauses 𝓤 H A at-mem run) (WpFn 𝓤 H C Λ code.function) (λ κs. (slice-vals, (slice-vals, tt)))
@@ -289,7 +289,7 @@ module _ {M : Type 1} (𝓤 : URA M) (H : Heap 𝓤) (A : Atoms 𝓤) (W : Given
   goes = (goes-none-slice 𝓤 H A W 2 (0 ∷ []) tt (plain (λ _. u8)) yes, (goes-gave-slice 𝓤 H A W 2 1 tt (plain (λ _. T₀.the-row)), tt))
 
 normal-form-meets : {M : Type 1} (𝓤 : URA M) (H : Heap 𝓤) (A : Atoms 𝓤) → Given 𝓤 H A → (at-mem : Memory → SProp 𝓤) (run : Routine → Fun 𝓤) (𝓣 : Tables 𝓤 H)
-    → Triple 𝓤 (𝓣 .C #normal·read-entries) (ReadEntries 𝓤 H A at-mem run) → Triple 𝓤 (𝓣 .C #normal·fill) (Fill 𝓤 H A at-mem run)
+    → Triple 𝓤 (𝓣 .C #normal·read-entries) (ReadEntries 𝓤 H A at-mem run) → Triple 𝓤 (𝓣 .C #normal-entries·fill) (Fill 𝓤 H A at-mem run)
     → Meets 𝓤 H A normal-form.signature (WpFn 𝓤 H (𝓣 .C) (𝓣 .Λ) code.function) (normal-form.spec 𝓤 H A at-mem run)
 normal-form-meets 𝓤 H A W at-mem run 𝓣 known-read known-fill =
     walk-meets 𝓤 H A normal-form.ended stayed W (goes 𝓤 H A W at-mem run) (normal-form.clauses 𝓤 H A at-mem run) (WpFn 𝓤 H (𝓣 .C) (𝓣 .Λ) code.function) (WpFn-mono 𝓤 H (W .laws) 𝓣 code.function)
@@ -302,4 +302,4 @@ normal-form-spec 𝓤 H 𝓜 𝓖 𝓡 =
     (tables 𝓤 H 𝓜 𝓡 code.env .C) (tables 𝓤 H 𝓜 𝓡 code.env .Λ) #normal·normal-form code.function (code.unfolded 𝓤 H 𝓜 𝓡)
     (normal-form-meets 𝓤 H (𝓖 .A) (givenOf 𝓤 H 𝓜 𝓖) (𝓜 .mem) (𝓡 .run) (tablesOf 𝓤 H 𝓜 (tables 𝓤 H 𝓜 𝓡 code.env))
     (cited 𝓤 H (ReadEntries 𝓤 H (𝓖 .A) (𝓜 .mem) (𝓡 .run)) 𝓜 𝓡 code.env #normal·read-entries read-entries-def.routine code.calls-normal·read-entries (read-entries-thm.met 𝓤 H 𝓜 𝓖 𝓡))
-    (cited 𝓤 H (Fill 𝓤 H (𝓖 .A) (𝓜 .mem) (𝓡 .run)) 𝓜 𝓡 code.env #normal·fill fill-def.routine code.calls-normal·fill (fill-thm.met 𝓤 H 𝓜 𝓖 𝓡)))
+    (cited 𝓤 H (Fill 𝓤 H (𝓖 .A) (𝓜 .mem) (𝓡 .run)) 𝓜 𝓡 code.env #normal-entries·fill fill-def.routine code.calls-normal-entries·fill (fill-thm.met 𝓤 H 𝓜 𝓖 𝓡)))

@@ -10,7 +10,7 @@ use borrow.Author.Needs.{needs}
 use Rattle.nodes.specs.Evaluate.{stored}
 use Rattle.normal.specs.Stored.{rangeBefore}
 use Rattle.normal.specs.Table.{endsUpTo}
-use Rattle.normal.proofs.Entries.{no-ends, more-ends}
+use Rattle.normal.proofs.Ends.{no-ends, more-ends}
 use Rattle.normal.proofs.write_ends.Statement.{statement}
 use Rattle.normal.proofs.write_ends.Tie as tie
 

@@ -38,12 +38,12 @@ use denote.Exit.{yes}
 use denote.Triple.Clauses.{ensured, lasts}
 use Rattle.outcome.specs.NormalForm.{NormalOutcome}
 use Rattle.normal.specs.Encoded.{normalEntries, normalAnswerOf}
-use Rattle.normal.specs.Table.{blank}
-use Rattle.normal.specs.declared.Entry.{Entry}
-use Rattle.normal.specs.declared.NormalForm.{NormalForm}
-use Rattle.normal.proofs.Entry as T₀
-use Rattle.normal.proofs.NormalForm as F₀
-use Rattle.normal.proofs.NormalForm.Laws as F′
+use Rattle.normal_entries.specs.Entries.{blank}
+use Rattle.normal_entries.specs.declared.Entry.{Entry}
+use Rattle.normal_entries.specs.declared.NormalForm.{NormalForm}
+use Rattle.normal_entries.proofs.Entry as T₀
+use Rattle.normal_entries.proofs.NormalForm as F₀
+use Rattle.normal_entries.proofs.NormalForm.Laws as F′
 use Rattle.normal.proofs.normal_form as normal-form
 use Rattle.normal.proofs.normal_form.Symbol as normal-form-def
 use Rattle.normal.proofs.normal_form.Symbol.{name as #normal·normal-form}

@@ -8,7 +8,7 @@ use native.Mathlib.Omega.{arith}
 use lib.ListN.{length}
 use borrow.Author.Needs.{needs}
 use borrow.Author.Tests.{not-true, not-false}
-use Rattle.scan.proofs.Codes.{no-prefix}
+use Rattle.vocabulary.proofs.Codes.{no-prefix}
 use Rattle.text.specs.Bytes.{bytesOf, tokens}
 use Rattle.parse.specs.Numbered.{tokensFrom}
 use Rattle.parse.proofs.Numbers.{token-within, token-empty, token-tokens, token-number, placed-later}
@@ -36,13 +36,13 @@ use Rattle.parse.proofs.pass_prefixes.Reads as pass-prefixes-reads
 use Rattle.parse.proofs.put.Reads as put-reads
 use Rattle.parse.proofs.put_prefixes.Reads as put-prefixes-reads
 use Rattle.parse.proofs.token_at.Reads as token-at-reads
-use Rattle.scan.proofs.is_else.Reads as is-else-reads
-use Rattle.scan.proofs.is_if.Reads as is-if-reads
-use Rattle.scan.proofs.is_opening.Reads as is-opening-reads
-use Rattle.scan.proofs.is_then.Reads as is-then-reads
-use Rattle.scan.proofs.operator_code.Reads as operator-code-reads
+use Rattle.vocabulary.proofs.is_else.Reads as is-else-reads
+use Rattle.vocabulary.proofs.is_if.Reads as is-if-reads
+use Rattle.vocabulary.proofs.is_opening.Reads as is-opening-reads
+use Rattle.vocabulary.proofs.is_then.Reads as is-then-reads
+use Rattle.vocabulary.proofs.operator_code.Reads as operator-code-reads
 use Rattle.scan.proofs.partner.Reads as partner-reads
-use Rattle.scan.proofs.prefix_code.Reads as prefix-code-reads
+use Rattle.vocabulary.proofs.prefix_code.Reads as prefix-code-reads
 use Rattle.parse.proofs.+conditional+expression+part.{statement}
 use Rattle.parse.proofs.+conditional+expression+part.Tie.{close}
 

@@ -6,7 +6,7 @@ use mathlib.Core.Path.{sym, _∙_, ap}
 use Rattle.print.specs.Append.{Appends}
 use Rattle.print.specs.Text.{spaced}
 use Rattle.sheet.specs.Names.{nameIn}
-use Rattle.print.specs.Table.{storedNames}
+use Rattle.print.specs.Lines.{storedNames}
 use Rattle.print.proofs.Append.{appends-nothing, appends-then, appends-same, reached}
 use Rattle.print.proofs.Lines.{spaced-more}
 use Rattle.print.proofs.append_names.Statement.{statement}

@@ -3,7 +3,7 @@ use native.Mathlib.Omega.{arith}
 use mathlib.Core.Path.{_∙_, ap}
 use borrow.Author.Needs.{needs}
 use Rattle.print.specs.Text.{headingLine}
-use Rattle.print.specs.Table.{storedNames}
+use Rattle.print.specs.Lines.{storedNames}
 use Rattle.print.proofs.Append.{appends-then, appends-same, reached}
 use Rattle.print.proofs.Lines.{heading-parts}
 use Rattle.print.proofs.heading.Statement.{statement}

@@ -3,8 +3,8 @@ use Prim.Native.Nat.{suc, _-_}
 use native.Mathlib.Omega.{arith}
 use mathlib.Core.Path.{_≡_, sym, _∙_, ap}
 use mathlib.Core.List.{[], _∷_}
-use Rattle.print.specs.Text.{spaced, tokensLine}
-use Rattle.print.specs.Table.{storedNames}
+use Rattle.print.specs.Text.{tokensLine}
+use Rattle.print.specs.Lines.{storedNames}
 use Rattle.print.proofs.Append.{appends-then, appends-same, reached}
 use Rattle.print.proofs.Lines.{names-parts}
 use borrow.Author.Needs.{needs}

@@ -8,7 +8,7 @@ use lib.ListN.{length, getD, take}
 use lib.Seq.{length-take-le}
 use mir.Syntax.{w64}
 use mir.ValLaws.{toZ-ofZ}
-use Rattle.print.specs.Text.{decimal, spaced, tokensLine}
+use Rattle.print.specs.Text.{decimal, spaced}
 use Rattle.print.proofs.Append.{appends-then, appends-same, reached}
 use Rattle.print.proofs.Lines.{no-numbers, numbers-parts}
 use borrow.Author.Needs.{needs}

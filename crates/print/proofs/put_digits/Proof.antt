@@ -6,7 +6,7 @@ use mathlib.Core.Path.{_≡_, refl, sym, _∙_, ap}
 use lib.ListN.{length, length-set}
 use lib.Seq.{sets}
 use Rattle.print.specs.Text.{digits}
-use Rattle.print.proofs.Lengths.{one-digit, more-digits, some-digit}
+use Rattle.print.proofs.Lengths.{more-digits, some-digit}
 use Rattle.print.proofs.Digits.{stores-more, stores-one}
 use Rattle.print.proofs.put_digits.Statement.{statement}
 use Rattle.print.proofs.put_digits.Tie as tie

@@ -1,7 +1,7 @@
 -- `reader::test_stored` meets its contract: what its calls give is what the tests are made of.
 use mathlib.Core.Path.{_∙_}
 use borrow.Author.Needs.{needs}
-use Rattle.refusals.specs.Tested.{testedWith}
+use Rattle.lowest_refusal.specs.Tested.{testedWith}
 use Rattle.reader.specs.Tested.{testedAs}
 use Rattle.reader.proofs.test_stored.Statement.{statement}
 use Rattle.reader.proofs.test_stored.Tie as tie

@@ -7,7 +7,7 @@ use borrow.Author.Needs.{needs}
 use borrow.Author.Tests.{le-leb, lt-leb}
 use Rattle.text.specs.Token.{allBytes, isLowercase, isName}
 use Rattle.scan.proofs.Tokens.{drop-at, drop-end}
-use Rattle.scan.proofs.Words.{name-short, name-long, name-other}
+use Rattle.scan.proofs.Names.{name-short, name-long, name-other}
 use Rattle.scan.proofs.is_name.Statement.{statement}
 use Rattle.scan.proofs.is_name.Tie as tie
 

@@ -7,7 +7,7 @@ use borrow.Author.Needs.{needs}
 use Rattle.text.specs.Bytes.{tokens}
 use Rattle.sheet.specs.Vocabulary.{namePlace}
 use Rattle.scan.proofs.Tokens.{token-within, token-empty, token-after, token-tokens}
-use Rattle.scan.proofs.Words.{place-none, place-here, place-later}
+use Rattle.scan.proofs.Names.{place-none, place-here, place-later}
 use Rattle.scan.proofs.place_of.Statement.{statement}
 use Rattle.scan.proofs.place_of.Tie as tie
 

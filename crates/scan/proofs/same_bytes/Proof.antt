@@ -8,7 +8,7 @@ use Rattle.basics.proofs.Reflects.{to-false}
 use Rattle.text.specs.Token.{sameBytes}
 use Rattle.text.proofs.Token.{sameBytes-reflects}
 use Rattle.scan.proofs.Tokens.{drop-end}
-use Rattle.scan.proofs.Words.{same-here, differ-here}
+use Rattle.scan.proofs.Names.{same-here, differ-here}
 use Rattle.scan.proofs.same_bytes.Statement.{statement}
 use Rattle.scan.proofs.same_bytes.Tie as tie
 

@@ -5,7 +5,7 @@ use native.Mathlib.Omega.{arith}
 use mathlib.Core.Path.{sym, _∙_}
 use lib.ListN.{length}
 use borrow.Author.Needs.{needs}
-use Rattle.scan.proofs.Codes.{no-prefix, no-operator}
+use Rattle.vocabulary.proofs.Codes.{no-prefix, no-operator}
 use Rattle.spans.proofs.Token.{token-ordered}
 use Rattle.spans.proofs.Phrases.{reached-on, behind-word, place-behind, part-none, part-prefix, part-bracket, part-leaf, expression-conditional, expression-alone, expression-operation, branches-found, a-prefix, an-operator}
 use borrow.Fn.Kinds.{In}
@@ -19,11 +19,11 @@ use Rattle.spans.proofs.+branches+expression+part.Lts-expression as exp
 use Rattle.spans.proofs.part.Reads as part
 use Rattle.spans.proofs.part.Kinds as part-kinds
 use Rattle.spans.proofs.+branches+expression+part.Lts-part as part-lts
-use Rattle.scan.proofs.is_if.Reads as is-if-reads
-use Rattle.scan.proofs.is_opening.Reads as is-opening-reads
+use Rattle.vocabulary.proofs.is_if.Reads as is-if-reads
+use Rattle.vocabulary.proofs.is_opening.Reads as is-opening-reads
 use Rattle.scan.proofs.next_token.Reads as next-token-reads
-use Rattle.scan.proofs.operator_code.Reads as operator-code-reads
-use Rattle.scan.proofs.prefix_code.Reads as prefix-code-reads
+use Rattle.vocabulary.proofs.operator_code.Reads as operator-code-reads
+use Rattle.vocabulary.proofs.prefix_code.Reads as prefix-code-reads
 use Rattle.spans.proofs.put.Reads as put-reads
 use Rattle.spans.proofs.+branches+expression+part.{statement}
 use Rattle.spans.proofs.+branches+expression+part.Tie.{close}

@@ -6,7 +6,7 @@ use lib.ListN.{length}
 use native.Mathlib.Nat.{not-suc-le-zero}
 use Rattle.basics.proofs.Answers.{says-yes, says-no}
 use Rattle.sizes.specs.Room.{keySize}
-use Rattle.extend.proofs.Parts.{part-size, part-long}
+use Rattle.prepare.proofs.Parts.{part-size, part-long}
 use Rattle.explore.proofs.ChainLaws.{Left, left-first, left-next}
 use borrow.Author.Needs.{needs}
 use Rattle.explore.proofs.chains.find.Statement.{statement}

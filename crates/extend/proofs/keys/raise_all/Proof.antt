@@ -7,8 +7,8 @@ use lib.ListN.{length, take, length-set}
 use Rattle.nodes.specs.Bounded.{valueIn}
 use Rattle.nodes.specs.Evaluate.{stored, view, nodeValue}
 use Rattle.sides.proofs.Values.{value-given}
-use Rattle.extend.specs.Key.{raised}
-use Rattle.extend.proofs.KeyLists.{mapped-more, mapped-all}
+use Rattle.prepare.specs.Key.{raised}
+use Rattle.prepare.proofs.KeyLists.{mapped-more, mapped-all}
 use borrow.Author.Needs.{needs}
 use Rattle.extend.proofs.keys.raise_all.Statement.{statement}
 use Rattle.extend.proofs.keys.raise_all.Tie as tie

@@ -8,7 +8,7 @@ use lib.ListN.{length, take, set, replicate, length-set, length-take}
 use lib.Seq.{paste}
 use Rattle.sheet.specs.Refusal.{windowBound}
 use Rattle.sizes.specs.Room.{keySize}
-use Rattle.extend.proofs.KeyLists.{key-over-zeros, few-letters, letter-written, none-written}
+use Rattle.prepare.proofs.KeyLists.{key-over-zeros, few-letters, letter-written, none-written}
 use borrow.Author.Needs.{needs}
 use Rattle.extend.proofs.keys.write_key.Statement.{statement}
 use Rattle.extend.proofs.keys.write_key.Tie as tie

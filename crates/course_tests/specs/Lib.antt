@@ -1,0 +1,3 @@
+pub mod Goal
+pub mod Refusals
+pub mod Cost
