@@ -1,5 +1,5 @@
-"""What the checks of compiles called from C share: the structs of the answer, the
-library that is called, and the tables that are lent."""
+"""What the checks of calls from C share: the structs of arguments and answers, the
+library that is called, and the tables that are given and lent."""
 
 import ctypes
 import json
@@ -32,19 +32,19 @@ def library(name, parts):
     return ctypes.CDLL(str(path))
 
 
-def from_archive(crate, function):
+def from_archive(crate, function, answer=Compiled):
     """The function of a crate's archive, which `rt staticlib` makes."""
     subprocess.run(["rt", "staticlib", crate], cwd=ROOT, check=True, stdout=subprocess.DEVNULL)
     parts = ["-Wl,--whole-archive", "target/staticlib/lib%s.a" % crate, "-Wl,--no-whole-archive"]
     found = getattr(library("lib%s.so" % crate, parts), function)
-    found.restype = Compiled
+    found.restype = answer
     return found
 
 
-def from_sources(name, sources, function):
+def from_sources(name, sources, function, answer=Compiled):
     parts = ["-std=c11", "-O2", "-Wall", "-Wextra", "-Werror", "-fPIC"] + sources
     found = getattr(library(name, parts), function)
-    found.restype = Compiled
+    found.restype = answer
     return found
 
 
@@ -65,11 +65,12 @@ def lent_tables(rows, letters, smallest):
     return tables
 
 
+def with_lengths(tables):
+    return [word for lent in tables for word in (lent, ctypes.c_size_t(len(lent)))]
+
+
 def called(function, text, tables):
-    words = [ctypes.c_char_p(text), ctypes.c_size_t(len(text))]
-    for lent in tables:
-        words += [lent, ctypes.c_size_t(len(lent))]
-    return function(*words)
+    return function(ctypes.c_char_p(text), ctypes.c_size_t(len(text)), *with_lengths(tables))
 
 
 def is_zero(lent, start=0):
@@ -83,6 +84,20 @@ def described(names, lows, highs, kinds):
     return bytes(Streams(len(names), (ctypes.c_uint8 * 64)(*letters), (ctypes.c_uint8 * 8)(*map(len, names)),
                          (ctypes.c_int64 * 8)(*lows), (ctypes.c_int64 * 8)(*highs),
                          (ctypes.c_uint8 * 8)(*(KINDS[kind] for kind in kinds))))
+
+
+def description(streams):
+    """The struct of a stored description; places that it leaves out are zero."""
+    names = b"".join(name.encode("latin-1").ljust(8, b"\0") for name in streams["names"])
+    lists = [(kind * 8)(*streams[key]) for kind, key in ((ctypes.c_uint8, "lengths"), (ctypes.c_int64, "lows"),
+                                                         (ctypes.c_int64, "highs"), (ctypes.c_uint8, "kinds"))]
+    return Streams(streams["count"], (ctypes.c_uint8 * 64)(*names), *lists)
+
+
+def given_words(given):
+    """The arguments by which a call gets a given table."""
+    tables = [(ctypes.c_uint16 * len(given["entries"]))(*given["entries"]), (ctypes.c_uint8 * len(given["finals"]))(*given["finals"])]
+    return with_lengths(tables) + [ctypes.c_uint32(given["letters"]), description(given["streams"])]
 
 
 def told(answer, letters, streams):

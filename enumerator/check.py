@@ -14,6 +14,10 @@ import random
 import sys
 from collections import Counter, deque, namedtuple
 
+from carry_check import (sheets_difference as migrate_difference,
+                         tables_difference as carry_difference,
+                         three_difference as handed_on_difference,
+                         worked_fault as carried_fault)
 from course_check import difference as course_difference
 from damage import damaged_sheets
 from examples import EXAMPLES, example_faults
@@ -49,6 +53,9 @@ KINDS_SHEETS = 60
 GAME_TABLES = 1000
 GAME_SHEETS = 300
 STRATEGIES = 300
+CARRIED_TABLES = 1500
+CARRIED_SHEETS = 150
+HANDED_ON = 200
 PAIR_BOUND = 150
 PARTITION_BOUND = 30
 NORMAL_FORM_WORDS = 4
@@ -510,24 +517,45 @@ def check_courses(rng, counts):
         counts["courses of sheets found by rows and by lines of the table"] += 1
 
 
+def drawn_differences(name, rng, counts, kinds):
+    """Each kind: how often something is drawn, the function that compares two
+    routes on it, and what it compares."""
+    for draws, difference, what in kinds:
+        for _ in range(draws):
+            case = difference(rng)
+            if case:
+                raise Difference(name, *case)
+            counts[what] += 1
+
+
 def check_games(rng, counts):
     """Which states the controller wins, play tables and what is printed of
     them, by sets of states, by situations, strategies and endless words."""
     fault = worked_fault()
     if fault:
         raise Difference("game", *fault)
-    for draws, difference, what in (
-            (GAME_TABLES, table_difference,
-             "games of tables solved by sets and by strategies"),
-            (GAME_SHEETS, game_difference,
-             "games of sheets solved by states and by situations and words"),
-            (STRATEGIES, strategy_difference,
-             "play tables printed and judged by lines of the table")):
-        for _ in range(draws):
-            case = difference(rng)
-            if case:
-                raise Difference("game", *case)
-            counts[what] += 1
+    drawn_differences("game", rng, counts, (
+        (GAME_TABLES, table_difference,
+         "games of tables solved by sets and by strategies"),
+        (GAME_SHEETS, game_difference,
+         "games of sheets solved by states and by situations and words"),
+        (STRATEGIES, strategy_difference,
+         "play tables printed and judged by lines of the table")))
+
+
+def check_carries(rng, counts):
+    """Going on from an old table in a new one, by sets of states and by all
+    records up to a length, and by lines of printed tables."""
+    fault = carried_fault()
+    if fault:
+        raise Difference("carry", *fault)
+    drawn_differences("carry", rng, counts, (
+        (CARRIED_TABLES, carry_difference,
+         "tables carried over by sets of states and by all records"),
+        (CARRIED_SHEETS, migrate_difference,
+         "sheets carried over by states and by lines and records"),
+        (HANDED_ON, handed_on_difference,
+         "sheets carried over at once and by one between")))
 
 
 def main(seed, count):
@@ -543,6 +571,7 @@ def main(seed, count):
         check_replays(rng, counts)
         check_courses(rng, counts)
         check_games(random.Random("game %d" % seed), counts)
+        check_carries(random.Random("carry %d" % seed), counts)
         sheets = [(wanted.name, wanted.sheet) for wanted in EXAMPLES
                   if "letters" not in wanted.name]
         sheets += random_sheets(seed, count, 6) + division_sheets(seed, count, 6)

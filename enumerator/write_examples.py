@@ -1,4 +1,5 @@
-"""Writes what `sluice` prints for each example sheet.
+"""Writes what `sluice` prints for each example sheet, and what `migrate` prints
+for two of them.
 
     python3 enumerator/write_examples.py SHEETS FOLDER
 
@@ -8,7 +9,21 @@ For SHEETS/NAME.sheet the file is FOLDER/NAME.table.
 import os
 import sys
 
+from migrate import migrate
 from sluice import sluice
+
+# The file that is written, what prints it, and the names of the two sheets.
+PAIRS = (("timer.migrated", migrate, "timer", "timer-two"),)
+
+
+def content(sheets, name):
+    with open(os.path.join(sheets, name), "rb") as text:
+        return text.read()
+
+
+def write(folder, name, printed):
+    with open(os.path.join(folder, name), "wb") as out:
+        out.write(printed)
 
 
 def main(sheets, folder):
@@ -16,10 +31,10 @@ def main(sheets, folder):
     for name in sorted(os.listdir(sheets)):
         stem, ending = os.path.splitext(name)
         if ending == ".sheet":
-            with open(os.path.join(sheets, name), "rb") as text:
-                printed = sluice(text.read())
-            with open(os.path.join(folder, stem + ".table"), "wb") as out:
-                out.write(printed)
+            write(folder, stem + ".table", sluice(content(sheets, name)))
+    for name, printed, *pair in PAIRS:
+        texts = [content(sheets, stem + ".sheet") for stem in pair]
+        write(folder, name, printed(*texts))
 
 
 if __name__ == "__main__":

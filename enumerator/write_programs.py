@@ -172,6 +172,59 @@ def game_program(vectors):
     return b"".join(case[0] for case in cases), "".join(case[1] for case in cases).encode()
 
 
+def given_heading(given):
+    """Four numbers about a given table: its entries, final bytes and letters, and how many streams its description has."""
+    return [len(given["entries"]), len(given["finals"]), given["letters"], given["streams"]["count"]]
+
+
+def given_bytes(given):
+    """A given table: the description of its streams (`stream_bytes`), its entries, two bytes each, low first, and its final bytes."""
+    entries = b"".join(entry.to_bytes(2, "little") for entry in given["entries"])
+    return stream_bytes(given["streams"]) + entries + bytes(given["finals"])
+
+
+def sheets_case(texts):
+    """The bytes of one case of two sheets: how many bytes follow, the length of the first sheet, and both texts."""
+    return word(sum(map(len, texts))) + word(len(texts[0])) + b"".join(texts)
+
+
+def sheets_program(vectors, keys):
+    """Every pair of sheets, in order, and what a program prints for it; `keys` name the sheets."""
+    texts = [[vector[key].encode("latin-1") for key in keys] for vector in vectors]
+    return b"".join(map(sheets_case, texts)), b"".join(vector["printed"].encode() for vector in vectors)
+
+
+def sheets_files(vector, keys):
+    """A pair of sheets, as files and arguments, and what a program prints for it."""
+    files = {"data/" + key: vector[key].encode("latin-1") for key in keys}
+    return {"args": "".join(key + "\n" for key in keys).encode(), **files, "stdout": vector["printed"].encode()}
+
+
+def carry_case(vector, call):
+    """The bytes of one call that carries over, and the line that it must print; none where it is too large for the program.
+
+    A heading of ten numbers of four bytes, low first: how many bytes follow; the length of the list; and for either table, the old one first, its entries, its final bytes,
+    its letters and the streams of its description (`given_heading`). Then either table, the old one first (`given_bytes`): eight places of eight bytes for the names, their
+    eight lengths, the eight kinds, the lowest and the highest values, eight numbers of four bytes each that are 2^31 more, then the entries, two bytes each, low first, and
+    the final bytes. The line has the refusal and the whole list."""
+    room, refusal = call
+    given = [vector["old"], vector["new"]]
+    behind = b"".join(map(given_bytes, given))
+    if len(behind) > LARGEST_INPUT:
+        return None
+    heading = [len(behind), room] + [number for table in given for number in given_heading(table)]
+    found = vector["carried"] if refusal == 0 else []
+    line = "%d : " % refusal + "".join("%d " % number for number in found + [0] * (room - len(found))) + "\n"
+    return b"".join(map(word, heading)) + behind, line
+
+
+def carry_program(vectors):
+    """Every call that the program has room for, in order."""
+    cases = [carry_case(vector, call) for vector in vectors for call in vector["calls"]]
+    cases = [case for case in cases if case]
+    return b"".join(case[0] for case in cases), "".join(case[1] for case in cases).encode()
+
+
 def sluice_program(vectors):
     """The first sheet, P1, and what `sluice` prints for it."""
     sheet = vectors[0]["sheet"].encode("latin-1")
@@ -303,6 +356,10 @@ def main(vectors, crates):
     settled = load(vectors, "strategy.jsonl")
     write_files(crates, "strategy", strategy_program(settled))
     write(crates, "strategy_vectors", strategy_vectors_program(settled))
+    write(crates, "carry_vectors", carry_program(load(vectors, "carry.jsonl")))
+    migrated = load(vectors, "migrate.jsonl")
+    write_files(crates, "migrate", sheets_files(migrated[0], ("old", "new")))
+    write(crates, "migrate_vectors", sheets_program(migrated, ("old", "new")))
 
 
 if __name__ == "__main__":

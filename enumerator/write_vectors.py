@@ -11,6 +11,8 @@ import sys
 from collections import Counter
 from pathlib import Path
 
+from carry import carry
+from carry_cases import carry_cases, migrate_cases
 from compiler import analyse, compile_analysed
 from course import course
 from course_cases import course_cases
@@ -23,6 +25,7 @@ from generate import (bound_sheets, counted_sheets, division_sheets,
 from grammar import constraint_text
 from intervals import deepest_back, deepest_reach, firsts, untils
 from limits import SITUATIONS, STEP_REFUSED
+from migrate import migrate
 from normal_form import entry_texts, normal_form, normal_form_of
 from reading import letter_count
 from replay import replay
@@ -52,6 +55,9 @@ COURSES = (140, 80)
 # Of so many drawn sheets, the first so many whose course has letters.
 COURSE_SHEETS = (200, 24)
 GAME_SHEETS = 60
+# Drawn pairs of tables, and of sheets whose tables are given.
+CARRIES = (100, 30)
+MIGRATED_SHEETS = 24
 # Larger tables have a digest in place of their entries.
 GAME_ENTRIES = 2000
 # Drawn sheets with larger tables are left out, to keep the files short.
@@ -211,6 +217,28 @@ def strategy_vector(sheet):
             "printed": strategy(sheet).decode()}
 
 
+def given_fields(given):
+    return {**given._asdict(), "streams": given.streams._asdict()}
+
+
+def carry_vector(case):
+    """Two given tables with their calls: the length of the list and the
+    refusal; and the list for all old rows."""
+    answer = carry(case.old, case.new, len(case.old.finals))
+    vector = {"name": case.name, "old": given_fields(case.old),
+              "new": given_fields(case.new),
+              "calls": [(room, carry(case.old, case.new, room).refusal)
+                        for room in case.rooms]}
+    if not answer.refusal:
+        vector["carried"] = answer.list
+    return vector
+
+
+def migrate_vector(old, new):
+    return {"old": old.decode("latin-1"), "new": new.decode("latin-1"),
+            "printed": migrate(old, new).decode()}
+
+
 def write_lines(directory, name, vectors):
     lines = [json.dumps(vector, sort_keys=True) for vector in vectors]
     (directory / name).write_text("".join(line + "\n" for line in lines))
@@ -241,11 +269,15 @@ def main(directory):
                for case in shortest_cases(SEED, *COURSE_SHEETS)]
     games = [game_vector(case) for case in game_cases(SEED, GAME_SHEETS)]
     settled = [strategy_vector(sheet) for sheet in strategy_cases()]
+    carries = [carry_vector(case) for case in carry_cases(SEED, *CARRIES)]
+    migrated = [migrate_vector(*case)
+                for case in migrate_cases(SEED, MIGRATED_SHEETS)]
     for name, vectors in (("sheets", sheets), ("compile", compiles),
                           ("normal", normals), ("step", steps),
                           ("replay", replays), ("course", courses),
                           ("shortest", printed), ("game", games),
-                          ("strategy", settled)):
+                          ("strategy", settled), ("carry", carries),
+                          ("migrate", migrated)):
         write_lines(directory, name + ".jsonl", vectors)
     print_counts("sheets", (vector["refusal"] for vector in sheets))
     print_counts("compiles", (vector["refusal"] for vector in compiles))
@@ -258,6 +290,9 @@ def main(directory):
     print_counts("compiles with a play table", (
         refusal for vector in games for _, _, refusal in vector["calls"]))
     print("play tables of sheets: %d" % len(settled))
+    print_counts("carries", (refusal for vector in carries
+                             for _, refusal in vector["calls"]))
+    print("sheets carried over: %d" % len(migrated))
 
 
 if __name__ == "__main__":

@@ -4,9 +4,11 @@ folder of their own, a read that fails, and the stored vectors."""
 import json
 import os
 import pathlib
+import random
 import subprocess
 import sys
 import tempfile
+from collections import Counter
 
 ROOT = pathlib.Path(__file__).resolve().parents[1]
 LONGEST_RUN = 60
@@ -89,10 +91,31 @@ def unreadable_sheets(runs, not_read):
         runs.expect(name, runs.run(arguments), wanted)
 
 
-def later_read_of_a_sheet_fails(runs, sheet, not_read):
-    """A sheet whose later read fails counts as empty."""
+def unreadable_pairs(runs, sheet, not_read):
+    """The same for a program that reads two sheets; `not_read` has what is told of the first and of the second."""
+    missing, folder, long, good, empty = str(runs.folder / "missing"), str(runs.folder), "s" * 5000, runs.file("good", sheet), runs.file("empty", b"")
+    first, second = not_read
+    for name, arguments, wanted in (
+            ("no arguments", [], (b"refused 3\n", first + second)),
+            ("one argument", [good], (b"refused 3\n", second)),
+            ("a missing first sheet", [missing, good], (b"refused 3\n", first)),
+            ("a missing second sheet", [good, missing], (b"refused 3\n", second)),
+            ("two missing sheets", [missing, missing], (b"refused 3\n", first + second)),
+            ("a folder for the first sheet", [folder, good], (b"refused 3\n", first)),
+            ("a folder for the second sheet", [good, folder], (b"refused 3\n", second)),
+            ("a first path that is too long", [long, good], (b"refused 3\n", first)),
+            ("a second path that is too long", [good, long], (b"refused 3\n", second)),
+            ("an empty first sheet", [empty, missing], (b"refused 3\n", second)),
+            ("an empty second sheet", [good, empty], (b"refused 3\n", b"")),
+            ("an endless first sheet", ["/dev/zero", good], (b"refused 1\n", b"")),
+            ("an endless second sheet", [good, "/dev/zero"], (b"refused 1\n", b""))):
+        runs.expect(name, runs.run(arguments), wanted)
+
+
+def later_read_of_a_sheet_fails(runs, sheet, not_read, before=(), behind=()):
+    """A sheet whose later read fails counts as empty; before and behind it other arguments may stand."""
     shim = runs.failing_read(sheet[:3].decode(), SHEET_ROOM)
-    got = runs.run([runs.file("sheet", sheet)], shim=shim)
+    got = runs.run([*before, runs.file("sheet", sheet), *behind], shim=shim)
     runs.expect("a read that fails within a sheet", got, (b"refused 3\n", not_read))
 
 
@@ -111,3 +134,24 @@ def run_parts(name, runs, parts):
         for part in parts:
             part(done)
         print("%d comparisons of `%s`, with no difference" % (done.count, name))
+
+
+def compare_pairs(name, drawn, wanted, answer):
+    """Compares a program on fresh random pairs of sheets with the enumerator, by the arguments COUNT [SEED [PROGRAM]]; gives the exit status. `drawn` gives a pair, `wanted`
+    what is printed for it, and `answer` names what is printed where nothing is refused."""
+    count, seed = int(sys.argv[1]), int(sys.argv[2]) if len(sys.argv) > 2 else 1
+    rng, counts = random.Random("%s %d" % (name, seed)), Counter()
+    with tempfile.TemporaryDirectory() as folder:
+        runs = Runs(name, sys.argv[3] if len(sys.argv) > 3 else built(name), folder)
+        for _ in range(count):
+            texts = drawn(rng)
+            printed = wanted(*texts)
+            got = runs.run([runs.file("sheet %d" % place, text) for place, text in enumerate(texts)])
+            if got != (printed, b""):
+                print("DIFFERENCE", *texts, "printed", *got, "and not", printed, sep="\n  ")
+                return 1
+            counts[printed.decode().strip() if printed.startswith(b"refused ") else answer] += 1
+    print("%d pairs of sheets compared, seed %d, with no difference:" % (count, seed))
+    for what in sorted(counts):
+        print("  %6d %s" % (counts[what], what))
+    return 0

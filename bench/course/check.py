@@ -14,7 +14,7 @@ import sys
 from collections import Counter
 
 sys.path.insert(0, str(pathlib.Path(__file__).resolve().parents[1]))
-from calls import Streams, from_archive, from_sources, is_zero, lines, table  # noqa: E402
+from calls import from_archive, from_sources, given_words, is_zero, lines, table, with_lengths  # noqa: E402
 
 
 class CourseAnswer(ctypes.Structure):
@@ -23,28 +23,13 @@ class CourseAnswer(ctypes.Structure):
 
 def built(archive):
     if archive:
-        function = from_archive("course_c", "course_c")
-    else:
-        function = from_sources("libplain_course.so", ["-Iinclude", "bench/course/plain.c"], "plain_course")
-    function.restype = CourseAnswer
-    return function
-
-
-def described(streams):
-    """The struct of a stored description; places that it leaves out are zero."""
-    names = b"".join(name.encode("latin-1").ljust(8, b"\0") for name in streams["names"])
-    parts = zip([ctypes.c_uint8 * 64, ctypes.c_uint8 * 8, ctypes.c_int64 * 8, ctypes.c_int64 * 8, ctypes.c_uint8 * 8],
-                [names] + [streams[key] for key in ("lengths", "lows", "highs", "kinds")])
-    return Streams(streams["count"], *(kind(*numbers) for kind, numbers in parts))
+        return from_archive("course_c", "course_c", CourseAnswer)
+    return from_sources("libplain_course.so", ["-Iinclude", "bench/course/plain.c"], "plain_course", CourseAnswer)
 
 
 def difference(function, wanted):
-    entries = (ctypes.c_uint16 * len(wanted["entries"]))(*wanted["entries"])
-    finals = (ctypes.c_uint8 * len(wanted["finals"]))(*wanted["finals"])
     course, work = table(ctypes.c_uint32, wanted["list"]), table(ctypes.c_uint16, wanted["work"])
-    answer = function(entries, ctypes.c_size_t(len(entries)), finals, ctypes.c_size_t(len(finals)), ctypes.c_uint32(wanted["letters"]),
-                      described(wanted["streams"]), ctypes.c_uint32(wanted["state"]), course, ctypes.c_size_t(len(course)), work,
-                      ctypes.c_size_t(len(work)))
+    answer = function(*given_words(wanted), ctypes.c_uint32(wanted["state"]), *with_lengths([course, work]))
     found = wanted["course"]
     if (answer.refusal, answer.count) != (wanted["refusal"], len(found)):
         return "answer %d %d" % (answer.refusal, answer.count)

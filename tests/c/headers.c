@@ -1,4 +1,5 @@
 /* The structs of the headers are laid out as in the archives. Compiled as C99, as C11 and as C++. */
+#include "carry.h"
 #include "compile.h"
 #include "course.h"
 #include "normal_form.h"

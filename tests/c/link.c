@@ -1,12 +1,13 @@
 /* A program that calls the function of one archive and needs no other library. Compiled as C and as C++; CALL is 1 for the step, 2 for the compile,
- * 3 for the normal form, 4 for the compile with a play table and 5 for the course. */
+ * 3 for the normal form, 4 for the compile with a play table, 5 for the course and 6 for going on in a new table. */
+#include "carry.h"
 #include "compile.h"
 #include "course.h"
 #include "normal_form.h"
 #include "step.h"
 #include "strategy.h"
 
-#if CALL != 5
+#if CALL < 5
 static const uint8_t sheet[] = {'x', '\n', '0', '\n', '1', '\n', 'r', 'e', 'a', 'd', '\n', 'x', ' ', '=', '=', ' ', '1'};
 #endif
 
@@ -51,7 +52,7 @@ static int called(void)
     return prevented.refusal == 16 && prevented.states == 0 && prevented.letters == 0 && zero
         && forced.refusal == 0 && forced.states == 1 && forced.streams.kinds[0] == STREAM_READ && play[0] == 0 && play[1] == 1 && play[2] == 0;
 }
-#else
+#elif CALL == 5
 /* two streams of two values, with the kinds given */
 static struct streams two(uint8_t first, uint8_t second)
 {
@@ -95,6 +96,29 @@ static int called(void)
     return leads(set, 3, 3) && leads(two(STREAM_READ, STREAM_SET), 1, 3) && leads(two(STREAM_SET, STREAM_READ), 3, 2)
         && leads(two(STREAM_READ, STREAM_READ), 1, 2) && refuses(odd, 12, 3, 11) && refuses(wide, 12, 3, 11) && refuses(turned, 12, 3, 11)
         && refuses(set, 11, 3, 10) && refuses(set, 12, 1, 10);
+}
+#else
+static struct streams one_stream(uint8_t name)
+{
+    struct streams streams = {1, {0}, {1}, {0}, {1}, {STREAM_READ}};
+    streams.names[0] = name;
+    return streams;
+}
+
+/* from the table of `1 until x` to that of the stream without rules, and back, which no state has; and to another stream */
+static int called(void)
+{
+    static const uint16_t until[] = {0, 1, 1, 1}, any[] = {0, 0};
+    static const uint8_t until_finals[] = {0, 1}, any_finals[] = {1};
+    struct streams x = one_stream('x'), y = one_stream('y');
+    uint16_t list[4] = {9, 9, 9, 9};
+    uint32_t carried = carry_c(until, 4, until_finals, 2, 2, x, any, 2, any_finals, 1, 2, x, list, 4);
+    int filled = list[0] == 0 && list[1] == 0 && list[2] == 0 && list[3] == 0;
+    uint32_t itself = carry_c(until, 4, until_finals, 2, 2, x, until, 4, until_finals, 2, 2, x, list, 4);
+    int same = list[0] == 0 && list[1] == 1;
+    return carried == 0 && filled && itself == 0 && same && carry_c(any, 2, any_finals, 1, 2, x, until, 4, until_finals, 2, 2, x, list, 4) == 18 && list[1] == 0
+        && carry_c(until, 4, until_finals, 2, 2, x, any, 2, any_finals, 1, 2, y, list, 4) == 17
+        && carry_c(until, 4, until_finals, 2, 2, x, any, 2, any_finals, 1, 2, x, list, 1) == 10;
 }
 #endif
 

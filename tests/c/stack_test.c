@@ -1,6 +1,6 @@
 /* The stack that a call takes. Each sheet is compiled, without and with a play table, and its normal form is made, twice: on a large stack, and in a thread
  * whose whole stack is the figure that the header states, with a page below it that cannot be touched. Both calls must give the same answer and the same tables,
- * and the first may use no more than the figure. The stack of two steps and of calls for a course is measured too. It prints the most that was used, and ends
+ * and the first may use no more than the figure. The stack of two steps, of calls for a course and of calls for the states of a new table is measured too. It prints the most that was used, and ends
  * with status 1 at a difference.
  *
  *     stack_test all          prints what each of its sheets takes: bytes of the compile, of that with a play table and of the normal form, their
@@ -16,6 +16,7 @@
 #include <string.h>
 #include <sys/mman.h>
 
+#include "carry.h"
 #include "compile.h"
 #include "course.h"
 #include "normal_form.h"
@@ -127,6 +128,17 @@ static void call_course(void)
 {
     struct tables *t = &compiled;
     course_answer = course_c(t->entries, ROWS * MOST_LETTERS, t->finals, ROWS, MOST_LETTERS, streams, 0, course, ROWS, work, ROWS * MOST_LETTERS);
+}
+
+/* from the same table to itself: each row goes on in itself */
+static uint16_t carried[ROWS];
+static uint32_t carry_refusal;
+
+static void call_carry(void)
+{
+    struct tables *t = &compiled;
+    carry_refusal = carry_c(t->entries, ROWS * MOST_LETTERS, t->finals, ROWS, MOST_LETTERS, streams, t->entries, ROWS * MOST_LETTERS, t->finals, ROWS,
+        MOST_LETTERS, streams, carried, ROWS);
 }
 
 /* ---- the sheets */
@@ -287,7 +299,7 @@ static const char *write_sheet(size_t number)
 
 /* ---- comparing */
 
-static uint8_t *large, *stated_compile, *stated_strategy, *stated_normal_form, *stated_course, *stated_step;
+static uint8_t *large, *stated_compile, *stated_strategy, *stated_normal_form, *stated_course, *stated_carry, *stated_step;
 static size_t most_compile, most_strategy, most_normal_form;
 
 /* A call that fills the tables: on a large stack, and on one of the figure. */
@@ -380,6 +392,31 @@ static void check_course(void)
     printf("stack: a course takes %zu bytes of %d\n", most, COURSE_STACK);
 }
 
+/* One call that gives the states and one that is refused, along the table of the courses. */
+static void check_carry(void)
+{
+    size_t most = 0;
+    make_chain();
+    for (int refused = 0; refused < 2; refused++) {
+        streams.kinds[0] = refused ? 2 : STREAM_SET;
+        memset(carried, 0xff, sizeof carried);
+        size_t bytes = used(large, LARGE, call_carry);
+        uint32_t refusal = carry_refusal;
+        uint16_t last = carried[ROWS - 1];
+        if (bytes > most)
+            most = bytes;
+        if (bytes > CARRY_STACK)
+            fail("going on in a new table takes more than the header states");
+        memset(carried, 0xff, sizeof carried);
+        used(stated_carry, CARRY_STACK, call_carry);
+        if (refusal != (refused ? 11 : 0) || last != (refused ? 0 : ROWS - 1))
+            fail("going on in a new table is wrong");
+        if (carry_refusal != refusal || carried[ROWS - 1] != last)
+            fail("going on in a new table differs on a smaller stack");
+    }
+    printf("stack: going on in a new table takes %zu bytes of %d\n", most, CARRY_STACK);
+}
+
 static void measure(const char *name)
 {
     size_t compile_bytes = used(large, LARGE, call_compile);
@@ -408,6 +445,7 @@ int main(int count, char **words)
     stated_strategy = room(STRATEGY_STACK);
     stated_normal_form = room(NORMAL_FORM_STACK);
     stated_course = room(COURSE_STACK);
+    stated_carry = room(CARRY_STACK);
     stated_step = room(PTHREAD_STACK_MIN);
     bool print = count == 2 && strcmp(words[1], "all") == 0;
     for (int i = 1; i < count && !print; i++)
@@ -430,6 +468,7 @@ int main(int count, char **words)
         return 0;
     check_steps();
     check_course();
+    check_carry();
     printf("stack: of %zu sheets, the compile takes at most %zu bytes of %d, the play table %zu of %d, the normal form %zu of %d\n", sheets, most_compile,
         COMPILE_STACK, most_strategy, STRATEGY_STACK, most_normal_form, NORMAL_FORM_STACK);
     return 0;

@@ -2,8 +2,8 @@
 
     python3 tests/launch/run.py
 
-Uses target/bin/sluice, which `rt check sluice` makes, and target/bin/replay, target/bin/shortest and target/bin/strategy where they are there. How a
-program is built, what is passed on and how long it is kept is tested in a folder of its own, with stand-ins for `rt` and for the program.
+Uses target/bin/sluice, which `rt check sluice` makes, and target/bin/replay, shortest, strategy and migrate where they are there. How a program is
+built, what is passed on and how long it is kept is tested in a folder of its own, with stand-ins for `rt` and for the program.
 """
 
 import os
@@ -158,6 +158,23 @@ def strategy_cases(folder):
     expect("a sheet without a play table", run([tool, sheet]), "refused 9\n", 1, "")
 
 
+def migrate_cases(folder):
+    tool = ROOT / "tools" / "migrate"
+    help_and_usage("migrate", 1, 3)
+    if not is_there("migrate"):
+        return
+    old, new, missing = folder / "old.sheet", folder / "new.sheet", folder / "none"
+    old.write_text(SHEET)
+    new.write_text("x y\n0 0\n1 1\n")
+    expect("a new sheet", run([tool, old, new]), "old new\n0 0\n1 0\n", 0, "")
+    expect("a sheet that cannot take over", run([tool, new, old]), "refused 18\n", 1, "")
+    expect("no such old sheet", run([tool, missing, new]), "refused 3\n", 2, "cannot be read")
+    expect("no such new sheet", run([tool, old, missing]), "refused 3\n", 2, "cannot be read")
+    expect("a full device for a list", full_device([tool, old, new]), None, 2, "cannot be written")
+    new.write_text("y x\n0 0\n1 1\n")
+    expect("streams in another order", run([tool, old, new]), "refused 17\n", 1, "")
+
+
 def stand_in(path, text):
     path.write_text("#!/usr/bin/env bash\n" + text)
     path.chmod(0o755)
@@ -218,14 +235,14 @@ def stand_in_cases(folder):
 
 def build():
     """A program that is older than a source is built by its first call, which says so on standard error."""
-    for name, arguments in [("sluice", []), ("replay", ["", ""]), ("shortest", [""]), ("strategy", [""])]:
+    for name, arguments in [("sluice", []), ("replay", ["", ""]), ("shortest", [""]), ("strategy", [""]), ("migrate", ["", ""])]:
         if (ROOT / "target" / "bin" / name).exists():
             subprocess.run([str(ROOT / "tools" / name), *arguments], stdin=subprocess.DEVNULL, capture_output=True)
 
 
 def main():
     build()
-    for cases in [sluice_cases, replay_cases, shortest_cases, strategy_cases, stand_in_cases]:
+    for cases in [sluice_cases, replay_cases, shortest_cases, strategy_cases, migrate_cases, stand_in_cases]:
         with tempfile.TemporaryDirectory() as folder:
             cases(pathlib.Path(folder))
     print(f"{done} cases: help, usage, statuses, links, reads and writes that fail, the first call")

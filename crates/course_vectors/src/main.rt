@@ -1,80 +1,18 @@
 // Asks for the courses that standard input gives, in lists and work room that are not 0, and prints each answer, how many numbers of the work room are not 0
 // afterwards, and the whole list. The enumerator wrote the input and what is expected: seven numbers of four bytes, low first (how many bytes follow, how many
-// entries there are, the letters, the state, the length of the list, that of the work room, and the number of streams), then the streams (64 bytes of names,
-// 8 of their lengths, 8 of kinds, 8 lowest values and 8 highest values of four bytes, each 2^31 more than the value), the entries of two bytes, low first,
-// and the final bytes, case after case.
+// entries there are, the letters, the state, the length of the list, that of the work room, and the number of streams), then the description of the streams
+// (144 bytes, as `given_cases` reads it), the entries of two bytes, low first, and the final bytes, case after case.
 use cases::number;
 use cases::print;
+use given_cases::streams_in;
 use libc::STDOUT_FILENO;
 use streams::StreamsDescription;
-ghost use Prim.Native.Nat.{_≤_};
 
 fn print_list(list: &[u32]) {
     let mut i = 0;
     while i < list.len() {
         print(list[i] as u64, b" ");
         i += 1;
-    }
-}
-
-// Reads entries of two bytes each.
-fn read_entries(bytes: &[u8], entries: &mut [u16]) {
-    let mut i = 0;
-    while i < entries.len() {
-        entries[i] = (number(bytes, i * 2) % 65536) as u16;
-        i += 1;
-    }
-}
-
-// Eight bytes from a place on.
-fn eight_bytes(bytes: &[u8], at: usize) -> [u8; 8]
-    requires { ⌜ at ≤ 144 ⌝ }
-{
-    let mut found = [0u8; 8];
-    let mut i = 0;
-    while i < 8 {
-        found[i] = (number(bytes, at + i) % 256) as u8;
-        i += 1;
-    }
-    found
-}
-
-fn names(bytes: &[u8]) -> [u8; 64] {
-    let mut found = [0u8; 64];
-    let mut i = 0;
-    while i < 64 {
-        found[i] = (number(bytes, i) % 256) as u8;
-        i += 1;
-    }
-    found
-}
-
-// The value that a number stands for, which is 2^31 more.
-fn value_of(raised: u32) -> i64 {
-    raised as i64 - 2147483648
-}
-
-// Eight values from a place on, each of four bytes.
-fn eight_values(bytes: &[u8], at: usize) -> [i64; 8]
-    requires { ⌜ at ≤ 144 ⌝ }
-{
-    let mut found = [0i64; 8];
-    let mut i = 0;
-    while i < 8 {
-        found[i] = value_of(number(bytes, at + i * 4));
-        i += 1;
-    }
-    found
-}
-
-fn streams_in(count: u32, bytes: &[u8]) -> StreamsDescription {
-    StreamsDescription {
-        count: count as usize,
-        names: names(bytes),
-        lengths: eight_bytes(bytes, 64),
-        kinds: eight_bytes(bytes, 72),
-        lows: eight_values(bytes, 80),
-        highs: eight_values(bytes, 112),
     }
 }
 
@@ -98,7 +36,7 @@ fn ask(
 
 // The course that the heading gives, with these streams and along the table of these bytes, with room for its entries.
 fn answer(heading: &[u8], streams: StreamsDescription, table: &[u8], entries: &mut [u16]) {
-    read_entries(table, entries);
+    given_cases::read_entries(table, entries);
     let start = cases::bytes_within(entries.len() * 2, table);
     let mut list = cases::work_room();
     let size = cases::words_lent(heading, 16, &list);

@@ -1,0 +1,4 @@
+pub mod Records
+pub mod Queue
+pub mod Rows
+pub mod Outcome

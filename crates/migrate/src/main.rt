@@ -1,0 +1,36 @@
+// Prints for each state of an old sheet's table the state of a new sheet's table to go on from: `migrate OLD NEW`, the names of two files. A file that cannot
+// be read counts as empty. Failed reads and writes are told on standard error.
+use libc::STDERR_FILENO;
+ghost use Prim.Native.Nat.{_≤_};
+ghost use lib.ListN.{length};
+
+fn tell(failed: bool, message: &[u8]) {
+    if failed {
+        io::write_all(STDERR_FILENO, message);
+    }
+}
+
+// Reads the file that an argument names to the front of the text; its length. A missing argument names none, nor does one that is longer than a path.
+fn read_sheet(argument: usize, text: &mut [u8], message: &[u8]) -> usize
+    ensures { λ r. ⌜ r ≤ length (now (text .entry)) ⌝ }
+{
+    let mut path = io::buffer();
+    let length = os::arg(argument, &mut path);
+    let descriptor = os::open_read(&path[..length]);
+    let input = input::read_input(descriptor, text);
+    libc::close(descriptor);
+    tell(input.failed, message);
+    input.size
+}
+
+fn main() {
+    let mut old = [0u8; 16385];
+    let old_size = read_sheet(1, &mut old, b"migrate: the old sheet cannot be read\n");
+    let mut new = [0u8; 16385];
+    let new_size = read_sheet(2, &mut new, b"migrate: the new sheet cannot be read\n");
+    let printed = show_migration::show_migration(&old[..old_size], &new[..new_size]);
+    tell(
+        !printed.whole,
+        b"migrate: the list cannot be written whole\n",
+    );
+}
