@@ -25,6 +25,7 @@ from game_check import (sheet_difference as game_difference, table_difference,
                         worked_fault)
 from generate import bound_sheets, division_sheets, random_sheets
 from grammar import all_subexpressions, expression_text
+from histogram_check import difference as histogram_difference
 from intervals import interval
 from kinds_check import by_writing_again, drawn_difference, short_sheets
 from lasso import (Lasso, at, course, from_times, is_solution,
@@ -47,6 +48,7 @@ SITUATION_BOUND = 400
 RECORD_BOUND = 3000
 LASSO_BOUND = 150
 REPLAYS = 2000
+HISTOGRAMS = 1000
 COURSES = 1000
 SHEET_COURSES = 500
 KINDS_SHEETS = 60
@@ -502,6 +504,15 @@ def check_replays(rng, counts):
         counts["records replayed by lines and by bytes"] += 1
 
 
+def check_histograms(rng, counts):
+    """What `histogram` prints, by values and by letters."""
+    for _ in range(HISTOGRAMS):
+        case = histogram_difference(rng)
+        if case:
+            raise Difference("histogram", *case)
+        counts["records counted by values and by letters"] += 1
+
+
 def check_courses(rng, counts):
     """The shortest course with the fewest changes, by rows and last letters and
     by all records."""
@@ -572,6 +583,7 @@ def main(seed, count):
         check_courses(rng, counts)
         check_games(random.Random("game %d" % seed), counts)
         check_carries(random.Random("carry %d" % seed), counts)
+        check_histograms(random.Random("histogram %d" % seed), counts)
         sheets = [(wanted.name, wanted.sheet) for wanted in EXAMPLES
                   if "letters" not in wanted.name]
         sheets += random_sheets(seed, count, 6) + division_sheets(seed, count, 6)

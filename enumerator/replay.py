@@ -33,6 +33,13 @@ def start_state(text, states):
     return state if 0 <= state < states else None
 
 
+def has_names(sheet, lines):
+    """The first line has the sheet's names: "13, names that differ"; a record
+    without lines has none."""
+    return (bool(lines) and is_plain(lines[0])
+            and token_texts(lines[0]) == sheet.names)
+
+
 def line_fault(sheet, line):
     """"13, [..] a line that is not one integer per stream (a byte refusal 1
     bars makes either so); 14, a value outside its range", in that order, or 0
@@ -83,17 +90,20 @@ def replay_lines(sheet_text, record, start):
     if refusal:
         return [["refused", refusal]]
     lines = split_lines(record)
-    if (not lines or not is_plain(lines[0])
-            or token_texts(lines[0]) != sheet.names):
+    if not has_names(sheet, lines):
         return [["refused", 13]]
     return [["line", "state"]] + played(sheet, compiled.entries, state, lines[1:])
+
+
+def printed_lines(lines):
+    """The bytes of lines of words and numbers."""
+    return "".join(" ".join(map(str, line)) + "\n" for line in lines).encode()
 
 
 def replay(sheet_text, record, start=None):
     """The bytes that `replay` prints for the bytes of a sheet and of a record
     and the text of a start, or no start."""
-    return "".join(" ".join(map(str, line)) + "\n" for line
-                   in replay_lines(sheet_text, record, start)).encode()
+    return printed_lines(replay_lines(sheet_text, record, start))
 
 
 def file_bytes(name):

@@ -31,6 +31,8 @@ STREAM_KIND_NUMBERS = {"set": 0, "read": 1}
 
 # The sizes of the chunks in which the program `replay_vectors` plays a record, one after the other.
 CHUNKS = (1, 2, 3, 5, 7, 64)
+# Those in which the program `histogram_vectors` counts one.
+HISTOGRAM_CHUNKS = (1, 3, 64)
 
 
 def load(folder, name):
@@ -323,6 +325,25 @@ def strategy_program(vectors):
     return {"args": b"sheet\n", "data/sheet": first["sheet"].encode("latin-1"), "stdout": first["printed"].encode()}
 
 
+def histogram_case(vector):
+    """The bytes of one case: the length of both texts, that of the sheet, and the texts; and what is printed once for each size of chunks."""
+    sheet, record = (vector[key].encode("latin-1") for key in ("sheet", "record"))
+    return word(len(sheet + record)) + word(len(sheet)) + sheet + record, vector["printed"].encode() * len(HISTOGRAM_CHUNKS)
+
+
+def histogram_vectors_program(vectors):
+    """All cases, in order."""
+    cases = [histogram_case(vector) for vector in vectors]
+    return b"".join(case[0] for case in cases), b"".join(case[1] for case in cases)
+
+
+def histogram_program(vectors):
+    """The first case, as files and arguments, and what `histogram` prints for it."""
+    first = vectors[0]
+    return {"args": b"sheet\nrecord\n", "data/sheet": first["sheet"].encode("latin-1"),
+            "data/record": first["record"].encode("latin-1"), "stdout": first["printed"].encode()}
+
+
 def write_files(folder, crate, files):
     for name, content in files.items():
         path = os.path.join(folder, crate, name)
@@ -360,6 +381,9 @@ def main(vectors, crates):
     migrated = load(vectors, "migrate.jsonl")
     write_files(crates, "migrate", sheets_files(migrated[0], ("old", "new")))
     write(crates, "migrate_vectors", sheets_program(migrated, ("old", "new")))
+    histograms = load(vectors, "histogram.jsonl")
+    write_files(crates, "histogram", histogram_program(histograms))
+    write(crates, "histogram_vectors", histogram_vectors_program(histograms))
 
 
 if __name__ == "__main__":

@@ -23,6 +23,8 @@ from game_cases import game_cases
 from generate import (bound_sheets, counted_sheets, division_sheets,
                       large_table_sheets, random_kinds_sheets, random_sheets)
 from grammar import constraint_text
+from histogram import histogram
+from histogram_cases import histogram_cases
 from intervals import deepest_back, deepest_reach, firsts, untils
 from limits import SITUATIONS, STEP_REFUSED
 from migrate import migrate
@@ -50,6 +52,8 @@ DAMAGED_EACH = 16
 STEPS = 160
 DRAWN_REPLAYS = 40
 LAWFUL_REPLAYS = 30
+DRAWN_HISTOGRAMS = 40
+LAWFUL_HISTOGRAMS = 30
 # Courses along small tables and along tables of more letters.
 COURSES = (140, 80)
 # Of so many drawn sheets, the first so many whose course has letters.
@@ -169,6 +173,12 @@ def replay_vector(sheet, record, start):
             "printed": replay(sheet, record, start).decode()}
 
 
+def histogram_vector(sheet, record):
+    return {"sheet": sheet.decode("latin-1"),
+            "record": record.decode("latin-1"),
+            "printed": histogram(sheet, record).decode()}
+
+
 def course_vector(case):
     answer = course(*case)
     return {"entries": case.entries, "finals": case.finals,
@@ -272,12 +282,15 @@ def main(directory):
     carries = [carry_vector(case) for case in carry_cases(SEED, *CARRIES)]
     migrated = [migrate_vector(*case)
                 for case in migrate_cases(SEED, MIGRATED_SHEETS)]
+    histograms = [histogram_vector(*case) for case in histogram_cases(
+        SEED, DRAWN_HISTOGRAMS, LAWFUL_HISTOGRAMS)]
     for name, vectors in (("sheets", sheets), ("compile", compiles),
                           ("normal", normals), ("step", steps),
                           ("replay", replays), ("course", courses),
                           ("shortest", printed), ("game", games),
                           ("strategy", settled), ("carry", carries),
-                          ("migrate", migrated)):
+                          ("migrate", migrated),
+                          ("histogram", histograms)):
         write_lines(directory, name + ".jsonl", vectors)
     print_counts("sheets", (vector["refusal"] for vector in sheets))
     print_counts("compiles", (vector["refusal"] for vector in compiles))
@@ -293,6 +306,7 @@ def main(directory):
     print_counts("carries", (refusal for vector in carries
                              for _, refusal in vector["calls"]))
     print("sheets carried over: %d" % len(migrated))
+    print("histograms: %d" % len(histograms))
 
 
 if __name__ == "__main__":

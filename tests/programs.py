@@ -8,6 +8,7 @@ import random
 import subprocess
 import sys
 import tempfile
+import threading
 from collections import Counter
 
 ROOT = pathlib.Path(__file__).resolve().parents[1]
@@ -110,6 +111,42 @@ def unreadable_pairs(runs, sheet, not_read):
             ("an endless first sheet", ["/dev/zero", good], (b"refused 1\n", b"")),
             ("an endless second sheet", [good, "/dev/zero"], (b"refused 1\n", b""))):
         runs.expect(name, runs.run(arguments), wanted)
+
+
+def unreadable_records(runs, sheet, record, sheet_unread, record_unread):
+    """A sheet or a record that cannot be read counts as empty, which is told, that of the sheet alone where the sheet is refused."""
+    missing, folder = str(runs.folder / "missing"), str(runs.folder)
+    for name, arguments, wanted in (
+            ("no arguments", [], (b"refused 3\n", sheet_unread)),
+            ("one argument", [sheet], (b"refused 13\n", record_unread)),
+            ("a missing sheet", [missing, record], (b"refused 3\n", sheet_unread)),
+            ("a missing record", [sheet, missing], (b"refused 13\n", record_unread)),
+            ("a folder for a sheet", [folder, record], (b"refused 3\n", sheet_unread)),
+            ("a folder for a record", [sheet, folder], (b"refused 13\n", record_unread)),
+            ("a path that is too long", [sheet, "r" * 5000], (b"refused 13\n", record_unread)),
+            ("an endless sheet", ["/dev/zero", record], (b"refused 1\n", b""))):
+        runs.expect(name, runs.run(arguments), wanted)
+
+
+def endless_record(runs, sheet, beginning, line):
+    """What is printed and told of a record whose writer never ends by itself, in a pipe with a name."""
+    pipe = str(runs.folder / "pipe")
+    os.mkfifo(pipe)
+
+    def feed():
+        with open(pipe, "wb", buffering=0) as writer:
+            try:
+                writer.write(beginning)
+                while True:
+                    writer.write(line * 1000)
+            except BrokenPipeError:
+                pass
+
+    thread = threading.Thread(target=feed, daemon=True)
+    thread.start()
+    printed = runs.run([sheet, pipe])
+    thread.join(LONGEST_RUN)
+    return printed
 
 
 def later_read_of_a_sheet_fails(runs, sheet, not_read, before=(), behind=()):

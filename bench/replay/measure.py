@@ -1,9 +1,10 @@
 """Writes records of random lines and runs two programs on them in turns.
 
-    python3 bench/replay/measure.py REPLAY REPLAY_IN_C FOLDER COUNT
+    python3 bench/replay/measure.py PROGRAM PROGRAM_IN_C FOLDER COUNT
 
-Prints the least processor time of each over several runs, their ratio, and the
-most memory that each held. What they print is compared first.
+PROGRAM takes a sheet and a record. Prints the least processor time of each over
+several runs, their ratio, and the most memory that each held. What they print
+is compared first.
 """
 
 import itertools
@@ -71,7 +72,8 @@ def compared(programs, arguments, folder):
 
 def main(ours, in_c, folder, count):
     programs = (ours, in_c)
-    print("%-14s %10s %10s %8s %12s %12s" % ("%d lines" % count, "replay s", "c s", "ratio", "replay KiB", "c KiB"))
+    called = os.path.basename(ours)
+    print("%-14s %12s %10s %8s %14s %10s" % ("%d lines" % count, called + " s", "c s", "ratio", called + " KiB", "c KiB"))
     for name, (sheet, values) in RECORDS.items():
         arguments = [os.path.join(folder, part) for part in ("sheet", "record")]
         with open(arguments[0], "wb") as out:
@@ -81,7 +83,7 @@ def main(ours, in_c, folder, count):
         with open(os.devnull, "wb") as out:
             turns = [[run(program, arguments, out) for program in programs] for _ in range(RUNS)]
         times = [min(turn[which] for turn in turns) for which in (0, 1)]
-        print("%-14s %10.3f %10.3f %8.2f %12d %12d" % (name, *times, times[0] / times[1], *rooms))
+        print("%-14s %12.3f %10.3f %8.2f %14d %10d" % (name, *times, times[0] / times[1], *rooms))
         os.remove(arguments[1])
 
 

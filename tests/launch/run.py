@@ -2,8 +2,8 @@
 
     python3 tests/launch/run.py
 
-Uses target/bin/sluice, which `rt check sluice` makes, and target/bin/replay, shortest, strategy and migrate where they are there. How a program is
-built, what is passed on and how long it is kept is tested in a folder of its own, with stand-ins for `rt` and for the program.
+Uses target/bin/sluice, which `rt check sluice` makes, and target/bin/replay, histogram, shortest, strategy and migrate where they are there. How a
+program is built, what is passed on and how long it is kept is tested in a folder of its own, with stand-ins for `rt` and for the program.
 """
 
 import os
@@ -125,6 +125,22 @@ def replay_cases(folder):
     expect("a link to replay", run([link, sheet, record]), "line state\n1 0\nrefused 12\n", 1, "")
 
 
+def histogram_cases(folder):
+    tool = ROOT / "tools" / "histogram"
+    help_and_usage("histogram", 1, 3)
+    if not is_there("histogram"):
+        return
+    sheet, record, missing = folder / "gates.sheet", folder / "year", folder / "none"
+    sheet.write_text(SHEET)
+    record.write_text("x y\n1 0\n1 0\n0 1\n")
+    expect("counts", run([tool, sheet, record]), "stream value lines\nx 0 1\nx 1 2\ny 0 2\ny 1 1\ntotal 3\n", 0, "")
+    expect("no such sheet to count by", run([tool, missing, record]), "refused 3\n", 2, "cannot be read")
+    expect("no such record to count", run([tool, sheet, missing]), "refused 13\n", 2, "cannot be read")
+    expect("a full device for counts", full_device([tool, sheet, record]), None, 2, "cannot be written")
+    record.write_text("x y\n1 0\n2 0\n")
+    expect("a value outside its range", run([tool, sheet, record]), "refused 14\n", 1, "")
+
+
 def shortest_cases(folder):
     tool = ROOT / "tools" / "shortest"
     help_and_usage("shortest", 0, 3)
@@ -235,14 +251,14 @@ def stand_in_cases(folder):
 
 def build():
     """A program that is older than a source is built by its first call, which says so on standard error."""
-    for name, arguments in [("sluice", []), ("replay", ["", ""]), ("shortest", [""]), ("strategy", [""]), ("migrate", ["", ""])]:
+    for name, arguments in [("sluice", []), ("replay", ["", ""]), ("histogram", ["", ""]), ("shortest", [""]), ("strategy", [""]), ("migrate", ["", ""])]:
         if (ROOT / "target" / "bin" / name).exists():
             subprocess.run([str(ROOT / "tools" / name), *arguments], stdin=subprocess.DEVNULL, capture_output=True)
 
 
 def main():
     build()
-    for cases in [sluice_cases, replay_cases, shortest_cases, strategy_cases, migrate_cases, stand_in_cases]:
+    for cases in [sluice_cases, replay_cases, histogram_cases, shortest_cases, strategy_cases, migrate_cases, stand_in_cases]:
         with tempfile.TemporaryDirectory() as folder:
             cases(pathlib.Path(folder))
     print(f"{done} cases: help, usage, statuses, links, reads and writes that fail, the first call")

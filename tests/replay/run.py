@@ -8,15 +8,13 @@ PROGRAM is target/bin/replay, which `rt check replay` makes. CC may name another
 C compiler.
 """
 
-import os
 import pathlib
 import random
 import sys
-import threading
 
 ROOT = pathlib.Path(__file__).resolve().parents[2]
 sys.path[:0] = [str(ROOT / "enumerator"), str(ROOT / "tests")]
-from programs import LONGEST_RUN, Runs, full_device, run_parts, vectors  # noqa: E402
+from programs import Runs, endless_record, full_device, run_parts, unreadable_records, vectors  # noqa: E402
 from replay import replay  # noqa: E402
 
 UNTIL = b"x y\n0 0\n1 1\nx until y"
@@ -73,19 +71,10 @@ def year(runs):
 
 def unreadable(runs):
     sheet, record = runs.file("sheet", UNTIL), runs.file("record", b"x y\n1 1\n")
-    missing, folder = str(runs.folder / "missing"), str(runs.folder)
-    for name, arguments, wanted in (
-            ("no arguments", [], (b"refused 3\n", SHEET_UNREAD)),
-            ("one argument", [sheet], (b"refused 13\n", RECORD_UNREAD)),
-            ("a missing sheet", [missing, record], (b"refused 3\n", SHEET_UNREAD)),
-            ("a missing record", [sheet, missing], (b"refused 13\n", RECORD_UNREAD)),
-            ("a folder for a sheet", [folder, record], (b"refused 3\n", SHEET_UNREAD)),
-            ("a folder for a record", [sheet, folder], (b"refused 13\n", RECORD_UNREAD)),
-            ("a path that is too long", [sheet, "r" * 5000], (b"refused 13\n", RECORD_UNREAD)),
-            ("a bad start and a missing record", [sheet, missing, "2"], (b"refused 11\n", b"")),
-            ("an endless sheet", ["/dev/zero", record], (b"refused 1\n", b"")),
-            ("further arguments", [sheet, record, "1", "x"], (b"line state\n1 1\n", b""))):
-        runs.expect(name, runs.run(arguments), wanted)
+    unreadable_records(runs, sheet, record, SHEET_UNREAD, RECORD_UNREAD)
+    got = runs.run([sheet, str(runs.folder / "missing"), "2"])
+    runs.expect("a bad start and a missing record", got, (b"refused 11\n", b""))
+    runs.expect("further arguments", runs.run([sheet, record, "1", "x"]), (b"line state\n1 1\n", b""))
 
 
 def later_read_fails(runs):
@@ -106,24 +95,8 @@ def writes_that_fail(runs):
 
 
 def stops_at_a_refusal(runs):
-    """A writer that never ends by itself, into a pipe with a name."""
-    pipe = str(runs.folder / "pipe")
-    os.mkfifo(pipe)
-
-    def feed():
-        with open(pipe, "wb", buffering=0) as writer:
-            try:
-                writer.write(b"x y\n1 0\n0 0\n")
-                while True:
-                    writer.write(b"1 1\n" * 1000)
-            except BrokenPipeError:
-                pass
-
-    thread = threading.Thread(target=feed, daemon=True)
-    thread.start()
-    got = runs.run([runs.file("sheet", UNTIL), pipe])
+    got = endless_record(runs, runs.file("sheet", UNTIL), b"x y\n1 0\n0 0\n", b"1 1\n")
     runs.expect("a record that is not read to its end", got, (b"line state\n1 0\nrefused 12\n", b""))
-    thread.join(LONGEST_RUN)
 
 
 run_parts("replay", ReplayRuns, (stored_cases, year, unreadable, later_read_fails, writes_that_fail, stops_at_a_refusal))

@@ -1,22 +1,20 @@
 -- What the program `replay` prints by its calls is what document 02 says of the sheet, the record and the start: the sheet that `open_table` gives is
 -- passed with its lists cut to the streams, all chunks of the record are played in turn, whatever their sizes, and the record is ended. Said in the terms of
 -- the calls' contracts (replaying, Machine); reads, writes and the loop of the program itself are not spoken of. From what is printed with what
--- `open_table` gives (Plays), the law of records in chunks (replaying, Chunks), and the parts of a stored sheet (situations, Stored).
-use Prim.Native.Nat.{ℕ, _-_, _<_, min}
-use native.Mathlib.Omega.{arith}
-use mathlib.Core.Path.{_≡_, refl, sym, _∙_, ap, subst}
+-- `open_table` gives (Plays), the law of records in chunks (replaying, Chunks), and the parts of a stored sheet (stored_ranges, Passed).
+use Prim.Native.Nat.{ℕ, _<_}
+use mathlib.Core.Path.{_≡_, sym, _∙_, ap, subst}
 use mathlib.Core.List.{List}
 use mathlib.Core.Option.{Option}
-use lib.ListN.{length, take, replicate, length-map}
+use lib.ListN.{length}
 use Rattle.text.specs.Bytes.{Token, lines}
 use Rattle.text.specs.Lines.{allChunks}
 use Rattle.meaning.specs.Expression.{Sheet}
 use Rattle.sheet.specs.Accepted.{Accepted}
 use Rattle.sheet.proofs.Accepted.{accepted-facts}
 use Rattle.reader.specs.declared.StoredSheet.{StoredSheet}
-use Rattle.header.specs.Streams.{nameBytes, nameLengths}
 use Rattle.reader.specs.Stored.{storedSheet}
-use Rattle.situations.proofs.Stored.{IsPadded, part-held, held-lows, held-highs}
+use Rattle.stored_ranges.proofs.Passed.{behindNames, names-passed, lengths-passed, lows-passed, highs-passed}
 use Rattle.replaying.specs.Replay.{replayedLines}
 use Rattle.replaying.specs.Machine.{playedSheet}
 use Rattle.replaying.proofs.Chunks.{stored, replay-chunks}
@@ -28,26 +26,14 @@ use Rattle.opening.proofs.Plays.{opened-plays}
 
 -- ---- the stored sheet, cut to the streams
 
--- The bytes behind the names.
-abbrev behindNames : Sheet → List ℕ
-behindNames s = replicate (64 - length (nameBytes (s .streams))) 0
-
 module _ (s : Sheet) (accepted : Accepted s) {x : StoredSheet} (same : x ≡ storedSheet s) where
-  lengths-part : IsPadded (x .streams) (x .lengths) (nameLengths (s .streams))
-  unfolding storedSheet
-  lengths-part = record { size = 8; blank = 0; many = ap (λ y. y .streams) same ∙ sym (length-map (s .streams) (λ y. length (y .name))); same = ap (λ y. y .lengths) same }
-
-  uncut-streams : min (x .streams) 8 ≡ x .streams
-  unfolding storedSheet
-  uncut-streams = omega (arith, ap (λ y. y .streams) same, accepted .streams .streamCount)
-
   passed-is-stored : (entries : List ℕ) → passedSheet x entries ≡ stored accepted (behindNames s) entries
-  unfolding storedSheet
   passed-is-stored entries =
-      let lengths = ap (λ n. take n (x .lengths)) uncut-streams ∙ part-held lengths-part in
-      let lows = held-lows s same accepted refl refl refl refl refl in
-      let highs = held-highs s same accepted refl refl refl refl refl in
-      λ i. playedSheet (same i .names) (lengths i) (lows i) (highs i) entries
+      let names = names-passed s accepted same in
+      let lengths = lengths-passed s accepted same in
+      let lows = lows-passed s accepted same in
+      let highs = highs-passed s accepted same in
+      λ i. playedSheet (names i) (lengths i) (lows i) (highs i) entries
 
   -- The record in chunks of any sizes, with fewer bytes than numbers of the machine.
   passed-prints : (entries : List ℕ) (state : ℕ) (chunks : List (List ℕ)) → length (allChunks chunks) < 18446744073709551616

@@ -1,5 +1,5 @@
--- How long the lines can be: at most 32 bytes for a refusal and for two numbers, 128 for a heading, 256 for an entry, and for the names and the values
--- of eight streams 73 and 169.
+-- How long the lines can be: at most 32 bytes for a refusal and for two numbers, 128 for a heading, 256 for an entry and for a name with numbers and a
+-- count, and for the names and the values of eight streams 73 and 169.
 use Prim.Native.Nat.{ℕ, zero, suc, _+_, _*_, _/_, _%_, _≤_, _<_, min}
 use native.Mathlib.Omega.{arith}
 use native.Mathlib.Nat.{div-lt-iff-lt-mul}
@@ -8,7 +8,7 @@ use mathlib.Core.Bool.{Bool, true, false}
 use mathlib.Core.List.{List, [], _∷_, _++_, map}
 use lib.Dec.{ltb}
 use lib.IntN.{ℤ, pos, negsuc}
-use lib.ListN.{length, getD, drop, length-append, length-take}
+use lib.ListN.{length, getD, take, drop, length-append, length-take}
 use borrow.Author.Tests.{ltb-true, ltb-false}
 use mir.Syntax.{w64}
 use mir.Val.{SFits}
@@ -131,6 +131,29 @@ entry-length state final values next s f v n x =
     let r = values-length values v in
     let t = digits-length 4 next (omega arith) in
     omega arith
+
+pub named-length : (name : Token) (values : List ℤ) (count : ℕ) → length name ≤ 8 → AllFit values → length values ≤ 8 → count < 18446744073709551616
+    → length (line (name ∷ map decimal values) (decimal (pos count))) ≤ 256
+named-length name values count s f v n =
+    let vs = spaced (map decimal values) in
+    let a = length-append (name ++ (32 ∷ vs)) (digits count ++ (10 ∷ [])) in
+    let b = length-append name (32 ∷ vs) in
+    let c = length-append (digits count) (10 ∷ []) in
+    let p = natural-length count n in
+    let q = values-length values f in
+    omega arith
+
+-- ---- numbers of the machine
+
+pub fit-take : (n : ℕ) (vs : List ℤ) → AllFit vs → AllFit (take n vs)
+fit-take zero vs f = tt
+fit-take (suc n) [] f = tt
+fit-take (suc n) (v ∷ vs) f = (f .0, fit-take n vs (f .1))
+
+pub fit-drop : (n : ℕ) (vs : List ℤ) → AllFit vs → AllFit (drop n vs)
+fit-drop zero vs f = f
+fit-drop (suc n) [] f = tt
+fit-drop (suc n) (v ∷ vs) f = fit-drop n vs (f .1)
 
 -- ---- the values of a letter
 

@@ -80,3 +80,7 @@ entry-parts state final values next = simp append-assoc
 
 pub pair-parts : (first second : ℕ) → ((digits first ++ (32 ∷ [])) ++ digits second) ++ (10 ∷ []) ≡ line (decimal (pos first) ∷ []) (decimal (pos second))
 pair-parts first second = simp append-assoc
+
+pub named-parts : (name : Token) (values : List ℤ) (count : ℕ)
+    → (((name ++ (32 ∷ [])) ++ spaced (map decimal values)) ++ digits count) ++ (10 ∷ []) ≡ line (name ∷ map decimal values) (decimal (pos count))
+named-parts name values count = simp append-assoc

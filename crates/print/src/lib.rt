@@ -245,6 +245,17 @@ pub fn numbers_line(values: &[i64], out: &mut [u8]) -> usize
     append_byte(out, end, 10)
 }
 
+// A line of a name, numbers and a count.
+pub fn named_line(name: &[u8], values: &[i64], count: u64, out: &mut [u8]) -> usize
+    ensures { λ r. ⌜ Appends 0 (line (now (name .entry) ∷ map decimal (now (values .entry))) (decimal (pos count))) (now (out .entry)) (now (out .exit)) r ⌝ }
+{
+    let name_end = append_bytes(out, 0, name);
+    let values_at = append_byte(out, name_end, 32);
+    let count_at = append_values(out, values_at, values);
+    let end = append_natural(out, count_at, count);
+    append_byte(out, end, 10)
+}
+
 // A text as it is given.
 pub fn text(bytes: &[u8], out: &mut [u8]) -> usize
     ensures { λ r. ⌜ Appends 0 (now (bytes .entry)) (now (out .entry)) (now (out .exit)) r ⌝ }

@@ -6,4 +6,5 @@ pub mod Counts
 pub mod Values
 pub mod Names
 pub mod Sheets
+pub mod Letters
 mod Examples

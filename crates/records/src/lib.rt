@@ -349,7 +349,7 @@ pub fn line_end(line: LineState, lows: &[i64], highs: &[i64]) -> LineEnd
 }
 
 // The name of stream `i`, where `names` holds eight bytes for each name; what there is of it.
-fn name_in<'a>(names: &'a [u8], lengths: &[u8], i: usize) -> &'a [u8]
+pub fn name_in<'a>(names: &'a [u8], lengths: &[u8], i: usize) -> &'a [u8]
     ensures { λ r. ⌜ now r ≡ nameIn (now (names .entry)) (now (lengths .entry)) i ⌝ }
 {
     if names.len() / 8 < i {

@@ -5,9 +5,8 @@ use native.Mathlib.Omega.{arith}
 use mathlib.Core.Path.{_≡_, refl, sym, _∙_, ap}
 use mathlib.Core.Bool.{Bool, true, false, cond}
 use mathlib.Core.List.{List, [], _∷_, _++_, map, append-assoc, append-nil}
-use lib.Dec.{eqb}
 use lib.ListN.{length}
-use Rattle.text.specs.Bytes.{lines, addToLines}
+use Rattle.text.specs.Bytes.{lines}
 use Rattle.text.specs.Fold.{runBytes}
 use Rattle.text.specs.Lines.{allChunks, runChunks, linesRead, EndsLines}
 use Rattle.text.proofs.Lines.{chunks-lines}
@@ -26,11 +25,13 @@ use Rattle.records.specs.Machine.{lineStart, lineByte, endOf, namesStart, names
 use Rattle.records.specs.declared.NamesState.{NamesState}
 use Rattle.records.proofs.Sheets.{accepted-line, accepted-names}
 use Rattle.replaying.specs.Replay.{replayHeading, stateLine, LineOutcome, reaches, refuses, entered, lineThen, outcomeFrom, replayed, replayedLines}
-use Rattle.replaying.specs.Machine.{PlayedSheet, playedSheet, Playing, playing, valuesReplay, endedReplay, startReplay, nextLine, outcomeText, nameAt, readIn, byteRead, outcomeOf, lineOutcome, afterOutcome, isNames, endIn, lineEnded, playByte, lastLine, closedReplay}
+use Rattle.record_lines.specs.Runs.{oneMore}
+use Rattle.record_lines.proofs.Runs.{begunBy, begun-stays, lines-few}
+use Rattle.replaying.specs.Machine.{PlayedSheet, playedSheet, Playing, playing, valuesReplay, endedReplay, startReplay, outcomeText, nameAt, readIn, byteRead, outcomeOf, lineOutcome, afterOutcome, isNames, endIn, lineEnded, playByte, lastLine, closedReplay}
 use Rattle.replaying.specs.declared.Stage.{Stage}
 use Rattle.replaying.specs.declared.Stage.the-variants.{Names, Values, Ended}
 use Rattle.replaying.specs.declared.Replay.{Replay}
-use Rattle.replaying.proofs.Steps.{begunBy, names-run, values-run}
+use Rattle.replaying.proofs.Steps.{names-run, values-run}
 
 -- ---- the machine ends lines
 
@@ -75,11 +76,7 @@ module _ (s : PlayedSheet) where
 
   ended-bytes : (l : List ℕ) (g : Bool) (t : List ℕ) → runBytes (byteRead s) (playing (endedReplay g) t) l ≡ playing (endedReplay (begunBy g l)) t
   ended-bytes [] g t = refl
-  ended-bytes (b ∷ l) g t = ended-bytes l true t ∙ ap (λ h. playing (endedReplay h) t) (stays l)
-    where
-      stays : (m : List ℕ) → begunBy true m ≡ true
-      stays [] = refl
-      stays (c ∷ m) = refl
+  ended-bytes (b ∷ l) g t = ended-bytes l true t ∙ ap (λ h. playing (endedReplay h) t) (begun-stays l)
 
   ended-lines : (ls : List (List ℕ)) (t : List ℕ) → closedReplay s (read (playing (endedReplay false) t) ls) .printed ≡ t
   ended-lines [] t = refl
@@ -88,17 +85,6 @@ module _ (s : PlayedSheet) where
       ∙ ap (λ u. closedReplay s (read (playing (endedReplay false) u) ls) .printed) (append-nil t) ∙ ended-lines ls t
 
 -- ---- an accepted sheet
-
--- A text has at most as many lines as bytes.
-lines-few : (text : List ℕ) → length (lines text) ≤ length text
-unfolding lines
-lines-few [] = omega arith
-lines-few (b ∷ bs) = by (eqb b 10) (lines bs) (lines-few bs)
-  where
-    by : (t : Bool) (ls : List (List ℕ)) → length ls ≤ length bs → length (addToLines t b ls) ≤ suc (length bs)
-    by true ls h = omega arith
-    by false [] h = omega arith
-    by false (l ∷ ls) h = omega arith
 
 module _ {s : Sheet} (a : Accepted s) (rest entries : List ℕ) where
   -- The sheet as the reader stores it, with any bytes behind the names, and any entries.
@@ -127,7 +113,7 @@ module _ {s : Sheet} (a : Accepted s) (rest entries : List ℕ) where
   after-line : (ls : List (List ℕ)) → PrintsValues ls → (r : Replay) (o : LineOutcome) (t : List ℕ) → r .number + suc (length ls) ≤ 18446744073709551615
       → closedReplay stored (read stored (playing (afterOutcome stored r o) (t ++ outcomeText (r .number) o)) ls) .printed ≡ t ++ lineThen (r .number) (λ next. replayed (s .streams) entries (suc (r .number)) next ls) o
   after-line ls again r (reaches next) t h =
-      let e : nextLine (r .number) ≡ suc (r .number) = omega arith in
+      let e : oneMore (r .number) ≡ suc (r .number) = omega arith in
       ap (λ n. closedReplay stored (read stored (playing (valuesReplay false (r .names) lineStart n next) (t ++ stateLine (r .number) next)) ls) .printed) e
       ∙ again (r .names) (suc (r .number)) next (t ++ stateLine (r .number) next) (omega arith) ∙ append-assoc t (stateLine (r .number) next) (replayed (s .streams) entries (suc (r .number)) next ls)
   after-line ls again r (refuses n) t h = ended-lines stored ls (t ++ refusalLine n)

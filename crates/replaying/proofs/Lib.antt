@@ -1,5 +1,3 @@
-pub mod Slices
-pub mod Runs
 pub mod Outcomes
 pub mod Steps
 pub mod Plays

@@ -15,18 +15,16 @@ use Rattle.records.specs.Machine.{lineStart, lineByte, namesStart, namesByte}
 use Rattle.records.specs.declared.LineState.{LineState}
 use Rattle.records.specs.declared.NamesState.{NamesState}
 use Rattle.replaying.specs.Replay.{LineOutcome, reaches, refuses, replayHeading}
-use Rattle.replaying.specs.Machine.{PlayedSheet, playing, namesReplay, valuesReplay, endedReplay, advancedTo, nextLine, RunsLine, isRefused, ledTo, HoldsOutcome, storedStreams, nameAt, byteRead, lineOutcome, afterOutcome, isNames, PlaysChunk}
+use Rattle.record_lines.specs.Runs.{oneMore, RunsLine}
+use Rattle.replaying.specs.Machine.{PlayedSheet, playing, namesReplay, valuesReplay, endedReplay, advancedTo, isRefused, ledTo, HoldsOutcome, storedStreams, nameAt, byteRead, lineOutcome, afterOutcome, isNames, PlaysChunk}
 use Rattle.replaying.specs.declared.Stage.the-variants.{Names, Values}
 use Rattle.replaying.specs.declared.Replay.{Replay}
 use Rattle.replaying.specs.declared.Advanced.{Advanced}
 use Rattle.replaying.specs.declared.LinePlayed.{LinePlayed}
-use Rattle.replaying.proofs.Slices.{slice-first}
+use Rattle.record_lines.proofs.Runs.{begunBy, begun-part}
 use Rattle.replaying.proofs.Outcomes.{written-line}
-use Rattle.replaying.proofs.Steps.{begunBy, names-run, values-run}
+use Rattle.replaying.proofs.Steps.{names-run, values-run}
 use Rattle.replaying.proofs.Plays.{lent-rest, plays-bytes, plays-line, plays-then, plays-on}
-
-begun-part : (g : Bool) (chunk : List ℕ) (from next : ℕ) → from < next → next ≤ length chunk → begunBy g (slice from next chunk) ≡ true
-begun-part g chunk from next h k = ap (begunBy g) (slice-first from next chunk h k)
 
 -- ---- the line of names
 
@@ -52,8 +50,9 @@ module _ (s : PlayedSheet) (chunk : List ℕ) (replay : Replay) (e : replay .sta
 
   pub names-bytes : from < next → PlaysChunk s replay chunk from out out (advancedTo (names-read true) next 0)
   names-bytes k =
-      subst (λ g. PlaysChunk s replay chunk from out out (advancedTo (names-read g) next 0)) (begun-part (replay .begun) chunk from next k (l .inside))
-      (plays-bytes s chunk replay out l h run)
+      let i : next ≤ length chunk = omega (arith, l .inside) in
+      subst (λ g. PlaysChunk s replay chunk from out out (advancedTo (names-read g) next 0)) (begun-part (replay .begun) chunk from next k i)
+      (plays-bytes s chunk replay out l h run i)
 
   module _ (k : next < length chunk) {out′ : List ℕ} {size : ℕ} where
     names-end : {same : Bool} → isNames s x ≡ same → size ≡ length (namesText same) → size ≤ length out → out′ ≡ sets out 0 (namesText same)
@@ -80,7 +79,7 @@ from-values {s} {chunk} {out} {out′} {from} {a} {b} r e z p =
     subst (λ k. PlaysChunk s (record { stage = k; begun = r .begun; names = r .names; line = r .line; number = r .number; state = r .state }) chunk from out out′ a) (sym e)
     (subst (PlaysChunk s (valuesReplay (r .begun) (r .names) (r .line) (r .number) (r .state)) chunk from out out′) (sym z) p)
 
-after-state : (s : PlayedSheet) (r : Replay) (o : LineOutcome) → isRefused o ≡ false → afterOutcome s r o ≡ valuesReplay false (r .names) lineStart (nextLine (r .number)) (ledTo o .state)
+after-state : (s : PlayedSheet) (r : Replay) (o : LineOutcome) → isRefused o ≡ false → afterOutcome s r o ≡ valuesReplay false (r .names) lineStart (oneMore (r .number)) (ledTo o .state)
 after-state s r (reaches state) e = refl
 after-state s r (refuses n) e = let z : _≡_ {A = ℕ} 0 1 = cc in absurd (omega arith)
 
@@ -102,10 +101,11 @@ module _ (s : PlayedSheet) (chunk : List ℕ) {first : Replay} {from : ℕ} {out
 
   pub values-bytes : at < next → PlaysChunk s first chunk from out₀ out (advancedTo (values-read true) next size)
   values-bytes k =
-      let more = plays-bytes s chunk (valuesReplay g x y m q) (drop size out) l room values-step in
+      let i : next ≤ length chunk = omega (arith, l .inside) in
+      let more = plays-bytes s chunk (valuesReplay g x y m q) (drop size out) l room values-step i in
       let none : size + 0 ≡ size = omega arith in
       subst (λ n. PlaysChunk s first chunk from out₀ out (advancedTo (values-read true) next n)) none
-      (subst (λ b. PlaysChunk s first chunk from out₀ out (advancedTo (values-read b) next (size + 0))) (begun-part g chunk at next k (l .inside))
+      (subst (λ b. PlaysChunk s first chunk from out₀ out (advancedTo (values-read b) next (size + 0))) (begun-part g chunk at next k i)
       (plays-then s chunk p more (sym (take-append-drop size out))))
 
   -- The line whole: the bytes behind those that are written are lent to the call that ends it.
@@ -119,11 +119,11 @@ module _ (s : PlayedSheet) (chunk : List ℕ) {first : Replay} {from : ℕ} {out
         (plays-line s chunk (valuesReplay g x y m q) (take (length out - size) (drop size out)) l (subst (λ z. 32 ≤ length z) (sym (lent-rest out size)) room) values-step k (o .size) (o .fits) (o .bytes))
 
     -- "one such line per value line, counted from 1, with the state reached"
-    pub values-state : r .ended ≡ false → {start : LineState} → start ≡ lineStart → {number : ℕ} → number ≡ nextLine m
+    pub values-state : r .ended ≡ false → {start : LineState} → start ≡ lineStart → {number : ℕ} → number ≡ oneMore m
         → PlaysChunk s first chunk from out₀ out₃ (advancedTo (valuesReplay false x start number (r .state)) (next + 1) (size + r .size))
     values-state n a b =
         subst (λ z. PlaysChunk s first chunk from out₀ out₃ (advancedTo z (next + 1) (size + r .size)))
-        (after-state s (values-read (begunBy g (slice at next chunk))) (lineOutcome s y′ q) (sym (o .ended) ∙ n) ∙ ap (valuesReplay false x lineStart (nextLine m)) (sym (o .state))
+        (after-state s (values-read (begunBy g (slice at next chunk))) (lineOutcome s y′ q) (sym (o .ended) ∙ n) ∙ ap (valuesReplay false x lineStart (oneMore m)) (sym (o .state))
         ∙ ap₂ (λ z k. valuesReplay false x z k (r .state)) (sym a) (sym b)) values-end
 
     pub values-refused : r .ended ≡ true → PlaysChunk s first chunk from out₀ out₃ (advancedTo (endedReplay false) (next + 1) (size + r .size))

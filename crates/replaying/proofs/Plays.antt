@@ -13,11 +13,12 @@ use borrow.Author.Tests.{ltb-true, ltb-false, eq-eqb}
 use Rattle.basics.proofs.Lists.{sets-append}
 use Rattle.text.specs.Fold.{runBytes}
 use Rattle.text.proofs.Lines.{run-append}
-use Rattle.replaying.specs.Machine.{PlayedSheet, playing, endedReplay, advancedTo, RunsLine, byteRead, endText, endIn, playByte, played, HasLineRoom, HasOutputRoom, PlaysChunk, Advances}
+use Rattle.record_lines.specs.Runs.{RunsLine}
+use Rattle.replaying.specs.Machine.{PlayedSheet, playing, endedReplay, advancedTo, byteRead, endText, endIn, playByte, played, HasLineRoom, HasOutputRoom, PlaysChunk, Advances}
 use Rattle.replaying.specs.declared.Stage.the-variants.{Ended}
 use Rattle.replaying.specs.declared.Replay.{Replay}
 use Rattle.replaying.specs.declared.Advanced.{Advanced}
-use Rattle.replaying.proofs.Slices.{slice-split, slice-more, slice-first}
+use Rattle.record_lines.proofs.Slices.{slice-split, slice-more, slice-first}
 use Rattle.replaying.proofs.Steps.{play-end, run-other, run-ended, room-other, room-ended, room-append, room-before, behind, run-behind, room-behind}
 
 -- A text that is stored from a place on is stored at the front of what stands there.
@@ -80,15 +81,14 @@ module _ (s : PlayedSheet) (chunk : List ℕ) where
     line-room = room-other s (length out) (slice from next chunk) (l .bytes) (playing replay []) (omega arith)
 
     -- The bytes of a line print nothing.
-    pub plays-bytes : PlaysChunk s replay chunk from out out (advancedTo replay′ next 0)
-    plays-bytes = plays-part (l .onward) (l .inside) line-run line-room refl (omega arith) refl
+    pub plays-bytes : next ≤ length chunk → PlaysChunk s replay chunk from out out (advancedTo replay′ next 0)
+    plays-bytes i = plays-part (l .onward) i line-run line-room refl (omega arith) refl
 
     -- A line and its byte 10 print what the line's end does.
     pub plays-line : next < length chunk → {size : ℕ} {out′ : List ℕ} → size ≡ length (endText s (replay′ .stage) replay′) → size ≤ length out → out′ ≡ sets out 0 (endText s (replay′ .stage) replay′)
         → PlaysChunk s replay chunk from out out′ (advancedTo (endIn s (replay′ .stage) replay′) (next + 1) size)
     plays-line k n f b =
         let o = l .onward in
-        let i = l .inside in
         let m = slice-more from next chunk o k in
         let last = eq-eqb (getD chunk next 0) 10 (l .stops k) in
         let run =

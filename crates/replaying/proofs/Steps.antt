@@ -3,7 +3,7 @@
 use Prim.Native.Nat.{ℕ, _+_}
 use native.Mathlib.Omega.{arith}
 use mathlib.Core.Path.{_≡_, refl, sym, _∙_, ap, subst}
-use mathlib.Core.Bool.{Bool, true, false, not, cond}
+use mathlib.Core.Bool.{Bool, true, false, not}
 use mathlib.Core.List.{List, [], _∷_, _++_, append-assoc, append-nil}
 use lib.Dec.{eqb}
 use lib.ListN.{length, length-append}
@@ -11,18 +11,11 @@ use Rattle.text.specs.Fold.{runBytes}
 use Rattle.records.specs.Machine.{lineByte, namesByte}
 use Rattle.records.specs.declared.LineState.{LineState}
 use Rattle.records.specs.declared.NamesState.{NamesState}
-use Rattle.replaying.specs.Machine.{PlayedSheet, Playing, playing, namesReplay, valuesReplay, endedReplay, NoLineEnd, storedStreams, nameAt, readIn, byteRead, endText, endIn, lineEnded, playByte, HasLineRoom, HasOutputRoom}
+use Rattle.record_lines.specs.Runs.{NoLineEnd}
+use Rattle.record_lines.proofs.Runs.{begunBy, begun-stays, text-end, text-other, run-other as run-line}
+use Rattle.replaying.specs.Machine.{PlayedSheet, Playing, playing, namesReplay, valuesReplay, endedReplay, storedStreams, nameAt, readIn, byteRead, endText, endIn, lineEnded, playByte, HasLineRoom, HasOutputRoom}
 use Rattle.replaying.specs.declared.Stage.the-variants.{Ended}
 use Rattle.replaying.specs.declared.Replay.{Replay}
-
--- Whether bytes stand since the last byte 10, after these.
-abbrev pub begunBy : Bool → List ℕ → Bool
-begunBy g [] = g
-begunBy g (b ∷ l) = true
-
-begun-stays : (l : List ℕ) → begunBy true l ≡ true
-begun-stays [] = refl
-begun-stays (b ∷ l) = refl
 
 -- The same, with a text printed before.
 abbrev pub behind : List ℕ → Playing → Playing
@@ -33,17 +26,17 @@ module _ (s : PlayedSheet) where
 
   pub play-end : (p : Playing) (b : ℕ) → eqb b 10 ≡ true → playByte s p b ≡ lineEnded s p
   unfolding playByte
-  play-end p b e = ap (λ t. cond t (lineEnded s p) (byteRead s p b)) e
+  play-end = text-end (byteRead s) (lineEnded s)
 
   pub play-other : (p : Playing) (b : ℕ) → eqb b 10 ≡ false → playByte s p b ≡ byteRead s p b
   unfolding playByte
-  play-other p b e = ap (λ t. cond t (lineEnded s p) (byteRead s p b)) e
+  play-other = text-other (byteRead s) (lineEnded s)
 
   -- ---- the bytes of a line
 
   pub run-other : (l : List ℕ) → NoLineEnd l → (p : Playing) → runBytes (playByte s) p l ≡ runBytes (byteRead s) p l
-  run-other [] h p = refl
-  run-other (b ∷ l) h p = ap (λ q. runBytes (playByte s) q l) (play-other p b (h .0)) ∙ run-other l (h .1) (byteRead s p b)
+  unfolding playByte
+  run-other = run-line (byteRead s) (lineEnded s)
 
   pub names-run : (l : List ℕ) (g : Bool) (x : NamesState) (y : LineState) (m q : ℕ) (t : List ℕ)
       → runBytes (byteRead s) (playing (namesReplay g x y m q) t) l ≡ playing (namesReplay (begunBy g l) (runBytes (namesByte (nameAt s)) x l) y m q) t

@@ -1,13 +1,13 @@
 -- What is kept of a record whose bytes come one after the other, and what is printed at the end of each line (document 02, S-1): scalars, whatever
 -- the record's length.
-use Prim.Native.Nat.{ℕ, suc, _+_, _≤_, _<_, min, max}
+use Prim.Native.Nat.{ℕ, _+_, _≤_, max}
 use mathlib.Core.Path.{_≡_}
 use mathlib.Core.Logic.{_⊎_}
 use mathlib.Core.Bool.{Bool, true, false, cond}
 use mathlib.Core.List.{List, [], _∷_, _++_}
 use lib.Dec.{leb, eqb}
 use lib.IntN.{ℤ}
-use lib.ListN.{length, getD}
+use lib.ListN.{length}
 use lib.Seq.{sets, slice}
 use Rattle.text.specs.Bytes.{Token}
 use Rattle.text.specs.Fold.{runBytes}
@@ -22,6 +22,7 @@ use Rattle.records.specs.Machine.{lineStart, lineByte, lineEnd, namesStart, nam
 use Rattle.records.specs.declared.LineState.{LineState}
 use Rattle.records.specs.declared.LineEnd.{LineEnd}
 use Rattle.records.specs.declared.NamesState.{NamesState}
+use Rattle.record_lines.specs.Runs.{oneMore}
 use Rattle.replaying.specs.Replay.{replayHeading, stateLine, LineOutcome, reaches, refuses, entered}
 use Rattle.replaying.specs.declared.Stage.{Stage}
 use Rattle.replaying.specs.declared.Stage.the-variants.{Names, Values, Ended}
@@ -68,22 +69,7 @@ advancedTo r next size = record { replay = r; next = next; size = size }
 abbrev pub startReplay : ℕ → Replay
 startReplay state = namesReplay false namesStart lineStart 1 state
 
--- The number of the next line, which stays at the highest number of the machine.
-abbrev pub nextLine : ℕ → ℕ
-nextLine number = min (suc number) 18446744073709551615
-
--- ---- the bytes of a line
-
-abbrev pub NoLineEnd : List ℕ → Type 0
-NoLineEnd [] = Unit {0}
-NoLineEnd (b ∷ bs) = (eqb b 10 ≡ false) × NoLineEnd bs
-
--- A line's bytes in a chunk, from a place on: up to its byte 10, or to the end of the chunk.
-pub record RunsLine (chunk : List ℕ) (from next : ℕ) : Type 0 where
-  pub onward : from ≤ next
-  pub inside : next ≤ length chunk
-  pub bytes : NoLineEnd (slice from next chunk)
-  pub stops : next < length chunk → getD chunk next 0 ≡ 10
+-- ---- the end of a line of values
 
 -- What a line of values leads to, as the code gives it: a refusal, or 0 and the state.
 abbrev pub ledTo : LineOutcome → Led
@@ -133,7 +119,7 @@ module _ (s : PlayedSheet) where
   lineOutcome line state = outcomeOf state (lineEnd storedStreams line)
 
   abbrev pub afterOutcome : Replay → LineOutcome → Replay
-  afterOutcome r (reaches state) = valuesReplay false (r .names) lineStart (nextLine (r .number)) state
+  afterOutcome r (reaches state) = valuesReplay false (r .names) lineStart (oneMore (r .number)) state
   afterOutcome r (refuses n) = endedReplay false
 
   abbrev pub isNames : NamesState → Bool

@@ -7,14 +7,10 @@ ghost use Prim.Native.Nat.{ℕ, _<_, _≤_};
 ghost use mathlib.Core.List.{List, []};
 ghost use lib.IntN.{ℤ};
 ghost use lib.ListN.{length};
-ghost use lib.Seq.{slice};
-ghost use Rattle.text.specs.Fold.{runBytes};
 ghost use Rattle.meaning.specs.Letter.{letterCount};
 ghost use Rattle.automaton.specs.Stored.{entryAt};
 ghost use Rattle.letters.specs.Described.{described, cutCount};
-ghost use Rattle.records.specs.Machine.{lineByte, namesByte};
-ghost use Rattle.sheet.specs.Names.{nameIn};
-ghost use Rattle.replaying.specs.Machine.{PlayedSheet, playedSheet, startReplay, valuesReplay, endedReplay, advancedTo, nextLine, RunsLine, ledTo, HoldsOutcome, lineOutcome, PlaysChunk, Advances, Finishes};
+ghost use Rattle.replaying.specs.Machine.{PlayedSheet, playedSheet, startReplay, valuesReplay, endedReplay, advancedTo, ledTo, HoldsOutcome, lineOutcome, PlaysChunk, Advances, Finishes};
 
 // What is read next: the line of names, a line of values, or nothing, behind a refusal.
 pub enum Stage {
@@ -38,18 +34,6 @@ pub struct Advanced {
     pub replay: Replay,
     pub next: usize,
     pub size: usize,
-}
-
-// The line of names, read to a place.
-struct NamesRun {
-    names: NamesState,
-    next: usize,
-}
-
-// A line of values, read to a place.
-struct ValuesRun {
-    line: LineState,
-    next: usize,
 }
 
 // The refusal that a line of values leads to, or 0 and the state.
@@ -121,58 +105,6 @@ fn values_at(
         next: next,
         size: size,
     }
-}
-
-// Reads the line of names to its byte 10, or to the end of the chunk.
-fn run_names(start: NamesState, chunk: &[u8], from: usize, names: &[u8], lengths: &[u8]) -> NamesRun
-    requires { ⌜ from ≤ length (now chunk) ⌝ }
-    ensures { λ r. ⌜ RunsLine (now (chunk .entry)) from (r .next) × (r .names ≡ runBytes (namesByte (nameIn (now (names .entry)) (now (lengths .entry)))) start (slice from (r .next) (now (chunk .entry)))) ⌝ }
-{
-    let mut line = start;
-    let mut at = from;
-    while at < chunk.len() {
-        let byte = chunk[at];
-        if byte == 10 {
-            break;
-        }
-        line = records::names_byte(line, byte, names, lengths);
-        at += 1;
-    }
-    NamesRun {
-        names: line,
-        next: at,
-    }
-}
-
-// Reads a line of values to its byte 10, or to the end of the chunk.
-fn run_values(start: LineState, chunk: &[u8], from: usize, lows: &[i64], highs: &[i64]) -> ValuesRun
-    requires { ⌜ from ≤ length (now chunk) ⌝ }
-    ensures { λ r. ⌜ RunsLine (now (chunk .entry)) from (r .next) × (r .line ≡ runBytes (lineByte (described (now (lows .entry)) (now (highs .entry)))) start (slice from (r .next) (now (chunk .entry)))) ⌝ }
-{
-    let mut line = start;
-    let mut at = from;
-    while at < chunk.len() {
-        let byte = chunk[at];
-        if byte == 10 {
-            break;
-        }
-        line = records::line_byte(line, byte, lows, highs);
-        at += 1;
-    }
-    ValuesRun {
-        line: line,
-        next: at,
-    }
-}
-
-// One more; the highest number of the machine stays, so that no sum wraps.
-fn next_line(number: u64) -> u64
-    ensures { λ r. ⌜ r ≡ nextLine number ⌝ }
-{
-    if number < 18446744073709551615 {
-        return number + 1;
-    }
-    18446744073709551615
 }
 
 // The entry of a state for a letter; 0 beyond the list.
@@ -263,7 +195,7 @@ fn advance_names(
     ensures { λ r. ⌜ (from < r .next) × ((lows highs : List ℤ) (entries : List ℕ) → PlaysChunk (playedSheet (now (names .entry)) (now (lengths .entry)) lows highs entries) replay (now (chunk .entry)) from (now (out .entry)) (now (out .exit)) r) ⌝ }
 {
     let line = replay.line;
-    let run = run_names(replay.names, chunk, from, names, lengths);
+    let run = record_lines::run_names(replay.names, chunk, from, names, lengths);
     let read = run.names;
     let at = run.next;
     if chunk.len() <= at {
@@ -321,7 +253,7 @@ fn advance_values(
         if out.len() - size < 32 {
             break;
         }
-        let run = run_values(line, chunk, at, lows, highs);
+        let run = record_lines::run_values(line, chunk, at, lows, highs);
         line = run.line;
         at = run.next;
         begun = true;
@@ -343,7 +275,7 @@ fn advance_values(
             }
             begun = false;
             line = records::line_start();
-            number = next_line(number);
+            number = record_lines::one_more(number);
             state = played.state;
         }
     }

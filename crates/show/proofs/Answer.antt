@@ -1,26 +1,18 @@
 -- A text prints one text, and always one; what `show` gives back is of that text. From the one outcome of a compile in the rows lent (lend) and the
 -- text of a printout (pages).
-use Prim.Native.Nat.{ℕ, zero, suc, _-_, _*_, _≤_, min}
+use Prim.Native.Nat.{ℕ, _-_, _*_, _≤_, min}
 use native.Mathlib.Omega.{arith}
 use native.Mathlib.Nat.{le-trans}
 use mathlib.Core.Path.{_≡_, refl, sym, _∙_, ap, subst}
-use mathlib.Core.List.{List, [], _∷_, _++_, map, List·Memᴰ, List·Memᴰ·head, List·Memᴰ·tail}
+use mathlib.Core.List.{List}
 use mathlib.Core.Bool.{Bool, true, false}
 use lib.Dec.{ltb}
-use lib.IntN.{ℤ, pos, negℤ}
-use lib.ListN.{length, take, replicate, length-append, length-map, length-replicate, length-take}
-use Rattle.meaning.specs.Expression.{Stream, Sheet}
-use Rattle.meaning.proofs.Order.{≤ℤ-trans}
+use lib.ListN.{length, take, replicate, length-take}
+use Rattle.meaning.specs.Expression.{Sheet}
 use Rattle.meaning.specs.Letter.{letterCount}
-use Rattle.sheet.specs.Refusal.{Answer, refused as isRefusedWith, sheet, AnswerTo, magnitudeBound}
-use Rattle.nodes.specs.Bounds.{lowsOf, highsOf}
-use Rattle.letters.proofs.Above.{between-fits}
+use Rattle.sheet.specs.Refusal.{sheet, AnswerTo}
 use borrow.Author.Tests.{ltb-true, ltb-false}
-use mir.Syntax.{w64}
-use mir.Val.{SFits}
 use Rattle.sheet.specs.Reading.{answerTo}
-use Rattle.sheet.specs.Accepted.{Accepted}
-use Rattle.sheet.proofs.Reading.{answer-correct}
 use Rattle.sheet.proofs.Accepted.{accepted-facts}
 use Rattle.sheet.proofs.Names.{short-names}
 use Rattle.reader.specs.declared.Reading.{Reading}
@@ -35,10 +27,9 @@ use Rattle.pages.proofs.Refused.{refused-text}
 use Rattle.pages.proofs.Output.{table-text}
 use Rattle.print.specs.Text.{refusalLine}
 use Rattle.table_text.specs.Table.{printed}
-use Rattle.print.specs.Lines.{AllFit}
 use Rattle.table_text.proofs.Table.{printed-part}
 use Rattle.show.specs.declared.Printed.{Printed}
-use Rattle.show.specs.Answer.{Prints, refused, compiled, HasTableOutput, Shown, printoutOf, HasRanges, CompiledWith}
+use Rattle.show.specs.Answer.{Prints, refused, compiled, HasTableOutput, Shown, printoutOf, CompiledWith}
 
 -- ---- a text prints one text
 
@@ -59,58 +50,9 @@ prints-total text = go (lent-total text)
     go (isRefused r) = record { number = _; bytes = _; prints = refused r }
     go (isCompiled c z) = record { number = _; bytes = _; prints = compiled c z }
 
--- ---- the ranges of a stored sheet
-
-fit-append : (l m : List ℤ) → AllFit l → AllFit m → AllFit (l ++ m)
-fit-append [] m h k = k
-fit-append (v ∷ l) m h k = (h .0, fit-append l m (h .1) k)
-
-fit-zeros : (n : ℕ) → AllFit (replicate n (pos 0))
-fit-zeros zero = tt
-fit-zeros (suc n) = (record { sfits = omega arith }, fit-zeros n)
-
-fit-map : (f : Stream → ℤ) (ss : List Stream) → ((x : Stream) → List·Memᴰ x ss → SFits w64 (f x)) → AllFit (map f ss)
-fit-map f [] h = tt
-fit-map f (x ∷ ss) h = (h x (List·Memᴰ·head refl), fit-map f ss (λ y m. h y (List·Memᴰ·tail m)))
-
-bound-low : SFits w64 (negℤ (pos magnitudeBound))
-bound-low = record { sfits = omega arith }
-
-bound-high : SFits w64 (pos magnitudeBound)
-bound-high = record { sfits = omega arith }
-
-module _ {s : Sheet} (accepted : Accepted s) where
-  low-fits : (x : Stream) → List·Memᴰ x (s .streams) → SFits w64 (x .range .low)
-  low-fits x m =
-      let i = accepted .streams .rangesInBounds x m in
-      between-fits (negℤ (pos magnitudeBound)) (x .range .low) (pos magnitudeBound) bound-low bound-high (i .above) (≤ℤ-trans (accepted .streams .rangesOrdered x m) (i .below))
-
-  high-fits : (x : Stream) → List·Memᴰ x (s .streams) → SFits w64 (x .range .high)
-  high-fits x m =
-      let i = accepted .streams .rangesInBounds x m in
-      between-fits (negℤ (pos magnitudeBound)) (x .range .high) (pos magnitudeBound) bound-low bound-high (≤ℤ-trans (i .above) (accepted .streams .rangesOrdered x m)) (i .below)
-
-  stored-ranges : HasRanges (storedSheet s)
-  unfolding storedSheet
-  stored-ranges =
-      let few = accepted .streams .streamCount in
-      record {
-        lowCount = omega (arith, length-append (lowsOf (s .streams)) (replicate (8 - length (lowsOf (s .streams))) (pos 0)), length-map (s .streams) (λ x. x .range .low), length-replicate (8 - length (lowsOf (s .streams))) (pos 0));
-        highCount = omega (arith, length-append (highsOf (s .streams)) (replicate (8 - length (highsOf (s .streams))) (pos 0)), length-map (s .streams) (λ x. x .range .high), length-replicate (8 - length (highsOf (s .streams))) (pos 0));
-        lows = fit-append (lowsOf (s .streams)) (replicate (8 - length (lowsOf (s .streams))) (pos 0)) (fit-map (λ x. x .range .low) (s .streams) low-fits) (fit-zeros (8 - length (lowsOf (s .streams))));
-        highs = fit-append (highsOf (s .streams)) (replicate (8 - length (highsOf (s .streams))) (pos 0)) (fit-map (λ x. x .range .high) (s .streams) high-fits) (fit-zeros (8 - length (highsOf (s .streams))));
-      }
-
 -- ---- what `show` gives back
 
 module _ (text : List ℕ) {reading : Reading} (read-as : reading ≡ readingOf (answerTo text)) where
-  pub read-ranges : HasRanges (reading .sheet)
-  read-ranges = subst (λ x. HasRanges (x .sheet)) (sym read-as) (go (answerTo text) (answer-correct text))
-    where
-      go : (x : Answer) → AnswerTo text x → HasRanges (readingOf x .sheet)
-      go (isRefusedWith n) r = record { lowCount = refl; highCount = refl; lows = fit-zeros 8; highs = fit-zeros 8 }
-      go (sheet s) r = stored-ranges (accepted-facts r)
-
   abbrev shownAs : CompileAnswer → (entries finals : List ℕ) → Printout
   shownAs a entries finals = printoutOf (reading .sheet) (a .refusal) (a .states) entries finals
 

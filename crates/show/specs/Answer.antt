@@ -3,7 +3,7 @@
 use Prim.Native.Nat.{ℕ, min}
 use mathlib.Core.Path.{_≡_}
 use mathlib.Core.List.{List}
-use lib.ListN.{length, take}
+use lib.ListN.{take}
 use Rattle.meaning.specs.Expression.{Sheet}
 use Rattle.reader.specs.declared.StoredSheet.{StoredSheet}
 use Rattle.outcome.specs.Compile.{CompileAnswer, Tables}
@@ -11,7 +11,6 @@ use Rattle.lend.specs.Lend.{CompiledLent, RefusedLent, LentCall}
 use Rattle.output.specs.Output.{Hands}
 use Rattle.print.specs.Text.{refusalLine}
 use Rattle.table_text.specs.Table.{printed}
-use Rattle.print.specs.Lines.{AllFit}
 use Rattle.pages.specs.Output.{Printout, outputText}
 use Rattle.show.specs.declared.Printed.{Printed}
 
@@ -49,13 +48,6 @@ printoutOf stored refusal states entries finals =
       entries = entries;
       finals = finals;
     }
-
--- There is room for the ranges of eight streams, and they are numbers of the machine, so that no line is longer than a page.
-pub record HasRanges (stored : StoredSheet) : Type 0 where
-  pub lowCount : length (stored .lows) ≡ 8
-  pub highCount : length (stored .highs) ≡ 8
-  pub lows : AllFit (stored .lows)
-  pub highs : AllFit (stored .highs)
 
 -- The number given back, and how many bytes were taken by writes.
 pub record PrintsAll (p : Printout) (r : Printed) : Type 0 where

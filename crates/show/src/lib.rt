@@ -5,7 +5,8 @@ ghost use Prim.Native.Nat.{_≤_};
 ghost use lib.ListN.{length};
 ghost use Rattle.pages.specs.Lines.{IsPage};
 ghost use Rattle.pages.specs.Output.{outputAt, placesOf};
-ghost use Rattle.show.specs.Answer.{HasRanges, printoutOf, PrintsAll, CompiledWith, Shown};
+ghost use Rattle.stored_ranges.specs.Ranges.{HasRanges};
+ghost use Rattle.show.specs.Answer.{printoutOf, PrintsAll, CompiledWith, Shown};
 use pages::Page;
 
 // The number of the refusal that is printed, or 0; how many bytes were taken by writes, and whether each write took all of its bytes.

@@ -26,10 +26,10 @@ use Rattle.lend.proofs.Rows.{lent-entries, lent-rows}
 use Rattle.lend.proofs.Outcome.{compiled-held, refused-positive, stored-is}
 use Rattle.print.specs.Text.{refusalLine}
 use Rattle.pages.proofs.Refused.{refused-text}
-use Rattle.show.specs.Answer.{HasRanges}
-use Rattle.show.proofs.Answer.{read-ranges}
 use Rattle.compiled_sheet.specs.Told.{sheetStreams}
 use Rattle.course.specs.Outcome.{BestCourse}
+use Rattle.stored_ranges.specs.Ranges.{HasRanges}
+use Rattle.stored_ranges.proofs.Ranges.{read-ranges}
 use Rattle.course.specs.declared.CourseAnswer.{CourseAnswer}
 use Rattle.opening.specs.declared.OpenedTable.{OpenedTable}
 use Rattle.opening.specs.Opens.{OpensTable, OpensTable.refusedSheet as givesNoTable, OpensTable.noStart as givesNoState, OpensTable.opened as table}

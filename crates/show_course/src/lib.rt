@@ -8,7 +8,7 @@ ghost use mathlib.Core.Path.{_≡_};
 ghost use Prim.Native.Nat.{_*_, _≤_, min};
 ghost use lib.ListN.{length, take};
 ghost use Rattle.print.specs.Lines.{AllFit};
-ghost use Rattle.show.specs.Answer.{HasRanges};
+ghost use Rattle.stored_ranges.specs.Ranges.{HasRanges};
 ghost use Rattle.opening.specs.Start.{startText};
 ghost use Rattle.course_text.specs.Output.{courseOutput};
 ghost use Rattle.output.specs.Output.{Hands};

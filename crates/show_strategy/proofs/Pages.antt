@@ -8,8 +8,8 @@ use Rattle.pages.specs.Lines.{lineRoom}
 use Rattle.pages.proofs.Refused.{few-places}
 use Rattle.play_text.specs.Output.{PlayPrintout, playAt}
 use Rattle.play_text.proofs.Output.{line-short}
-use Rattle.show.specs.Answer.{HasRanges}
-use Rattle.show.proofs.Pages.{fit-take}
+use Rattle.stored_ranges.specs.Ranges.{HasRanges}
+use Rattle.print.proofs.Lengths.{fit-take}
 use Rattle.show_strategy.specs.Shows.{playPrintout, playPlacesOf}
 
 pub lines-short : {stored : StoredSheet} {refusal : ℕ} (states choices : ℕ) (entries finals play : List ℕ) → HasRanges stored → refusal < 4294967296 → ((i : ℕ) → getD entries i 0 < 65536)

@@ -9,7 +9,7 @@ ghost use lib.ListN.{length};
 ghost use Rattle.pages.specs.Lines.{IsPage};
 ghost use Rattle.output.specs.Output.{Hands};
 ghost use Rattle.lend.specs.Lend.{roomOfRows, tablesOfRows};
-ghost use Rattle.show.specs.Answer.{HasRanges};
+ghost use Rattle.stored_ranges.specs.Ranges.{HasRanges};
 ghost use Rattle.game.specs.Call.{ForceSheetCall};
 ghost use Rattle.play_text.specs.Output.{playAt, playOutput};
 ghost use Rattle.show_strategy.specs.Shows.{playPrintout, playPlacesOf, ShownIn, ShowsStrategy};

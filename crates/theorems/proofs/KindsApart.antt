@@ -68,18 +68,19 @@ unnamed-without : (ss : List Stream) → unnamed (withoutKinds ss) ≡ unnamed s
 unnamed-without [] = refl
 unnamed-without (s ∷ ss) = ap (λ l. ranged (s .range .low) (s .range .high) ∷ l) (unnamed-without ss)
 
-module _ {ss ts : List Stream} (same : SameNamesAndRanges ss ts) (entries : List ℕ) where
-  names-same : namesOf ss ≡ namesOf ts
+module _ {ss ts : List Stream} (same : SameNamesAndRanges ss ts) where
+  pub names-same : namesOf ss ≡ namesOf ts
   names-same = sym (names-without ss) ∙ ap namesOf (same .same) ∙ names-without ts
 
-  line-same : (l : List ℕ) → valueLine ss l ≡ valueLine ts l
+  pub line-same : (l : List ℕ) → valueLine ss l ≡ valueLine ts l
   line-same l = sym (valueLine-unnamed ss l) ∙ ap (λ us. valueLine us l) (sym (unnamed-without ss) ∙ ap unnamed (same .same) ∙ unnamed-without ts) ∙ valueLine-unnamed ts l
 
+module _ {ss ts : List Stream} (same : SameNamesAndRanges ss ts) (entries : List ℕ) where
   replayed-same : (ls : List (List ℕ)) (number state : ℕ) → replayed ss entries number state ls ≡ replayed ts entries number state ls
   unfolding replayed
   replayed-same [] number state = refl
   replayed-same (l ∷ ls) number state =
-      ap (λ v. lineThen number (λ next. replayed ss entries (suc number) next ls) (outcomeFrom ss entries state v)) (line-same l)
+      ap (λ v. lineThen number (λ next. replayed ss entries (suc number) next ls) (outcomeFrom ss entries state v)) (line-same same l)
       ∙ ap (λ f. lineThen number f (outcomeFrom ss entries state (valueLine ts l))) (λ j next. replayed-same ls (suc number) next j)
       ∙ ap (lineThen number (λ next. replayed ts entries (suc number) next ls)) (entered-same (valueLine ts l))
     where
@@ -91,4 +92,4 @@ module _ {ss ts : List Stream} (same : SameNamesAndRanges ss ts) (entries : List
   pub printed-same : (ls : List (List ℕ)) (state : ℕ) → replayedLines ss entries state ls ≡ replayedLines ts entries state ls
   unfolding replayedLines
   printed-same [] state = refl
-  printed-same (l ∷ ls) state = ap₂ (λ ns printed. cond (isNamesLine ns l) (replayHeading ++ printed) (refusalLine 13)) names-same (replayed-same ls 1 state)
+  printed-same (l ∷ ls) state = ap₂ (λ ns printed. cond (isNamesLine ns l) (replayHeading ++ printed) (refusalLine 13)) (names-same same) (replayed-same ls 1 state)

@@ -8,6 +8,9 @@ pub mod Plays
 pub mod RecordTexts
 pub mod Replaying
 pub mod WorkedRecords
+pub mod CountedLines
+pub mod Histograms
+pub mod WorkedHistograms
 pub mod Courses
 pub mod Strategies
 pub mod Migrations

@@ -4,45 +4,26 @@ use Prim.Native.Nat.{ℕ, zero, suc, _+_, _≤_, _<_}
 use native.Mathlib.Omega.{arith}
 use mathlib.Core.Path.{_≡_, refl, sym, _∙_, ap, subst}
 use mathlib.Core.Logic.{_↔_, _⊎_, _≢_, inl, inr}
-use mathlib.Core.Bool.{Bool, true, false, cond, _&&_}
+use mathlib.Core.Bool.{Bool, true, false, cond}
 use mathlib.Core.List.{List, [], _∷_, _++_, append-assoc, append-nil}
 use mathlib.Core.Option.{none, some}
 use lib.Dec.{eqb}
 use lib.ListN.{length, take, getD}
 use Rattle.basics.proofs.Lists.{All-append}
 use Rattle.basics.proofs.Reflects.{eqb-reflects, from-true, from-false, to-false}
-use Rattle.text.specs.Bytes.{tokens}
-use Rattle.text.specs.Token.{allBytes}
 use Rattle.meaning.specs.Expression.{Stream}
-use Rattle.meaning.specs.Letter.{Letter, IsLetter, letterCount, letterNumber}
+use Rattle.meaning.specs.Letter.{letterCount, letterNumber}
 use Rattle.meaning.proofs.Letter.{letterNumber-bound}
 use Rattle.automaton.specs.Table.{noState, walk, PathFrom}
 use Rattle.automaton.specs.Stored.{entryAt}
-use Rattle.letters.specs.Described.{isLetter}
-use Rattle.letters.proofs.Streams.{isLetter-sound}
 use Rattle.sheet.specs.Form.{namesOf}
 use Rattle.print.specs.Text.{refusalLine}
-use Rattle.records.specs.Line.{ValueLine, malformed, outside, letter, isPlain, isOnePerStream, valuesRead, valueLine, isNamesLine}
+use Rattle.records.proofs.Letters.{letter-line}
+use Rattle.records.specs.Line.{ValueLine, malformed, outside, letter, lineValues, valueLine, isNamesLine, IsLetterLine, AreLetters, lettersOf}
 use Rattle.replaying.specs.Replay.{replayHeading, stateLine, LineOutcome, reaches, refuses, entered, lineThen, outcomeFrom, replayed, replayedLines}
-use Rattle.theorems.specs.Replaying.{stateLines, refusalText, lineValues, IsLetterLine, AreLetters, lettersOf, statesThen, refusalThen, statesReached, refusalMet, PlaysThrough, ends, goes-on, Fault, fault13, fault14, fault12, FirstFault}
+use Rattle.theorems.specs.Replaying.{stateLines, refusalText, statesThen, refusalThen, statesReached, refusalMet, PlaysThrough, ends, goes-on, Fault, fault13, fault14, fault12, FirstFault}
 
 -- ---- one line
-
-values-read : {ss : List Stream} {v : Letter} {a : ℕ} → valuesRead ss v ≡ letter a → IsLetter ss v × (a ≡ letterNumber ss v)
-values-read {ss} {v} {a} e = go (isLetter ss v) refl e
-  where
-    go : (b : Bool) → isLetter ss v ≡ b → cond b (letter (letterNumber ss v)) outside ≡ letter a → IsLetter ss v × (a ≡ letterNumber ss v)
-    go true t q = (isLetter-sound ss v t, cc)
-    go false t q = let z : _≡_ {A = ℕ} 0 1 = cc in absurd (omega arith)
-
--- A line that is a letter has the values of a letter, and its number.
-pub letter-line : (ss : List Stream) (l : List ℕ) {a : ℕ} → valueLine ss l ≡ letter a → IsLetter ss (lineValues l) × (a ≡ letterNumber ss (lineValues l))
-unfolding valueLine
-letter-line ss l {a} e = go (allBytes isPlain l && isOnePerStream ss (tokens l)) e
-  where
-    go : (b : Bool) → cond b (valuesRead ss (lineValues l)) malformed ≡ letter a → IsLetter ss (lineValues l) × (a ≡ letterNumber ss (lineValues l))
-    go true q = values-read q
-    go false q = let z : _≡_ {A = ℕ} 0 1 = cc in absurd (omega arith)
 
 -- The state that an entry leads to, or none.
 entered-cases : (e : ℕ) → ((e ≡ noState) × (entered e ≡ refuses 12)) ⊎ ((e ≢ noState) × (entered e ≡ reaches e))

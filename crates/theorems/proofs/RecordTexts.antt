@@ -12,6 +12,7 @@ use Rattle.basics.proofs.Tests.{T-of-true, and-left, and-right, and-both}
 use Rattle.text.specs.Bytes.{Token, tokens, addToLines, lines}
 use Rattle.text.specs.Token.{allBytes}
 use Rattle.text.proofs.Bytes.{isOfLine, lines-end}
+use Rattle.record_lines.proofs.Runs.{some-line}
 use Rattle.records.specs.Line.{isPlain, sameTokens, isNamesLine}
 use Rattle.theorems.specs.Replaying.{underNames, EndsWithLine}
 
@@ -35,16 +36,6 @@ named-lines ns names text e =
 add-append : (g : Bool) (b : ℕ) (l : List ℕ) (ls ms : List (List ℕ)) → addToLines g b ((l ∷ ls) ++ ms) ≡ addToLines g b (l ∷ ls) ++ ms
 add-append true b l ls ms = refl
 add-append false b l ls ms = refl
-
-some-line : (x : List ℕ) → (l : List ℕ) × (ls : List (List ℕ)) × (lines (x ++ (10 ∷ [])) ≡ l ∷ ls)
-unfolding lines
-some-line [] = ([], [], refl)
-some-line (b ∷ x) = go (eqb b 10) (some-line x)
-  where
-    go : (g : Bool) → (l : List ℕ) × (ls : List (List ℕ)) × (lines (x ++ (10 ∷ [])) ≡ l ∷ ls)
-        → (l : List ℕ) × (ls : List (List ℕ)) × (addToLines g b (lines (x ++ (10 ∷ []))) ≡ l ∷ ls)
-    go true f = ([], lines (x ++ (10 ∷ [])), refl)
-    go false f = (b ∷ f .0, f .1, ap (addToLines false b) (f .2))
 
 ended-lines : (x y : List ℕ) → lines ((x ++ (10 ∷ [])) ++ y) ≡ lines (x ++ (10 ∷ [])) ++ lines y
 unfolding lines

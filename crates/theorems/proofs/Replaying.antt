@@ -30,7 +30,8 @@ use Rattle.outcome.specs.Compile.{CompileAnswer, Room, Tables, CompileCall}
 use Rattle.step.specs.Step.{refusedStep, StepAnswer}
 use Rattle.step.specs.Followed.{Followed}
 use Rattle.print.specs.Text.{decimal, refusalLine}
-use Rattle.records.specs.Line.{isNamesLine}
+use Rattle.records.proofs.Letters.{letter-line}
+use Rattle.records.specs.Line.{lineValues, isNamesLine, recordOfLines, IsLetterLine, AreLetters, lettersOf}
 use Rattle.replaying.specs.Replay.{replayHeading, replayed, replayedLines}
 use Rattle.lend.specs.Lend.{CompiledLent}
 use Rattle.opening.specs.Start.{startState}
@@ -39,12 +40,12 @@ use Rattle.opening.proofs.StartLaws.{start-below, start-written}
 use Rattle.opening.proofs.Plays.{plays-unique}
 use Rattle.theorems.specs.Following.{BeginsSolution, HaveSameSolutions}
 use Rattle.theorems.specs.UsedRows.{usedBytes}
-use Rattle.theorems.specs.Replaying.{stateLines, refusalText, replayText, underNames, EndsWithLine, SameStatesPrinted, lineValues, recordOfLines, IsLetterLine, AreLetters, lettersOf, statesReached, refusalMet, PlaysThrough, Fault, FirstFault}
+use Rattle.theorems.specs.Replaying.{stateLines, refusalText, replayText, underNames, EndsWithLine, SameStatesPrinted, statesReached, refusalMet, PlaysThrough, Fault, FirstFault}
 use Rattle.theorems.proofs.Following.{all-below}
 use Rattle.theorems.proofs.Steps.{path-from↔steps, missing↔refused-12}
 use Rattle.theorems.proofs.Demands.{ReadAs, path↔solution, few-states, table-stored, equal-rows↔same-solutions}
 use Rattle.theorems.proofs.KindsApart.{printed-same}
-use Rattle.theorems.proofs.Plays.{letter-line, stateLines-append, lines-printed, states-cut, refusal-cut, through-states, through-unrefused, fault-states, fault-refusal, plays-or-fault, unrefused↔through, refusal↔fault, letters-fault, through↔path, prefix↔states, refused-12↔letter, rows-printed}
+use Rattle.theorems.proofs.Plays.{stateLines-append, lines-printed, states-cut, refusal-cut, through-states, through-unrefused, fault-states, fault-refusal, plays-or-fault, unrefused↔through, refusal↔fault, letters-fault, through↔path, prefix↔states, refused-12↔letter, rows-printed}
 use Rattle.theorems.proofs.RecordTexts.{named-lines, cut-lines}
 
 module _ (ss : List Stream) (entries : List ℕ) where

@@ -3,6 +3,8 @@ pub mod UsedRows
 pub mod Refusals
 pub mod Replaying
 pub mod WorkedRecords
+pub mod Histograms
+pub mod WorkedHistograms
 pub mod Courses
 pub mod Strategies
 pub mod Migrations

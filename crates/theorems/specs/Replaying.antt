@@ -1,15 +1,12 @@
 -- What it means that the value lines of a record play through, which states are reached before the first line with a fault, and which fault that
--- is (document 02, S-1); and the record of letters that the lines are. Over the streams of a sheet and the entries of a table.
+-- is (document 02, S-1). Over the streams of a sheet and the entries of a table.
 use Prim.Native.Nat.{ℕ, suc}
 use mathlib.Core.Path.{_≡_}
 use mathlib.Core.Logic.{_⊎_}
-use mathlib.Core.List.{List, [], _∷_, _++_, map}
+use mathlib.Core.List.{List, [], _∷_, _++_}
 use mathlib.Core.Option.{Option, none, some}
-use Rattle.basics.specs.Lists.{All}
-use Rattle.text.specs.Bytes.{tokens}
-use Rattle.text.specs.Token.{integerValue}
 use Rattle.meaning.specs.Expression.{Stream}
-use Rattle.meaning.specs.Letter.{Letter, Record, letterCount, letterNumber}
+use Rattle.meaning.specs.Letter.{letterCount}
 use Rattle.automaton.specs.Table.{noState}
 use Rattle.automaton.specs.Stored.{entryAt}
 use Rattle.print.specs.Text.{refusalLine}
@@ -51,27 +48,6 @@ pub record SameStatesPrinted (whole firstHalf secondHalf : List ℕ) : Type 0 wh
   pub first-printed : firstHalf ≡ replayText states none
   pub second-printed : secondHalf ≡ replayText states′ refusal
   pub whole-printed : whole ≡ replayText (states ++ states′) refusal
-
--- ---- lines as letters
-
--- The values that a line writes.
-abbrev pub lineValues : List ℕ → Letter
-lineValues l = map integerValue (tokens l)
-
-abbrev pub recordOfLines : List (List ℕ) → Record
-recordOfLines ls = map lineValues ls
-
-module _ (ss : List Stream) where
-  -- The line is a letter: neither 13 nor 14 applies.
-  abbrev pub IsLetterLine : List ℕ → Type 0
-  IsLetterLine l = valueLine ss l ≡ letter (letterNumber ss (lineValues l))
-
-  abbrev pub AreLetters : List (List ℕ) → Type 0
-  AreLetters ls = All IsLetterLine ls
-
-  -- The numbers of the letters that the lines are.
-  abbrev pub lettersOf : List (List ℕ) → List ℕ
-  lettersOf ls = map (letterNumber ss) (recordOfLines ls)
 
 -- ---- lines played from a state
 

@@ -10,7 +10,7 @@ use Rattle.replaying.proofs.advance_names.Statement.{statement}
 use Rattle.replaying.proofs.advance_names.Tie as tie
 
 run-names-requires : tie.Need-run-names-requires
-run-names-requires c κs = omega (arith, c .before .before .before .before .before .pre .1)
+run-names-requires c κs = tt
 
 returns : tie.Need-returns
 returns c =

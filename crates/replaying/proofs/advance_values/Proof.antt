@@ -28,7 +28,7 @@ sub-if1 : tie.Need-sub-if1 Inv-loop μ-loop
 sub-if1 c = let p = c .before .loop .inv .0 [] [] in omega (arith, p .fits, same-room _ _ p)
 
 run-values-requires : tie.Need-run-values-requires Inv-loop μ-loop
-run-values-requires c κs = omega (arith, c .before .loop-test .taken)
+run-values-requires c κs = tt
 
 add-at : tie.Need-add-at Inv-loop μ-loop
 add-at c = omega (arith, c .if2 .taken)
@@ -79,8 +79,8 @@ returns c =
 line-start-requires : tie.Need-line-start-requires Inv-loop μ-loop
 line-start-requires c κs = tt
 
-next-line-requires : tie.Need-next-line-requires Inv-loop μ-loop
-next-line-requires c κs = tt
+one-more-requires : tie.Need-one-more-requires Inv-loop μ-loop
+one-more-requires c κs = tt
 
 loop-less : tie.Need-loop-less Inv-loop μ-loop
 loop-less c = let l = c .before .before .before .before .before .before .before .before .before .before .run-values .ensures .0 in omega (arith, l .onward, c .before .before .before .before .before .before .before .before .if2 .taken)
@@ -89,7 +89,7 @@ loop-again : tie.Need-loop-again Inv-loop μ-loop
 loop-again c =
     let p = c .before .before .before .before .before .before .before .before .before .before .before .before .before .loop .inv .0 in
     let l = c .before .before .before .before .before .before .before .before .before .before .run-values .ensures .0 in
-    (λ ns ls. values-state _ _ (p ns ls) (c .before .before .before .before .before .before .before .before .before .before .before .if1 .left) l (c .before .before .before .before .before .before .before .before .before .before .run-values .ensures .1) (c .before .before .before .before .before .before .before .before .if2 .taken) (c .before .before .before .before .before .before .end-values .ensures) (c .before .before .if3 .left) (c .before .line-start .ensures) (c .next-line .ensures), inl (omega (arith, p [] [] .onward, l .onward)))
+    (λ ns ls. values-state _ _ (p ns ls) (c .before .before .before .before .before .before .before .before .before .before .before .if1 .left) l (c .before .before .before .before .before .before .before .before .before .before .run-values .ensures .1) (c .before .before .before .before .before .before .before .before .if2 .taken) (c .before .before .before .before .before .before .end-values .ensures) (c .before .before .if3 .left) (c .before .line-start .ensures) (c .one-more .ensures), inl (omega (arith, p [] [] .onward, l .onward)))
 
 loop-less-2 : tie.Need-loop-less-2 Inv-loop μ-loop
 loop-less-2 c = let l = c .before .before .run-values .ensures .0 in omega (arith, l .inside, c .if2 .left, c .before .before .before .before .loop-test .taken)
@@ -137,7 +137,7 @@ advance-values-spec =
     same-length
     returns
     line-start-requires
-    next-line-requires
+    one-more-requires
     loop-less
     loop-again
     loop-less-2

@@ -1,6 +1,7 @@
 -- `show::show` meets its contract: the sheet that was read has ranges of the machine, and what is printed is what the text prints (Answer).
 use borrow.Author.Needs.{needs}
-use Rattle.show.proofs.Answer.{read-ranges, shown-of}
+use Rattle.stored_ranges.proofs.Ranges.{read-ranges}
+use Rattle.show.proofs.Answer.{shown-of}
 use Rattle.show.proofs.show.Statement.{statement}
 use Rattle.show.proofs.show.Tie as tie
 

@@ -7,7 +7,7 @@ use lib.ListN.{take}
 use lib.Seq.{length-take-le}
 use Rattle.reader.specs.declared.StoredSheet.{StoredSheet}
 use Rattle.course_text.specs.Output.{CoursePrintout, courseOutput}
-use Rattle.show.proofs.Pages.{fit-take}
+use Rattle.print.proofs.Lengths.{fit-take}
 use Rattle.output.specs.Output.{Hands}
 use borrow.Author.Needs.{needs}
 use Rattle.show_course.proofs.print_course.Statement.{statement}

@@ -8,7 +8,7 @@ use lib.Seq.{length-take-le}
 use borrow.Author.Needs.{needs}
 use Rattle.choices.specs.Counted.{ChoicesCounted}
 use Rattle.lend.proofs.Rows.{lent-entries}
-use Rattle.show.proofs.Answer.{read-ranges}
+use Rattle.stored_ranges.proofs.Ranges.{read-ranges}
 use Rattle.show_strategy.proofs.Printing.{shown-strategy}
 use Rattle.show_strategy.proofs.show_strategy.Statement.{statement}
 use Rattle.show_strategy.proofs.show_strategy.Tie as tie

@@ -1,0 +1,4 @@
+pub mod Blocks
+pub mod Output
+pub mod Text
+pub mod Prints
