@@ -67,7 +67,7 @@ GivesTable s room a t = (a .refusal ≡ 0) × SituationCount s (a .situations) �
 read-form : {text : List ℕ} {s : Sheet} → ReadAs text s → HasForm text s
 read-form (accepted a b c d e f g h) = h
 
-read-known : {text : List ℕ} {s : Sheet} → ReadAs text s → NamesKnown s
+pub read-known : {text : List ℕ} {s : Sheet} → ReadAs text s → NamesKnown s
 read-known r = record { sides = accepted-facts r .namesKnown }
 
 module _ {text : List ℕ} {room : Room} {a : CompileAnswer} {t : Tables} (call : CompileCall text room a t) where

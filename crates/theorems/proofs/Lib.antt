@@ -14,5 +14,7 @@ pub mod WorkedHistograms
 pub mod Courses
 pub mod Strategies
 pub mod Migrations
+pub mod Smallest
+pub mod WorkedMachines
 pub mod LetterNumbers
 pub mod Divisions

@@ -8,5 +8,6 @@ pub mod WorkedHistograms
 pub mod Courses
 pub mod Strategies
 pub mod Migrations
+pub mod Machines
 pub mod LetterNumbers
 pub mod Divisions

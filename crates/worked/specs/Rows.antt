@@ -1,4 +1,4 @@
--- The worked sheets of document 01 that are marked P, and sheets with a division by 0 (document 02, S-5), as rows of one table, and what a row says.
+-- The worked sheets of document 01 that are marked P, sheets with a division by 0 (document 02, S-5), and one for S-14, as rows of one table, and what a row says.
 use Prim.Native.Nat.{ℕ, _*_}
 use Prim.Native.String.{String}
 use mathlib.Core.Path.{_≡_}
@@ -56,6 +56,8 @@ workedSheets =
     ∷ record { text = "x y\n0 0\n1 1\nnext ( x / y ) == 0"; refusal = 0; states = 2; situations = 6; entries = 1 ∷ 1 ∷ 1 ∷ 1 ∷ noState ∷ 1 ∷ noState ∷ noState ∷ []; finals = 1 ∷ 1 ∷ [] }
     -- the left of `fby` is read at time 0 only
     ∷ record { text = "y\n0\n1\n0 == ( ( 0 / y ) fby 0 )"; refusal = 0; states = 2; situations = 4; entries = noState ∷ 1 ∷ 1 ∷ 1 ∷ []; finals = 1 ∷ 1 ∷ [] }
+    -- no two 1 one after the other, and a 1 at some time: "no table with fewer states [..] has the same solutions" (document 02, S-14)
+    ∷ record { text = "x\n0\n1\nx -> ( next x eq 0 )\n1 until x"; refusal = 0; states = 3; situations = 7; entries = 0 ∷ 1 ∷ 2 ∷ noState ∷ 2 ∷ 1 ∷ []; finals = 0 ∷ 1 ∷ 1 ∷ [] }
     ∷ []
 
 -- What a row says, about the definitions: none of refusals 1 to 7 applies to the text, its sheet has this number of situations, and the used
