@@ -2,29 +2,12 @@
 steps on their bytes, streams by reading a sheet that has them, and letters by
 the values of names."""
 
-from course_check import is_malformed
+from course_check import is_malformed, sheet_with
 from given import given_of
-from limits import STEP_REFUSED, STREAMS
-from reading import letter_count, read
+from limits import STEP_REFUSED
+from reading import letter_count
 from replay import opened
 from step import step, table_bytes
-from streams import KINDS, places
-
-
-def sheet_with(streams):
-    """A sheet without constraints that has the streams, or None if the text
-    does not say them."""
-    if streams.count > STREAMS:
-        return None
-    names, lengths, lows, highs, kinds = (
-        own[:streams.count] for own in places(streams))
-    names = [name.ljust(8, "\0")[:length].ljust(length, "?")
-             for name, length in zip(names, lengths)]
-    words = [KINDS.get(kind, "unknown") for kind in kinds]
-    lines = (names, lows, highs, words)
-    text = "\n".join(" ".join(map(str, line)) for line in lines)
-    refusal, sheet = read(text.encode("latin-1"))
-    return None if refusal or sheet.names != names else sheet
 
 
 def fit_sheet(given):
