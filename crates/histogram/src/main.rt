@@ -2,7 +2,7 @@
 // counts as empty. The record is read in chunks of a fixed size, so that a record of any length takes the same memory. Failed reads and writes are told on
 // standard error.
 use libc::STDERR_FILENO;
-use show_histogram::RecordEnd;
+use reads::ReadEnd;
 
 fn tell(failed: bool, message: &[u8]) {
     if failed {
@@ -10,12 +10,11 @@ fn tell(failed: bool, message: &[u8]) {
     }
 }
 
-fn is_incomplete(ended: RecordEnd) -> bool {
+fn is_incomplete(ended: ReadEnd) -> bool {
     match ended {
-        RecordEnd::Unopened => false,
-        RecordEnd::Complete => false,
-        RecordEnd::Faulty => false,
-        RecordEnd::Incomplete => true,
+        ReadEnd::Complete => false,
+        ReadEnd::Stopped => false,
+        ReadEnd::Incomplete => true,
     }
 }
 

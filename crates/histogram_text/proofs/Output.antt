@@ -27,8 +27,8 @@ use Rattle.table_text.proofs.Places.{letter-front}
 use Rattle.print.proofs.Lengths.{named-length, letter-fits, fit-take, fit-drop}
 use Rattle.pages.specs.Lines.{lineRoom}
 use Rattle.pages.proofs.Refused.{later-given, short-or-refused}
-use Rattle.tally.specs.Held.{streamLines, digitLines, heldLines}
-use Rattle.tally.proofs.Streams.{described-take, described-drop}
+use Rattle.held_lines.specs.Held.{streamLines, digitLines, heldLines}
+use Rattle.held_lines.proofs.Streams.{described-take, described-drop}
 use Rattle.histogram_text.specs.Histogram.{totalLine}
 use Rattle.histogram_text.specs.Output.{HistogramPrintout, printedStreamCount, printedStreams, valueText, histogramLine, histogramAt}
 

@@ -24,13 +24,13 @@ use Rattle.letters.specs.Described.{described, hasLetter}
 use Rattle.letters.proofs.Streams.{unnamed, length-unnamed, letter-reflects}
 use Rattle.sheet.specs.Names.{nameIn}
 use Rattle.records.specs.Machine.{streamAt}
-use Rattle.records.proofs.Names.{names-found}
+use Rattle.record_names.proofs.Names.{names-found}
 use Rattle.print.specs.Text.{line, decimal}
 use Rattle.print.specs.Lines.{linesFrom}
 use Rattle.pages.proofs.Refused.{given-text}
-use Rattle.tally.specs.Counts.{linesHolding}
-use Rattle.tally.specs.Held.{heldLines}
-use Rattle.tally.proofs.Digits.{count-at}
+use Rattle.held_lines.specs.Counts.{linesHolding}
+use Rattle.held_lines.specs.Held.{heldLines}
+use Rattle.held_lines.proofs.Digits.{count-at}
 use Rattle.tally.proofs.Record.{range-unnamed}
 use Rattle.histogram_text.specs.Histogram.{histogramHeading, countLine, totalLine, rangeValue, streamText, histogramText}
 use Rattle.histogram_text.specs.Output.{HistogramPrintout, printedStreamCount, printedStreams, valueText, histogramLine, histogramOutput}

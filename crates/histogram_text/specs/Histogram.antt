@@ -10,7 +10,8 @@ use Rattle.meaning.specs.Letter.{size}
 use Rattle.sheet.specs.Form.{namesOf}
 use Rattle.print.specs.Text.{line, decimal, refusalLine}
 use Rattle.print.specs.Lines.{linesFrom}
-use Rattle.tally.specs.Counts.{linesHolding, recordFault}
+use Rattle.held_lines.specs.Counts.{linesHolding}
+use Rattle.tally.specs.Faults.{recordFault}
 
 -- "print from a record `stream value lines`"
 abbrev pub histogramHeading : List ℕ

@@ -15,7 +15,7 @@ use Rattle.records.specs.Machine.{streamAt}
 use Rattle.print.specs.Text.{line, decimal}
 use Rattle.print.specs.Lines.{linesFrom}
 use Rattle.pages.specs.Lines.{orRefused, placesOr}
-use Rattle.tally.specs.Held.{heldLines}
+use Rattle.held_lines.specs.Held.{heldLines}
 use Rattle.histogram_text.specs.Histogram.{histogramHeading, totalLine}
 
 -- What is printed: a refusal's number, or 0 with the number of value lines and of those of each letter. A name is stored as eight bytes and a length.

@@ -50,8 +50,8 @@ fn value_line(
     ) {
         return 0;
     }
-    let held = tally::held_lines(counts, lows, highs, stream, digit);
-    let name = records::name_in(names, lengths, stream);
+    let held = held_lines::held_lines(counts, lows, highs, stream, digit);
+    let name = record_names::name_in(names, lengths, stream);
     print::named_line(name, &values[..1], held, line)
 }
 

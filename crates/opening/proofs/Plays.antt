@@ -17,7 +17,8 @@ use Rattle.outcome.specs.Compile.{CompileAnswer, Tables}
 use Rattle.lend.specs.Lend.{CompiledLent, HasOutcome, isRefused, isCompiled}
 use Rattle.lend.proofs.Outcome.{compiled-unique, refused-positive, refused-unique, refused-not-compiled, lent-total, stored-is}
 use Rattle.print.specs.Text.{refusalLine}
-use Rattle.records.specs.Line.{ValueLine, malformed, outside, letter, valueLine, isNamesLine}
+use Rattle.records.specs.Line.{ValueLine, malformed, outside, letter, valueLine}
+use Rattle.record_names.specs.Line.{isNamesLine}
 use Rattle.replaying.specs.Replay.{replayHeading, lineThen, outcomeFrom, entered, replayed, replayedLines}
 use Rattle.opening.specs.declared.OpenedTable.{OpenedTable}
 use Rattle.opening.specs.Start.{startState}

@@ -1,13 +1,14 @@
 // Reads the bytes of one line of a record within a chunk, from a place on to the line's byte 10 or to the end of the chunk; and counts lines. Every
 // public function takes any state, any place and any slices.
+use record_names::NamesState;
 use records::LineState;
-use records::NamesState;
 ghost use mathlib.Core.Path.{_≡_};
 ghost use lib.Seq.{slice};
 ghost use Rattle.text.specs.Fold.{runBytes};
 ghost use Rattle.letters.specs.Described.{described};
 ghost use Rattle.sheet.specs.Names.{nameIn};
-ghost use Rattle.records.specs.Machine.{lineByte, namesByte};
+ghost use Rattle.records.specs.Machine.{lineByte};
+ghost use Rattle.record_names.specs.Machine.{namesByte};
 ghost use Rattle.record_lines.specs.Runs.{oneMore, RunsLine};
 
 // The line of names, read to a place.
@@ -39,7 +40,7 @@ pub fn run_names(
         if byte == 10 {
             break;
         }
-        line = records::names_byte(line, byte, names, lengths);
+        line = record_names::names_byte(line, byte, names, lengths);
         at += 1;
     }
     NamesRun {

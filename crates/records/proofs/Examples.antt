@@ -9,7 +9,8 @@ use Rattle.meaning.specs.Expression.{setKind, Stream}
 use Rattle.meaning.specs.Letter.{letterCount, letterNumber}
 use Rattle.sheet.specs.Form.{namesOf}
 use Rattle.letters.specs.Described.{isLetter}
-use Rattle.records.specs.Line.{malformed, outside, letter, valueLine, isNamesLine}
+use Rattle.records.specs.Line.{malformed, outside, letter, valueLine}
+use Rattle.record_names.specs.Line.{isNamesLine}
 
 abbrev streams : List Stream
 streams =

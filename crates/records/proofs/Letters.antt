@@ -10,7 +10,8 @@ use Rattle.meaning.specs.Expression.{Stream}
 use Rattle.meaning.specs.Letter.{Letter, IsLetter, letterNumber}
 use Rattle.letters.specs.Described.{isLetter}
 use Rattle.letters.proofs.Streams.{isLetter-sound}
-use Rattle.records.specs.Line.{isPlain, malformed, outside, letter, lineValues, isOnePerStream, valuesRead, valueLine}
+use Rattle.record_names.specs.Line.{isPlain}
+use Rattle.records.specs.Line.{malformed, outside, letter, lineValues, isOnePerStream, valuesRead, valueLine}
 
 values-read : {ss : List Stream} {v : Letter} {a : ℕ} → valuesRead ss v ≡ letter a → IsLetter ss v × (a ≡ letterNumber ss v)
 values-read {ss} {v} {a} e = go (isLetter ss v) refl e

@@ -17,10 +17,12 @@ use Rattle.sheet.specs.Names.{eightBytes, ShortNames, nameIn}
 use Rattle.sheet.specs.Accepted.{Accepted}
 use Rattle.sheet.proofs.Names.{short-names}
 use Rattle.letters.proofs.Streams.{unnamed, letterCount-unnamed, letterNumber-unnamed, isLetter-unnamed, length-unnamed}
-use Rattle.records.specs.Line.{valueLine, isNamesLine}
-use Rattle.records.specs.Machine.{lineStart, lineByte, lineEnd, endOf, namesStart, namesByte, namesEnd}
+use Rattle.records.specs.Line.{valueLine}
+use Rattle.record_names.specs.Line.{isNamesLine}
+use Rattle.records.specs.Machine.{lineStart, lineByte, lineEnd, endOf}
+use Rattle.record_names.specs.Machine.{namesStart, namesByte, namesEnd}
 use Rattle.records.proofs.Values.{AcceptedRanges, line-read}
-use Rattle.records.proofs.Names.{names-read, names-found}
+use Rattle.record_names.proofs.Names.{names-read, names-found}
 
 -- ---- the values
 

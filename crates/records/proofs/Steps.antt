@@ -1,4 +1,4 @@
--- The step of any machine at a byte, by the tests that tell the byte's class; and the number of a letter with one value more. From the definitions.
+-- A digit's class, and the number of a letter with one value more. From the definitions.
 use Prim.Native.Nat.{ℕ, zero, suc, _+_, _*_, _^_, _≤_, _<_}
 use native.Mathlib.Omega.{arith}
 use mathlib.Core.Path.{_≡_, refl, sym, _∙_, ap, ap₂}
@@ -18,15 +18,8 @@ use Rattle.meaning.specs.Letter.{letterCount}
 use Rattle.sheet.specs.Refusal.{letterBound}
 use Rattle.letters.specs.Described.{described, cutCount, numberOf}
 use Rattle.letters.proofs.Widths.{next-number-fits}
-use Rattle.records.specs.Line.{isPlain}
+use Rattle.record_names.specs.Line.{isPlain}
 use Rattle.records.specs.Machine.{streamAt, nextNumber}
-
-class-inside : (b : ℕ) → isInside b ≡ true → classOf b ≡ inside
-class-inside b e = by (isBracket b) refl
-  where
-    by : (t : Bool) → isBracket b ≡ t → classFrom t (isInside b) ≡ inside
-    by true p = not-both (sym (bracket-not-inside b (T-of-true (isBracket b) p)) ∙ e)
-    by false p = ap (classFrom false) e
 
 -- A digit is a plain byte inside a run.
 pub digit-plain : (b : ℕ) → isDigit b ≡ true → isPlain b ≡ true
@@ -42,30 +35,6 @@ digit-inside b e =
     let l = leb→le 48 b (and-left (leb 48 b) (leb b 57) t) in
     let h = leb→le b 57 (and-right (leb 48 b) (leb b 57) t) in
     simp (le-leb 33 b (omega arith), le-leb b 126 (omega arith), ne-eqb b 40 (λ p. omega arith), ne-eqb b 41 (λ p. omega arith))
-
-abbrev pub reading : {S : Type 0} → Bool → S → TokenReading S
-reading begun s = record { begun = begun; state = s }
-
--- A state is made of a mark of barred bytes and of what is read of the tokens; it is what the code makes at a byte inside a run, at a bracket and
--- at any other byte.
-module _ {S L : Type 0} (from : Bool → TokenReading S → L) (byte : S → ℕ → S) (token-end : S → S) (r : TokenReading S) (b : ℕ) {m n : Bool} (marks : m ≡ n) where
-  abbrev ended : S
-  ended = endToken byte token-end (r .begun) (r .state)
-
-  abbrev next : L
-  next = from n (classByte byte token-end (classOf b) r b)
-
-  pub at-inside : isInside b ≡ true → {v : S} → v ≡ byte (r .state) b → from m (reading true v) ≡ next
-  at-inside e q = ap₂ from marks (ap (reading true) q ∙ sym (ap (λ c. classByte byte token-end c r b) (class-inside b e)))
-
-  pub at-bracket : isBracket b ≡ true → {u v w : S} → u ≡ ended → v ≡ byte u b → w ≡ token-end v → from m (reading false w) ≡ next
-  at-bracket e p q s =
-      ap₂ from marks (ap (reading false) (s ∙ ap token-end (q ∙ ap (λ x. byte x b) p)) ∙ sym (ap (λ t. classByte byte token-end (classFrom t (isInside b)) r b) e))
-
-  pub at-between : isInside b ≡ false → isBracket b ≡ false → {u : S} → u ≡ ended → from m (reading false u) ≡ next
-  at-between e f p =
-      ap₂ from marks
-      (ap (reading false) p ∙ sym (ap (λ t. classByte byte token-end (classFrom t (isInside b)) r b) f ∙ ap (λ t. classByte byte token-end (classFrom false t) r b) e))
 
 -- ---- the number of a letter
 

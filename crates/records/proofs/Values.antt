@@ -26,14 +26,18 @@ use Rattle.sheet.specs.Refusal.{streamBound, letterBound, InBounds}
 use Rattle.scan.specs.Integer.{cut}
 use Rattle.letters.specs.Described.{isLetter, numberOf, cutCount}
 use Rattle.letters.proofs.Streams.{isLetter-sound}
-use Rattle.records.specs.Line.{isPlain, isOnePerStream, valuesRead, valueLine, malformed, outside, letter}
-use Rattle.records.specs.declared.Phase.the-variants.{Empty}
-use Rattle.records.specs.Machine.{isNegative, nextCount, streamAt, nextNumber, valueByte, endedFrom, valueOf, valueEnd, lineStart, lineFrom, lineByte, numberRead, valuesEnd, endOf, lineEnd}
-use Rattle.records.proofs.Steps.{reading}
-use Rattle.records.proofs.Plain.{plain-run}
-use Rattle.records.proofs.Phases.{phaseAfter, token-read, magnitude-after, value-after}
+use Rattle.record_names.specs.Line.{isPlain}
+use Rattle.records.specs.Line.{isOnePerStream, valuesRead, valueLine, malformed, outside, letter}
+use Rattle.integer_bytes.specs.declared.Phase.the-variants.{Empty}
+use Rattle.records.specs.declared.ValuesState.{ValuesState}
+use Rattle.integer_bytes.specs.Phases.{isNegative, nextMagnitude, valueOf}
+use Rattle.record_names.specs.Machine.{nextCount}
+use Rattle.records.specs.Machine.{streamAt, nextNumber, withPhase, valueByte, endedFrom, valueEnd, lineStart, lineFrom, lineByte, numberRead, valuesEnd, endOf, lineEnd}
+use Rattle.record_names.proofs.Steps.{reading}
+use Rattle.record_names.proofs.Plain.{plain-run}
+use Rattle.integer_bytes.proofs.Phases.{phaseAfter, token-read, magnitude-after}
 use Rattle.records.proofs.Numbers.{number-cut, numberAfter, letter-after}
-use Rattle.records.proofs.Counts.{countAfter, count-test}
+use Rattle.record_names.proofs.Counts.{countAfter, count-test}
 
 -- The streams as an accepted sheet has them, as far as a line of values needs it.
 pub record AcceptedRanges (ss : List Stream) : Type 0 where
@@ -41,6 +45,11 @@ pub record AcceptedRanges (ss : List Stream) : Type 0 where
   pub ordered : (x : Stream) → List·Memᴰ x ss → x .range .low ≤ℤ x .range .high
   pub inBounds : (x : Stream) → List·Memᴰ x ss → InBounds (x .range)
   pub fewLetters : letterCount ss ≤ letterBound
+
+-- The bytes of a token move its phase and its magnitude.
+value-after : (t : List ℕ) (s : ValuesState) → runBytes valueByte s t ≡ withPhase s (phaseAfter (s .phase) t) (runBytes nextMagnitude (s .magnitude) t)
+value-after [] s = refl
+value-after (b ∷ t) s = value-after t (valueByte s b)
 
 module _ (ss : List Stream) where
   -- ---- the tokens

@@ -1,22 +1,18 @@
--- What a line of a record is: the line with the sheet's names, and a line of values (document 02, S-1: "the sheet's names in its order, then
--- lines of values, with lines, tokens and integers as in a sheet").
+-- What a line of values of a record is (document 02, S-1: "lines of values, with lines, tokens and integers as in a sheet").
 use Prim.Native.Nat.{ℕ}
 use mathlib.Core.Path.{_≡_}
-use mathlib.Core.Bool.{Bool, true, false, cond, _&&_}
-use mathlib.Core.List.{List, [], _∷_, map}
-use lib.Dec.{leb, eqb}
+use mathlib.Core.Bool.{Bool, cond, _&&_}
+use mathlib.Core.List.{List, map}
+use lib.Dec.{eqb}
 use lib.ListN.{length}
 use Rattle.basics.specs.Lists.{All}
 use Rattle.text.specs.Bytes.{Token, tokens}
-use Rattle.text.specs.Token.{allBytes, sameBytes, isInteger, integerValue}
+use Rattle.text.specs.Token.{allBytes, isInteger, integerValue}
 use Rattle.meaning.specs.Expression.{Stream}
 use Rattle.meaning.specs.Letter.{Letter, Record, letterNumber}
 use Rattle.meaning.specs.Situation.{all}
 use Rattle.letters.specs.Described.{isLetter}
-
--- A byte of a line that is not "a byte refusal 1 bars".
-abbrev pub isPlain : ℕ → Bool
-isPlain b = leb 32 b && leb b 126
+use Rattle.record_names.specs.Line.{isPlain}
 
 pub data ValueLine : Type 0 where
   -- "13 [..] a line that is not one integer per stream (a byte refusal 1 bars makes either so)"
@@ -41,16 +37,6 @@ valuesRead ss v = cond (isLetter ss v) (letter (letterNumber ss v)) outside
 -- "the first line with a fault decides, in the order 13, 14"
 unfoldable pub valueLine : List Stream → List ℕ → ValueLine
 valueLine ss l = cond (allBytes isPlain l && isOnePerStream ss (tokens l)) (valuesRead ss (lineValues l)) malformed
-
-abbrev pub sameTokens : List Token → List Token → Bool
-sameTokens [] [] = true
-sameTokens [] (n ∷ ns) = false
-sameTokens (t ∷ ts) [] = false
-sameTokens (t ∷ ts) (n ∷ ns) = sameBytes t n && sameTokens ts ns
-
--- "13, names that differ [..] (a byte refusal 1 bars makes either so)": the line has these names and no barred byte.
-unfoldable pub isNamesLine : List Token → List ℕ → Bool
-isNamesLine names l = allBytes isPlain l && sameTokens (tokens l) names
 
 -- ---- lines as letters
 

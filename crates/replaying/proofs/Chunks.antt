@@ -21,8 +21,9 @@ use Rattle.letters.specs.Described.{cutCount}
 use Rattle.letters.proofs.Streams.{unnamed, letterCount-unnamed}
 use Rattle.print.specs.Text.{refusalLine}
 use Rattle.records.specs.Line.{ValueLine, malformed, outside, letter, valueLine}
-use Rattle.records.specs.Machine.{lineStart, lineByte, endOf, namesStart, namesByte}
-use Rattle.records.specs.declared.NamesState.{NamesState}
+use Rattle.records.specs.Machine.{lineStart, lineByte, endOf}
+use Rattle.record_names.specs.Machine.{namesStart, namesByte}
+use Rattle.record_names.specs.declared.NamesState.{NamesState}
 use Rattle.records.proofs.Sheets.{accepted-line, accepted-names}
 use Rattle.replaying.specs.Replay.{replayHeading, stateLine, LineOutcome, reaches, refuses, entered, lineThen, outcomeFrom, replayed, replayedLines}
 use Rattle.record_lines.specs.Runs.{oneMore}

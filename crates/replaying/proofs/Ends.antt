@@ -7,7 +7,7 @@ use mathlib.Core.List.{List, [], _∷_}
 use lib.ListN.{length}
 use lib.Seq.{sets, length-sets}
 use borrow.Author.Tests.{le-leb, lt-leb}
-use Rattle.records.specs.Machine.{namesStart}
+use Rattle.record_names.specs.Machine.{namesStart}
 use Rattle.replaying.specs.Replay.{LineOutcome, reaches, refuses}
 use Rattle.replaying.specs.Machine.{PlayedSheet, Playing, playing, valuesReplay, endedReplay, lineOutcome, afterOutcome, isNames, endText, endIn, lineEnded, lastLine, closedIn, closedReplay, played, Advances, lastText, Finishes}
 use Rattle.replaying.specs.declared.Stage.{Stage}

@@ -11,9 +11,10 @@ use Rattle.text.specs.Fold.{runBytes}
 use Rattle.print.specs.Append.{Appends}
 use Rattle.print.specs.Text.{refusalLine}
 use Rattle.print.proofs.Lengths.{refusal-length}
-use Rattle.records.specs.Machine.{lineStart, lineByte, namesStart, namesByte}
+use Rattle.records.specs.Machine.{lineStart, lineByte}
+use Rattle.record_names.specs.Machine.{namesStart, namesByte}
 use Rattle.records.specs.declared.LineState.{LineState}
-use Rattle.records.specs.declared.NamesState.{NamesState}
+use Rattle.record_names.specs.declared.NamesState.{NamesState}
 use Rattle.replaying.specs.Replay.{LineOutcome, reaches, refuses, replayHeading}
 use Rattle.record_lines.specs.Runs.{oneMore, RunsLine}
 use Rattle.replaying.specs.Machine.{PlayedSheet, playing, namesReplay, valuesReplay, endedReplay, advancedTo, isRefused, ledTo, HoldsOutcome, storedStreams, nameAt, byteRead, lineOutcome, afterOutcome, isNames, PlaysChunk}

@@ -8,9 +8,10 @@ use mathlib.Core.List.{List, [], _∷_, _++_, append-assoc, append-nil}
 use lib.Dec.{eqb}
 use lib.ListN.{length, length-append}
 use Rattle.text.specs.Fold.{runBytes}
-use Rattle.records.specs.Machine.{lineByte, namesByte}
+use Rattle.records.specs.Machine.{lineByte}
+use Rattle.record_names.specs.Machine.{namesByte}
 use Rattle.records.specs.declared.LineState.{LineState}
-use Rattle.records.specs.declared.NamesState.{NamesState}
+use Rattle.record_names.specs.declared.NamesState.{NamesState}
 use Rattle.record_lines.specs.Runs.{NoLineEnd}
 use Rattle.record_lines.proofs.Runs.{begunBy, begun-stays, text-end, text-other, run-other as run-line}
 use Rattle.replaying.specs.Machine.{PlayedSheet, Playing, playing, namesReplay, valuesReplay, endedReplay, storedStreams, nameAt, readIn, byteRead, endText, endIn, lineEnded, playByte, HasLineRoom, HasOutputRoom}

@@ -18,10 +18,11 @@ use Rattle.automaton.specs.Stored.{entryAt}
 use Rattle.letters.specs.Described.{described, cutCount}
 use Rattle.print.specs.Text.{refusalLine}
 use Rattle.sheet.specs.Names.{nameIn}
-use Rattle.records.specs.Machine.{lineStart, lineByte, lineEnd, namesStart, namesByte, namesEnd}
+use Rattle.records.specs.Machine.{lineStart, lineByte, lineEnd}
+use Rattle.record_names.specs.Machine.{namesStart, namesByte, namesEnd}
 use Rattle.records.specs.declared.LineState.{LineState}
 use Rattle.records.specs.declared.LineEnd.{LineEnd}
-use Rattle.records.specs.declared.NamesState.{NamesState}
+use Rattle.record_names.specs.declared.NamesState.{NamesState}
 use Rattle.record_lines.specs.Runs.{oneMore}
 use Rattle.replaying.specs.Replay.{replayHeading, stateLine, LineOutcome, reaches, refuses, entered}
 use Rattle.replaying.specs.declared.Stage.{Stage}

@@ -12,7 +12,8 @@ use Rattle.sheet.specs.Form.{namesOf}
 use Rattle.automaton.specs.Table.{noState}
 use Rattle.automaton.specs.Stored.{entryAt}
 use Rattle.print.specs.Text.{line, decimal, refusalLine}
-use Rattle.records.specs.Line.{ValueLine, malformed, outside, letter, valueLine, isNamesLine}
+use Rattle.records.specs.Line.{ValueLine, malformed, outside, letter, valueLine}
+use Rattle.record_names.specs.Line.{isNamesLine}
 
 -- "prints `line state`"
 abbrev pub replayHeading : List ℕ

@@ -1,7 +1,7 @@
 // Plays a record against a sheet's table, byte by byte, and writes what `replay` prints to lent bytes. What is kept between two chunks of a record
 // is a struct of scalars, so that a record of any length takes the same memory. Every public function takes any replay and any slices.
+use record_names::NamesState;
 use records::LineState;
-use records::NamesState;
 ghost use mathlib.Core.Path.{_≡_};
 ghost use Prim.Native.Nat.{ℕ, _<_, _≤_};
 ghost use mathlib.Core.List.{List, []};
@@ -56,7 +56,7 @@ pub fn begin(state: u32) -> Replay
     Replay {
         stage: Stage::Names,
         begun: false,
-        names: records::names_start(),
+        names: record_names::names_start(),
         line: records::line_start(),
         number: 1,
         state: state,
@@ -71,7 +71,7 @@ fn ended_at(begun: bool, next: usize, size: usize) -> Advanced
         replay: Replay {
             stage: Stage::Ended,
             begun: begun,
-            names: records::names_start(),
+            names: record_names::names_start(),
             line: records::line_start(),
             number: 0,
             state: 0,
@@ -212,11 +212,11 @@ fn advance_names(
             size: 0,
         };
     }
-    if !records::names_end(read, names, lengths) {
+    if !record_names::names_end(read, names, lengths) {
         return ended_at(false, at + 1, print::refusal_line(13, out));
     }
     let size = print::text(b"line state\n", out);
-    let start = records::names_start();
+    let start = record_names::names_start();
     values_at(
         false,
         start,

@@ -30,7 +30,8 @@ use Rattle.letters.proofs.Streams.{unnamed}
 use Rattle.reader.specs.declared.Reading.{Reading}
 use Rattle.reader.specs.declared.StoredSheet.{StoredSheet}
 use Rattle.reader.specs.Stored.{storedSheet, readingOf}
-use Rattle.records.specs.Line.{ValueLine, malformed, outside, letter, valueLine, isNamesLine}
+use Rattle.records.specs.Line.{ValueLine, malformed, outside, letter, valueLine}
+use Rattle.record_names.specs.Line.{isNamesLine}
 use Rattle.print.specs.Text.{refusalLine}
 use Rattle.pages.proofs.Refused.{refused-text}
 use Rattle.stored_ranges.proofs.Passed.{behindNames, names-passed, lengths-passed, lows-passed, highs-passed}
@@ -38,12 +39,13 @@ use Rattle.tally.specs.declared.TallyStage.{TallyStage}
 use Rattle.tally.specs.declared.TallyStage.the-variants.{Names, Values, Refused}
 use Rattle.tally.specs.declared.Tally.{Tally}
 use Rattle.tally.specs.declared.LineCounts.{LineCounts}
-use Rattle.tally.specs.Counts.{holdsValue, linesHolding, lineFault, firstOf, valuesFault, recordFault, NoFaultEnded}
+use Rattle.held_lines.specs.Counts.{holdsValue, linesHolding}
+use Rattle.tally.specs.Faults.{lineFault, firstOf, valuesFault, recordFault, NoFaultEnded}
 use Rattle.tally.specs.Machine.{countedSheet, Counting, counting, tallyAt, startTally, isRefusedTally, countByte, refusedCounts, countsAnswer, countsLeft, lastCounted, FinishesTally}
-use Rattle.tally.specs.Held.{cutLines, heldLines}
+use Rattle.held_lines.specs.Held.{cutLines, heldLines}
 use Rattle.tally.proofs.Ends.{no-last-line}
-use Rattle.tally.proofs.Digits.{count-around, factors}
-use Rattle.tally.proofs.Held.{how-many-few}
+use Rattle.held_lines.proofs.Digits.{count-around, factors}
+use Rattle.held_lines.proofs.Held.{how-many-few}
 use Rattle.tally.proofs.Record.{stored, chunks-refused, chunks-counted, refused-whole, unrefused-front, held-lines}
 use Rattle.tally.proofs.Steps.{refused-last}
 use Rattle.record_lines.specs.Runs.{highestNumber}
@@ -52,12 +54,13 @@ use Rattle.histogram_text.specs.Histogram.{rangeValue, histogramText, textOr, c
 use Rattle.histogram_text.specs.Output.{histogramLine, histogramOutput}
 use Rattle.histogram_text.specs.Prints.{PrintsHistogram, refusedSheet, counted}
 use Rattle.histogram_text.proofs.Text.{histogram-text}
-use Rattle.show_histogram.specs.declared.RecordEnd.{RecordEnd}
-use Rattle.show_histogram.specs.declared.RecordEnd.the-variants.{Unopened, Complete, Faulty, Incomplete}
-use Rattle.show_histogram.specs.declared.ReadTally.{ReadTally}
+use Rattle.reads.specs.declared.ReadEnd.{ReadEnd}
+use Rattle.reads.specs.declared.ReadEnd.the-variants.{Complete, Stopped, Incomplete}
 use Rattle.show_histogram.specs.declared.ShownCounts.{ShownCounts}
-use Rattle.show_histogram.proofs.Reading.{text-few}
-use Rattle.show_histogram.specs.Shows.{mostReads, ChunkRead, readText, lastAnswer, StopsInTime, StopsAtRefusal, PrintsReads, unopened, complete, faulty, incomplete, ShowsHistogram, stoppedAt, afterAnswer, afterChunk, orUnread, passedStreams, printoutOfCounts, ShowsCounts}
+use Rattle.reads.specs.Chunks.{mostReads, ChunkRead, readText, lastAnswer, ReadsUntilStop}
+use Rattle.reads.proofs.Chunks.{text-few, Ended, atStop, atEnd, atFailure, atMost, reading-ended}
+use Rattle.record_file.specs.Reads.{isRefusedCounting, orUnread}
+use Rattle.show_histogram.specs.Shows.{StopsInTime, PrintsReads, unopened, complete, faulty, incomplete, ShowsHistogram, passedStreams, printoutOfCounts, ShowsCounts}
 
 -- ---- the numbers of faults are not 0
 
@@ -203,38 +206,32 @@ module _ (text : List ℕ) {reading : Reading} (read-as : reading ≡ readingOf 
       go (refused n) r q e = absurd (omega (arith, refusal-positive r))
       go (sheet s) r q e = (s, r, e)
 
-  pub sheet-refused : 0 < reading .refusal → PrintsReads text [] Unopened (refusalLine (reading .refusal))
+  pub sheet-refused : 0 < reading .refusal → PrintsReads text [] Stopped (refusalLine (reading .refusal))
   sheet-refused h = go (answerTo text) (answer-correct text) (ap (λ y. y .refusal) read-as)
     where
-      go : (a : Answer) → AnswerTo text a → reading .refusal ≡ readingOf a .refusal → PrintsReads text [] Unopened (refusalLine (reading .refusal))
-      go (refused n) r e = subst (λ m. PrintsReads text [] Unopened (refusalLine m)) (sym e) (unopened r refl)
+      go : (a : Answer) → AnswerTo text a → reading .refusal ≡ readingOf a .refusal → PrintsReads text [] Stopped (refusalLine (reading .refusal))
+      go (refused n) r e = subst (λ m. PrintsReads text [] Stopped (refusalLine m)) (sym e) (unopened r refl)
       go (sheet s) r e = absurd (omega arith)
 
   module _ (z : reading .refusal ≡ 0) {r : ShownCounts} (shown : ShowsCounts (reading .sheet) r) where
     abbrev x : StoredSheet
     x = reading .sheet
 
-    abbrev read : ReadTally
-    read = shown .file .read
+    abbrev tally : Tally
+    tally = shown .file .tally
 
     abbrev chunks : List ChunkRead
     chunks = shown .file .reads .reads .chunks
 
-    abbrev left : ℕ
-    left = shown .file .reads .left
-
     abbrev printed : List ℕ
     printed = histogramOutput (printoutOfCounts x (shown .counted) (shown .counts))
 
-    all-reads : length chunks + left ≡ mostReads
+    all-reads : length chunks + shown .file .reads .left ≡ mostReads
     all-reads = shown .file .reads .reads .all
 
-    ended-is : {stood : ReadTally} → afterChunk (read .tally) (lastAnswer chunks) left ≡ stood → r .ended ≡ stood .ended
-    ended-is e = shown .file .same ∙ ap (λ y. y .ended) (shown .file .reads .reads .stands ∙ e)
-
     -- The record's end, by how the reading ended.
-    finished : {ended : RecordEnd} → r .ended ≡ ended → FinishesTally (passedStreams x) (orUnread (read .tally) ended) (shown .file .before) (shown .counts) (shown .counted)
-    finished e = subst (λ w. FinishesTally (passedStreams x) (orUnread (read .tally) w) (shown .file .before) (shown .counts) (shown .counted)) (sym (shown .file .same) ∙ e) (shown .file .finishes)
+    finished : {ended : ReadEnd} → r .ended ≡ ended → FinishesTally (passedStreams x) (orUnread tally ended) (shown .file .before) (shown .counts) (shown .counted)
+    finished e = subst (λ w. FinishesTally (passedStreams x) (orUnread tally w) (shown .file .before) (shown .counts) (shown .counted)) e (shown .file .finishes)
 
     module _ {s : Sheet} (answered : AnswerTo text (sheet s)) (same : x ≡ storedSheet s) where
       abbrev accepted : Accepted s
@@ -243,10 +240,10 @@ module _ (text : List ℕ) {reading : Reading} (read-as : reading ≡ readingOf 
       few : length (readText chunks) ≤ mostReads * 65536
       few = omega (arith, text-few chunks, all-reads)
 
-      print-as : {ended : RecordEnd} {bytes : List ℕ} → r .ended ≡ ended → printed ≡ bytes → PrintsReads text chunks ended bytes → PrintsReads text chunks (r .ended) printed
+      print-as : {ended : ReadEnd} {bytes : List ℕ} → r .ended ≡ ended → printed ≡ bytes → PrintsReads text chunks ended bytes → PrintsReads text chunks (r .ended) printed
       print-as e q p = subst (λ w. PrintsReads text chunks w printed) (sym e) (subst (PrintsReads text chunks _) (sym q) p)
 
-      faulty-read : (n : ℕ) → read .tally .stage ≡ Refused n → r .ended ≡ Faulty → PrintsReads text chunks (r .ended) printed
+      faulty-read : (n : ℕ) → tally .stage ≡ Refused n → r .ended ≡ Stopped → PrintsReads text chunks (r .ended) printed
       faulty-read n q e =
           print-as e (fault-printed s accepted same (readText chunks) (shown .file .reads .reads .run) q (finished e))
           (faulty answered n (λ rest. subst (PrintsHistogram text (readText chunks ++ rest)) (fault-text rest) (counted answered)))
@@ -254,42 +251,30 @@ module _ (text : List ℕ) {reading : Reading} (read-as : reading ≡ readingOf 
           fault-text : (rest : List ℕ) → countedText (s .streams) (lines (readText chunks ++ rest)) ≡ refusalLine n
           fault-text rest = fault-counted (s .streams) (lines (readText chunks ++ rest)) (fault-whole s accepted same (readText chunks) (shown .file .reads .reads .run) q rest)
 
-      unread : isRefusedTally (read .tally .stage) ≡ false → ((k : ℕ) × (lastAnswer chunks ≡ negsuc k)) ⊎ ((length chunks ≡ mostReads) × ((k : ℕ) × (lastAnswer chunks ≡ pos (suc k))))
+      unread : isRefusedTally (tally .stage) ≡ false → ((k : ℕ) × (lastAnswer chunks ≡ negsuc k)) ⊎ ((length chunks ≡ mostReads) × ((k : ℕ) × (lastAnswer chunks ≡ pos (suc k))))
           → r .ended ≡ Incomplete → PrintsReads text chunks (r .ended) printed
       unread u why e =
           print-as e (unread-printed x (shown .file .before) (finished e)) (incomplete answered (no-fault-ended s accepted same (readText chunks) (shown .file .reads .reads .run) u) why)
 
-      unfaulted : isRefusedTally (read .tally .stage) ≡ false → (a : ℤ) → lastAnswer chunks ≡ a → r .ended ≡ afterAnswer (read .tally) a left .ended → read .more ≡ afterAnswer (read .tally) a left .more
-          → PrintsReads text chunks (r .ended) printed
-      unfaulted u (negsuc k) q e m = unread u (inl (k, q)) e
-      unfaulted u (pos zero) q e m =
-          print-as e (counts-printed s accepted same (readText chunks) few (shown .file .reads .reads .run) (finished e))
-          (complete answered (no-fault-ended s accepted same (readText chunks) (shown .file .reads .reads .run) u) q)
-      unfaulted u (pos (suc k)) q e m =
-          let none : left ≡ 0 = none-left (sym m ∙ shown .file .reads .stopped) in
-          unread u (inr (omega (arith, all-reads), (k, q))) e
-        where
-          none-left : ltb 0 left ≡ false → left ≡ 0
-          none-left h = omega (arith, ltb-false 0 left h)
-
       shown-reads : PrintsReads text chunks (r .ended) printed
-      shown-reads = by (isRefusedTally (read .tally .stage)) refl
+      shown-reads = by (reading-ended _ isRefusedCounting _ (shown .file .reads))
         where
-          by : (b : Bool) → isRefusedTally (read .tally .stage) ≡ b → PrintsReads text chunks (r .ended) printed
-          by true e =
-              let n = refusal-of (read .tally .stage) e in
-              faulty-read (n .0) (n .1) (ended-is (ap (λ b. cond b (stoppedAt (read .tally) Faulty) (afterAnswer (read .tally) (lastAnswer chunks) left)) e))
-          by false e =
-              let stood = ap (λ b. cond b (stoppedAt (read .tally) Faulty) (afterAnswer (read .tally) (lastAnswer chunks) left)) e in
-              unfaulted e (lastAnswer chunks) refl (ended-is stood) (ap (λ y. y .more) (shown .file .reads .reads .stands ∙ stood))
+          by : Ended (countByte (passedStreams x)) isRefusedCounting (counting startTally (replicate 1024 0)) (counting tally (shown .file .before)) chunks (shown .file .progress)
+              → PrintsReads text chunks (r .ended) printed
+          by (atStop e q) = let n = refusal-of (tally .stage) e in faulty-read (n .0) (n .1) (shown .file .same ∙ q)
+          by (atEnd e a q) =
+              print-as (shown .file .same ∙ q) (counts-printed s accepted same (readText chunks) few (shown .file .reads .reads .run) (finished (shown .file .same ∙ q)))
+              (complete answered (no-fault-ended s accepted same (readText chunks) (shown .file .reads .reads .run) e) a)
+          by (atFailure e {k} a q) = unread e (inl (k, a)) (shown .file .same ∙ q)
+          by (atMost e m {k} a q) = unread e (inr (m, (k, a))) (shown .file .same ∙ q)
 
     stops-in-time : {s : Sheet} → AnswerTo text (sheet s) → StopsInTime (s .streams) chunks
     stops-in-time {s} answered =
         let found = read-sheet z in
         let same : x ≡ storedSheet s = found .2 ∙ ap storedSheet (one-sheet (found .1) answered) in
-        by same chunks (shown .file .reads .reads .stops)
+        by same chunks (shown .file .reads .reads .stopped)
       where
-        by : x ≡ storedSheet s → (rs : List ChunkRead) → StopsAtRefusal (passedStreams x) (replicate 1024 0) rs → StopsInTime (s .streams) rs
+        by : x ≡ storedSheet s → (rs : List ChunkRead) → ReadsUntilStop (countByte (passedStreams x)) isRefusedCounting (counting startTally (replicate 1024 0)) rs → StopsInTime (s .streams) rs
         by same [] st = tt
         by same (q ∷ rs) st = (st .0, no-fault-ended s (accepted-facts answered) same (readText rs) refl (st .1))
 

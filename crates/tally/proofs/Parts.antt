@@ -12,10 +12,11 @@ use lib.Seq.{slice, slice-empty, take-length}
 use borrow.Author.Tests.{eq-eqb, ne-eqb}
 use Rattle.text.specs.Fold.{runBytes}
 use Rattle.text.proofs.Lines.{run-append}
-use Rattle.records.specs.Machine.{lineStart, lineByte, lineEnd, namesByte}
+use Rattle.records.specs.Machine.{lineStart, lineByte, lineEnd}
+use Rattle.record_names.specs.Machine.{namesByte}
 use Rattle.records.specs.declared.LineState.{LineState}
 use Rattle.records.specs.declared.LineEnd.{LineEnd}
-use Rattle.records.specs.declared.NamesState.{NamesState}
+use Rattle.record_names.specs.declared.NamesState.{NamesState}
 use Rattle.record_lines.specs.Runs.{oneMore, RunsLine}
 use Rattle.record_lines.proofs.Slices.{slice-split, slice-more}
 use Rattle.record_lines.proofs.Runs.{begunBy, begun-part, line-bytes, whole-line}
@@ -23,7 +24,8 @@ use Rattle.tally.specs.declared.TallyStage.{TallyStage}
 use Rattle.tally.specs.declared.TallyStage.the-variants.{Names, Values, Refused}
 use Rattle.tally.specs.declared.Tally.{Tally}
 use Rattle.tally.specs.declared.Part.{Part}
-use Rattle.tally.specs.Machine.{CountedSheet, Counting, counting, tallyAt, raisedCount, countedStreams, countedName, byteCounted, lineCounted, areCountedNames, countByte, ReadsPart}
+use Rattle.tally.specs.Machine.{CountedSheet, Counting, counting, tallyAt, countedStreams, countedName, byteCounted, lineCounted, areCountedNames, countByte, ReadsPart}
+use Rattle.held_lines.specs.Held.{raisedCount}
 use Rattle.tally.proofs.Steps.{names-run, values-run, refused-bytes}
 
 abbrev partTo : Bool → TallyStage → ℕ → Part
@@ -189,13 +191,3 @@ module _ (s : CountedSheet) (chunk : List ℕ) where
       let i = p .inside in
       let e : at ≡ length chunk = omega arith in
       p .run ∙ ap (runBytes (countByte s) start) (ap (λ n. slice 0 n chunk) e ∙ take-length chunk)
-
--- Raising a count keeps their number.
-pub raised-length : (counts : List ℕ) (letter : ℕ) → length (raisedCount counts letter) ≡ length counts
-raised-length counts letter = length-set counts letter (oneMore (getD counts letter 0))
-
--- A place beyond the list is not stored to.
-pub set-beyond : (l : List ℕ) (i v : ℕ) → length l ≤ i → set l i v ≡ l
-set-beyond [] i v h = refl
-set-beyond (x ∷ l) zero v h = absurd (omega arith)
-set-beyond (x ∷ l) (suc i) v h = ap (λ m. x ∷ m) (set-beyond l i v (omega arith))

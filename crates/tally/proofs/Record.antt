@@ -23,20 +23,24 @@ use Rattle.sheet.specs.Names.{eightBytes}
 use Rattle.sheet.specs.Accepted.{Accepted}
 use Rattle.sheet.proofs.Accepted.{letterCount-positive}
 use Rattle.letters.proofs.Streams.{unnamed, length-unnamed, letterCount-unnamed, letterNumber-unnamed, isLetter-unnamed, isLetter-sound, isLetter-complete}
-use Rattle.records.specs.Line.{ValueLine, malformed, outside, letter, lineValues, valueLine, isNamesLine, recordOfLines, lettersOf}
-use Rattle.records.specs.Machine.{lineStart, endOf, namesStart}
+use Rattle.records.specs.Line.{ValueLine, malformed, outside, letter, lineValues, valueLine, recordOfLines, lettersOf}
+use Rattle.record_names.specs.Line.{isNamesLine}
+use Rattle.records.specs.Machine.{lineStart, endOf}
+use Rattle.record_names.specs.Machine.{namesStart}
 use Rattle.records.proofs.Sheets.{accepted-line, accepted-names}
 use Rattle.records.proofs.Letters.{letter-line}
 use Rattle.record_lines.specs.Runs.{oneMore}
 use Rattle.record_lines.proofs.Runs.{some-line, text-end}
 use Rattle.tally.specs.declared.TallyStage.{TallyStage}
 use Rattle.tally.specs.declared.TallyStage.the-variants.{Values, Refused}
-use Rattle.tally.specs.Counts.{linesHolding, lineFault, firstOf, valuesFault, recordFault, NoFaultEnded}
-use Rattle.tally.specs.Machine.{CountedSheet, countedSheet, Counting, counting, tallyAt, startTally, isRefusedTally, raisedCount, countsAnswer, refusedCounts, stageAfter, countsAfter, byteCounted, lineCounted, countByte, lastCounted}
-use Rattle.tally.specs.Held.{cutLines, heldLines}
+use Rattle.held_lines.specs.Counts.{linesHolding}
+use Rattle.tally.specs.Faults.{lineFault, firstOf, valuesFault, recordFault, NoFaultEnded}
+use Rattle.tally.specs.Machine.{CountedSheet, countedSheet, Counting, counting, tallyAt, startTally, isRefusedTally, countsAnswer, refusedCounts, stageAfter, countsAfter, byteCounted, lineCounted, countByte, lastCounted}
+use Rattle.held_lines.specs.Held.{raisedCount}
+use Rattle.held_lines.specs.Held.{cutLines, heldLines}
 use Rattle.tally.proofs.Steps.{names-run, values-run, refused-run, refused-stays, refused-last}
 use Rattle.tally.proofs.Ends.{no-last-line}
-use Rattle.tally.proofs.Held.{raisedBy, HaveLetters, held-counted}
+use Rattle.held_lines.proofs.Held.{raisedBy, HaveLetters, held-counted}
 
 -- ---- the machine ends lines
 

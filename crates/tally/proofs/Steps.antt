@@ -5,9 +5,10 @@ use mathlib.Core.Bool.{Bool, true, false, not, cond}
 use mathlib.Core.List.{List, [], _∷_, _++_}
 use lib.Dec.{eqb}
 use Rattle.text.specs.Fold.{runBytes}
-use Rattle.records.specs.Machine.{lineByte, namesByte}
+use Rattle.records.specs.Machine.{lineByte}
+use Rattle.record_names.specs.Machine.{namesByte}
 use Rattle.records.specs.declared.LineState.{LineState}
-use Rattle.records.specs.declared.NamesState.{NamesState}
+use Rattle.record_names.specs.declared.NamesState.{NamesState}
 use Rattle.record_lines.proofs.Runs.{begunBy, begun-stays, text-end, text-other}
 use Rattle.tally.specs.declared.TallyStage.{TallyStage}
 use Rattle.tally.specs.declared.TallyStage.the-variants.{Names, Values, Refused}

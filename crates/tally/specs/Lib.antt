@@ -1,3 +1,2 @@
-pub mod Counts
+pub mod Faults
 pub mod Machine
-pub mod Held

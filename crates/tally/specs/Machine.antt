@@ -5,7 +5,7 @@ use mathlib.Core.Bool.{Bool, true, false, cond}
 use mathlib.Core.List.{List}
 use lib.Dec.{eqb}
 use lib.IntN.{ℤ}
-use lib.ListN.{length, getD, set, replicate}
+use lib.ListN.{length, replicate}
 use lib.Seq.{slice}
 use Rattle.text.specs.Bytes.{Token}
 use Rattle.text.specs.Fold.{runBytes}
@@ -13,10 +13,12 @@ use Rattle.text.specs.Lines.{textByte}
 use Rattle.meaning.specs.Expression.{Stream}
 use Rattle.letters.specs.Described.{described}
 use Rattle.sheet.specs.Names.{nameIn}
-use Rattle.records.specs.Machine.{lineStart, lineByte, lineEnd, namesStart, namesByte, namesEnd}
+use Rattle.records.specs.Machine.{lineStart, lineByte, lineEnd}
+use Rattle.record_names.specs.Machine.{namesStart, namesByte, namesEnd}
 use Rattle.records.specs.declared.LineEnd.{LineEnd}
-use Rattle.records.specs.declared.NamesState.{NamesState}
+use Rattle.record_names.specs.declared.NamesState.{NamesState}
 use Rattle.record_lines.specs.Runs.{oneMore}
+use Rattle.held_lines.specs.Held.{raisedCount}
 use Rattle.tally.specs.declared.TallyStage.{TallyStage}
 use Rattle.tally.specs.declared.TallyStage.the-variants.{Names, Values, Refused}
 use Rattle.tally.specs.declared.Tally.{Tally}
@@ -51,10 +53,6 @@ abbrev pub isRefusedTally : TallyStage → Bool
 isRefusedTally (Names line) = false
 isRefusedTally (Values line total) = false
 isRefusedTally (Refused n) = true
-
--- One more line for a letter; a letter without a place is not counted.
-abbrev pub raisedCount : List ℕ → ℕ → List ℕ
-raisedCount counts letter = set counts letter (oneMore (getD counts letter 0))
 
 -- ---- the end of a line of values
 

@@ -1,19 +1,15 @@
-// Counts the value lines of a record by the letters that they are, chunk by chunk, and gives how many of them hold a value. What is kept between two
-// chunks is a struct of scalars and one count for each letter, so that a record of any length takes the same memory. Every public function takes any
-// tally and any slices.
-use basics::fewer;
+// Counts the value lines of a record by the letters that they are, chunk by chunk. What is kept between two chunks is a struct of scalars and one count for
+// each letter, so that a record of any length takes the same memory. Every public function takes any tally and any slices.
+use record_names::NamesState;
 use records::LineState;
-use records::NamesState;
 ghost use mathlib.Core.Path.{_≡_};
 ghost use mathlib.Core.Bool.{Bool};
 ghost use mathlib.Core.List.{List};
-ghost use Prim.Native.Nat.{ℕ, _+_, _^_, _≤_, _<_};
+ghost use Prim.Native.Nat.{ℕ, _<_};
 ghost use lib.IntN.{ℤ};
-ghost use lib.ListN.{length, getD, replicate};
+ghost use lib.ListN.{length, replicate};
 ghost use Rattle.text.specs.Fold.{runBytes};
-ghost use Rattle.letters.specs.Described.{described};
-ghost use Rattle.tally.specs.Machine.{countedSheet, counting, tallyAt, startTally, raisedCount, refusedCounts, countByte, lastCounted, FinishesTally, ReadsPart};
-ghost use Rattle.tally.specs.Held.{cutLines, blockLines, blocksLines, heldLines};
+ghost use Rattle.tally.specs.Machine.{countedSheet, counting, tallyAt, startTally, refusedCounts, countByte, lastCounted, FinishesTally, ReadsPart};
 
 // What is read next, with what is kept of it: the line of names; a line of values, behind so many; or nothing, behind a refusal.
 pub enum TallyStage {
@@ -46,7 +42,7 @@ pub fn begin() -> Tally
 {
     Tally {
         begun: false,
-        stage: TallyStage::Names(records::names_start()),
+        stage: TallyStage::Names(record_names::names_start()),
     }
 }
 
@@ -63,15 +59,6 @@ fn part_to(begun: bool, stage: TallyStage, next: usize) -> Part
     }
 }
 
-// One more line for a letter; a letter without a place is not counted.
-fn raise(counts: &mut [u64], letter: usize)
-    ensures { λ r. ⌜ now (counts .exit) ≡ raisedCount (now (counts .entry)) letter ⌝ }
-{
-    if letter < counts.len() {
-        counts[letter] = record_lines::one_more(counts[letter]);
-    }
-}
-
 // Reads the line of names to its end, or to that of the chunk.
 fn count_names(line: NamesState, chunk: &[u8], from: usize, names: &[u8], lengths: &[u8]) -> Part
     requires { ⌜ from < length (now chunk) ⌝ }
@@ -83,7 +70,7 @@ fn count_names(line: NamesState, chunk: &[u8], from: usize, names: &[u8], length
     if chunk.len() <= at {
         return part_to(true, TallyStage::Names(read), at);
     }
-    if records::names_end(read, names, lengths) {
+    if record_names::names_end(read, names, lengths) {
         return part_to(false, TallyStage::Values(records::line_start(), 0), at + 1);
     }
     part_to(false, TallyStage::Refused(13), at + 1)
@@ -119,7 +106,7 @@ fn count_values(
             if refusal != 0 {
                 return part_to(false, TallyStage::Refused(refusal), at);
             }
-            raise(counts, end.letter as usize);
+            held_lines::raise(counts, end.letter as usize);
             within = false;
             line = records::line_start();
             total = record_lines::one_more(total);
@@ -237,79 +224,4 @@ pub fn finish(
         },
         TallyStage::Refused(refusal) => refused(refusal, counts),
     }
-}
-
-// ---- how many lines hold a value
-
-// The sum; the highest number of the machine stays, so that no sum wraps.
-fn add_lines(a: u64, b: u64) -> u64
-    ensures { λ r. ⌜ r ≡ cutLines (a + b) ⌝ }
-{
-    if b <= 18446744073709551615 - a {
-        return a + b;
-    }
-    18446744073709551615
-}
-
-// The count at a place; 0 beyond the list.
-fn count_at(counts: &[u64], at: usize) -> u64
-    ensures { λ r. ⌜ r ≡ getD (now (counts .entry)) at 0 ⌝ }
-{
-    if at < counts.len() {
-        return counts[at];
-    }
-    0
-}
-
-// The lines of so many letters from one on.
-fn sum_block(counts: &[u64], from: usize, size: usize) -> u64
-    requires { ⌜ from + size < 2 ^ 64 ⌝ }
-    ensures { λ r. ⌜ r ≡ cutLines (blockLines (now (counts .entry)) from size) ⌝ }
-{
-    let mut sum: u64 = 0;
-    let mut i = 0;
-    while i < size {
-        sum = add_lines(sum, count_at(counts, from + i));
-        i += 1;
-    }
-    sum
-}
-
-// The lines of the letters with this digit: a block of letters for each choice of values of the streams before.
-fn sum_blocks(counts: &[u64], before: usize, size: usize, behind: usize, digit: u32) -> u64
-    requires { ⌜ (before ≤ 1025) × (size ≤ 1025) × (behind ≤ 1025) ⌝ }
-    ensures { λ r. ⌜ r ≡ cutLines (blocksLines (now (counts .entry)) before size behind digit) ⌝ }
-{
-    let mut sum: u64 = 0;
-    let mut i = 0;
-    while i < before {
-        let from = (i * size + digit as usize) * behind;
-        sum = add_lines(sum, sum_block(counts, from, behind));
-        i += 1;
-    }
-    sum
-}
-
-// How many lines hold the value of a stream that lies so far above its lowest, from the lines of each letter; none where there is no such stream, or where
-// the value is not among the first 1,025 of its range, of which a sheet has at most 1,024.
-pub fn held_lines(counts: &[u64], lows: &[i64], highs: &[i64], stream: usize, digit: u32) -> u64
-    ensures { λ r. ⌜ r ≡ heldLines (now (counts .entry)) (described (now (lows .entry)) (now (highs .entry))) stream digit ⌝ }
-{
-    if fewer(lows.len(), highs.len()) <= stream {
-        return 0;
-    }
-    let next = stream + 1;
-    let size = letters::letter_count(&lows[stream..next], &highs[stream..next]);
-    if size <= digit {
-        return 0;
-    }
-    let before = letters::letter_count(&lows[..stream], &highs[..stream]);
-    let behind = letters::letter_count(&lows[next..], &highs[next..]);
-    sum_blocks(
-        counts,
-        before as usize,
-        size as usize,
-        behind as usize,
-        digit,
-    )
 }

@@ -24,13 +24,15 @@ use Rattle.meaning.proofs.Value.{compares-equal}
 use Rattle.sheet.specs.Form.{namesOf}
 use Rattle.nodes.proofs.Record.{letter-length}
 use Rattle.print.specs.Lines.{linesFrom}
-use Rattle.records.specs.Line.{ValueLine, malformed, outside, letter, lineValues, valueLine, isNamesLine, IsLetterLine, AreLetters}
+use Rattle.records.specs.Line.{ValueLine, malformed, outside, letter, lineValues, valueLine, IsLetterLine, AreLetters}
+use Rattle.record_names.specs.Line.{isNamesLine}
 use Rattle.records.proofs.Letters.{letter-line}
-use Rattle.tally.specs.Counts.{howMany, holdsValue, linesHolding, lineFault, firstOf, valuesFault, recordFault}
-use Rattle.tally.specs.Held.{sumBelow}
-use Rattle.tally.proofs.Sums.{hit, sum-same, sum-add, sum-none, sum-one}
-use Rattle.tally.proofs.Digits.{value-digit}
-use Rattle.tally.proofs.Held.{how-many-more}
+use Rattle.held_lines.specs.Counts.{howMany, holdsValue, linesHolding}
+use Rattle.tally.specs.Faults.{lineFault, firstOf, valuesFault, recordFault}
+use Rattle.held_lines.specs.Held.{sumBelow}
+use Rattle.held_lines.proofs.Sums.{hit, sum-same, sum-add, sum-none, sum-one}
+use Rattle.held_lines.proofs.Digits.{value-digit}
+use Rattle.held_lines.proofs.Held.{how-many-more}
 use Rattle.histogram_text.specs.Histogram.{histogramHeading, countLine, totalLine, rangeValue, histogramText, textOr, countedText}
 use Rattle.theorems.specs.Histograms.{LineHolds, summedCounts, FirstFaultyLine, BadRecord, noNames, otherNames, faultyLine, GoodRecord}
 use Rattle.theorems.proofs.KindsApart.{names-same, line-same}

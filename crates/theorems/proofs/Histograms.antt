@@ -24,13 +24,15 @@ use Rattle.sheet.specs.Accepted.{Accepted}
 use Rattle.outcome.proofs.AcceptedCompile.{refusal-in-range}
 use Rattle.letters.proofs.Streams.{unnamed}
 use Rattle.print.specs.Text.{refusalLine}
-use Rattle.records.specs.Line.{ValueLine, malformed, outside, letter, valueLine, isNamesLine, AreLetters}
+use Rattle.records.specs.Line.{ValueLine, malformed, outside, letter, valueLine, AreLetters}
+use Rattle.record_names.specs.Line.{isNamesLine}
 use Rattle.record_lines.specs.Runs.{highestNumber}
 use Rattle.record_lines.proofs.Runs.{lines-few}
-use Rattle.tally.specs.Counts.{howMany, holdsValue, linesHolding, lineFault, valuesFault, recordFault}
+use Rattle.held_lines.specs.Counts.{howMany, holdsValue, linesHolding}
+use Rattle.tally.specs.Faults.{lineFault, valuesFault, recordFault}
 use Rattle.tally.specs.Machine.{Counting, counting, startTally, countsAnswer, refusedCounts, countByte, lastCounted}
-use Rattle.tally.specs.Held.{cutLines, heldLines}
-use Rattle.tally.proofs.Held.{how-many-few}
+use Rattle.held_lines.specs.Held.{cutLines, heldLines}
+use Rattle.held_lines.proofs.Held.{how-many-few}
 use Rattle.tally.proofs.Record.{stored, chunks-refused, chunks-counted, held-lines}
 use Rattle.histogram_text.specs.Histogram.{histogramHeading, rangeValue, histogramText, textOr, countedText}
 use Rattle.histogram_text.specs.Prints.{PrintsHistogram, refusedSheet, counted}

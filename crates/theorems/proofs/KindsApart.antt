@@ -19,7 +19,8 @@ use Rattle.meaning.proofs.StreamKinds.{kinds-length, kinds-letterCount, kinds-l
 use Rattle.sheet.specs.Form.{namesOf}
 use Rattle.letters.specs.Described.{ranged}
 use Rattle.letters.proofs.Streams.{unnamed}
-use Rattle.records.specs.Line.{ValueLine, malformed, outside, letter, valueLine, isNamesLine}
+use Rattle.records.specs.Line.{ValueLine, malformed, outside, letter, valueLine}
+use Rattle.record_names.specs.Line.{isNamesLine}
 use Rattle.records.proofs.Sheets.{valueLine-unnamed}
 use Rattle.print.specs.Text.{refusalLine}
 use Rattle.replaying.specs.Replay.{replayHeading, lineThen, entered, outcomeFrom, replayed, replayedLines}

@@ -19,7 +19,8 @@ use Rattle.automaton.specs.Stored.{entryAt}
 use Rattle.sheet.specs.Form.{namesOf}
 use Rattle.print.specs.Text.{refusalLine}
 use Rattle.records.proofs.Letters.{letter-line}
-use Rattle.records.specs.Line.{ValueLine, malformed, outside, letter, lineValues, valueLine, isNamesLine, IsLetterLine, AreLetters, lettersOf}
+use Rattle.records.specs.Line.{ValueLine, malformed, outside, letter, lineValues, valueLine, IsLetterLine, AreLetters, lettersOf}
+use Rattle.record_names.specs.Line.{isNamesLine}
 use Rattle.replaying.specs.Replay.{replayHeading, stateLine, LineOutcome, reaches, refuses, entered, lineThen, outcomeFrom, replayed, replayedLines}
 use Rattle.theorems.specs.Replaying.{stateLines, refusalText, statesThen, refusalThen, statesReached, refusalMet, PlaysThrough, ends, goes-on, Fault, fault13, fault14, fault12, FirstFault}
 

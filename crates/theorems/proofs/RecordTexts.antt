@@ -13,7 +13,7 @@ use Rattle.text.specs.Bytes.{Token, tokens, addToLines, lines}
 use Rattle.text.specs.Token.{allBytes}
 use Rattle.text.proofs.Bytes.{isOfLine, lines-end}
 use Rattle.record_lines.proofs.Runs.{some-line}
-use Rattle.records.specs.Line.{isPlain, sameTokens, isNamesLine}
+use Rattle.record_names.specs.Line.{isPlain, sameTokens, isNamesLine}
 use Rattle.theorems.specs.Replaying.{underNames, EndsWithLine}
 
 plain-of-line : (b : ℕ) → T (isPlain b) → T (isOfLine b)

@@ -31,7 +31,8 @@ use Rattle.step.specs.Step.{refusedStep, StepAnswer}
 use Rattle.step.specs.Followed.{Followed}
 use Rattle.print.specs.Text.{decimal, refusalLine}
 use Rattle.records.proofs.Letters.{letter-line}
-use Rattle.records.specs.Line.{lineValues, isNamesLine, recordOfLines, IsLetterLine, AreLetters, lettersOf}
+use Rattle.records.specs.Line.{lineValues, recordOfLines, IsLetterLine, AreLetters, lettersOf}
+use Rattle.record_names.specs.Line.{isNamesLine}
 use Rattle.replaying.specs.Replay.{replayHeading, replayed, replayedLines}
 use Rattle.lend.specs.Lend.{CompiledLent}
 use Rattle.opening.specs.Start.{startState}

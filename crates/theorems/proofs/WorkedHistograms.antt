@@ -17,8 +17,10 @@ use Rattle.sheet.specs.Reading.{refuses1, tooDeepFrom, refuses2, streamsFrom, c
 use Rattle.letters.specs.Described.{isLetter}
 use Rattle.print.specs.Text.{digitsWithin}
 use Rattle.print.specs.Lines.{linesFrom}
-use Rattle.records.specs.Line.{valueLine, isNamesLine}
-use Rattle.tally.specs.Counts.{howMany, valuesFault, recordFault}
+use Rattle.records.specs.Line.{valueLine}
+use Rattle.record_names.specs.Line.{isNamesLine}
+use Rattle.held_lines.specs.Counts.{howMany}
+use Rattle.tally.specs.Faults.{valuesFault, recordFault}
 use Rattle.histogram_text.specs.Histogram.{histogramText, countedText}
 use Rattle.histogram_text.specs.Prints.{PrintsHistogram, textFor}
 use Rattle.histogram_text.proofs.Prints.{prints-total}

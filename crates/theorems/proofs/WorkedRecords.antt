@@ -28,7 +28,8 @@ use Rattle.worked.specs.Rows.{WorkedSheet, workedSheets, Holds, compiles, refus
 use Rattle.worked.proofs.Rows.{rows-hold}
 use Rattle.letters.specs.Described.{isLetter}
 use Rattle.print.specs.Text.{digitsWithin}
-use Rattle.records.specs.Line.{valueLine, isNamesLine}
+use Rattle.records.specs.Line.{valueLine}
+use Rattle.record_names.specs.Line.{isNamesLine}
 use Rattle.replaying.specs.Replay.{replayed, replayedLines}
 use Rattle.theorems.specs.WorkedRecords.{RecordPrints, workedRecords}
 use Rattle.theorems.proofs.Demands.{table-stored}

@@ -11,9 +11,11 @@ use Rattle.meaning.specs.Expression.{Stream, rangeOf}
 use Rattle.meaning.specs.Letter.{size}
 use Rattle.sheet.specs.Form.{namesOf}
 use Rattle.print.specs.Lines.{linesFrom}
-use Rattle.records.specs.Line.{lineValues, valueLine, isNamesLine, AreLetters}
-use Rattle.tally.specs.Counts.{linesHolding, lineFault}
-use Rattle.tally.specs.Held.{sumBelow}
+use Rattle.records.specs.Line.{lineValues, valueLine, AreLetters}
+use Rattle.record_names.specs.Line.{isNamesLine}
+use Rattle.held_lines.specs.Counts.{linesHolding}
+use Rattle.tally.specs.Faults.{lineFault}
+use Rattle.held_lines.specs.Held.{sumBelow}
 use Rattle.histogram_text.specs.Histogram.{histogramHeading, countLine, totalLine, rangeValue}
 
 -- "value lines hold it": the value line with this number, counted from 0, has the value for the stream at a place of the sheet.

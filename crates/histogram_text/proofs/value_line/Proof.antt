@@ -7,7 +7,7 @@ use lib.ListN.{length, replicate}
 use lib.Seq.{length-take-le}
 use borrow.Author.Tests.{not-true, not-false}
 use Rattle.print.proofs.Append.{appends-nothing, appends-same}
-use Rattle.tally.proofs.Streams.{one-stream}
+use Rattle.held_lines.proofs.Streams.{one-stream}
 use Rattle.histogram_text.proofs.Output.{no-value, value-there}
 use borrow.Author.Needs.{needs}
 use Rattle.histogram_text.proofs.value_line.Statement.{statement}

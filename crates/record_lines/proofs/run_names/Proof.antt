@@ -3,7 +3,7 @@ use Prim.Native.Nat.{_-_}
 use native.Mathlib.Omega.{arith}
 use lib.ListN.{length}
 use Rattle.sheet.specs.Names.{nameIn}
-use Rattle.records.specs.Machine.{namesByte}
+use Rattle.record_names.specs.Machine.{namesByte}
 use Rattle.record_lines.proofs.Runs.{LineSoFar, so-far-none, so-far-more, so-far-ends}
 use Rattle.record_lines.proofs.run_names.Statement.{statement}
 use Rattle.record_lines.proofs.run_names.Tie as tie

@@ -3,7 +3,8 @@ use mathlib.Core.Path.{sym, ap, _∙_}
 use mathlib.Core.Bool.{not, _||_, or-false}
 use Rattle.letters.specs.Described.{described}
 use Rattle.records.specs.Machine.{valueByte, valueEnd, valueReading, lineFrom, lineByte}
-use Rattle.records.proofs.Steps.{digit-plain, digit-inside, at-inside, at-bracket, at-between}
+use Rattle.records.proofs.Steps.{digit-plain, digit-inside}
+use Rattle.record_names.proofs.Steps.{at-inside, at-bracket, at-between}
 use borrow.Author.Needs.{needs}
 use Rattle.records.proofs.line_byte.Statement.{statement}
 use Rattle.records.proofs.line_byte.Tie as tie

@@ -4,7 +4,8 @@ use mathlib.Core.Bool.{_&&_}
 use mir.Syntax.{w64}
 use mir.ValLaws.{toZ-ofZ}
 use Rattle.scan.specs.Integer.{withSign}
-use Rattle.records.specs.Machine.{nextCount, endedFrom}
+use Rattle.record_names.specs.Machine.{nextCount}
+use Rattle.records.specs.Machine.{endedFrom}
 use Rattle.records.proofs.Steps.{number-at}
 use borrow.Author.Needs.{needs}
 use Rattle.records.proofs.value_end.Statement.{statement}

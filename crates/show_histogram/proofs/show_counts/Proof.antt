@@ -11,7 +11,7 @@ use Rattle.output.specs.Output.{Hands}
 use Rattle.tally.specs.declared.LineCounts.{LineCounts}
 use Rattle.tally.specs.Machine.{CountedSheet, countedSheet}
 use Rattle.histogram_text.specs.Output.{HistogramPrintout, histogramOutput}
-use Rattle.show_histogram.specs.Shows.{CountsFile}
+use Rattle.record_file.specs.Reads.{CountsFile}
 use borrow.Author.Needs.{needs}
 use Rattle.show_histogram.proofs.show_counts.Statement.{statement}
 use Rattle.show_histogram.proofs.show_counts.Tie as tie

@@ -7,7 +7,8 @@ use lib.ListN.{length}
 use borrow.Author.Needs.{needs}
 use Rattle.tally.specs.Machine.{countedSheet, counting, tallyAt}
 use Rattle.tally.specs.declared.TallyStage.the-variants.{Values}
-use Rattle.tally.proofs.Parts.{ReadSoFar, nothing-read, read-part, values-on, values-counted, values-refused, raised-length}
+use Rattle.tally.proofs.Parts.{ReadSoFar, nothing-read, read-part, values-on, values-counted, values-refused}
+use Rattle.held_lines.proofs.Raised.{raised-length}
 use Rattle.tally.proofs.count_values.Statement.{statement}
 use Rattle.tally.proofs.count_values.Tie as tie
 
