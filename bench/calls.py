@@ -24,6 +24,11 @@ class Compiled(ctypes.Structure):
                 ("letters", ctypes.c_uint32), ("streams", Streams)]
 
 
+class Joined(ctypes.Structure):
+    _fields_ = [("refusal", ctypes.c_uint32), ("states", ctypes.c_uint32), ("pairs", ctypes.c_uint32),
+                ("letters", ctypes.c_uint32), ("streams", Streams)]
+
+
 def library(name, parts):
     """The shared library of this name, made of sources or of an archive. CC names the compiler."""
     path = ROOT / "target" / "bench" / name
@@ -55,10 +60,10 @@ def table(kind, count):
     return lent
 
 
-def lent_tables(rows, letters, smallest):
+def lent_tables(rows, letters, smallest, widths=WIDTHS):
     """The nine tables of a compile, of which the one with the number `smallest` holds exactly the rows and the others a few more."""
     tables = []
-    for number, (kind, width) in enumerate(WIDTHS):
+    for number, (kind, width) in enumerate(widths):
         width = letters if width is None else width
         # a table that is not the smallest holds a part of a row too
         tables.append(table(kind, rows * width if number == smallest else (rows + 1 + number) * width + width - 1))

@@ -27,6 +27,8 @@ from generate import bound_sheets, division_sheets, random_sheets
 from grammar import all_subexpressions, expression_text
 from histogram_check import difference as histogram_difference
 from intervals import interval
+from join_check import (sheets_difference, tables_difference,
+                        three_difference, worked_fault as joined_fault)
 from kinds_check import by_writing_again, drawn_difference, short_sheets
 from lasso import (Lasso, at, course, from_times, is_solution,
                    solves_normal_form, streams_of)
@@ -55,6 +57,9 @@ KINDS_SHEETS = 60
 GAME_TABLES = 1000
 GAME_SHEETS = 300
 STRATEGIES = 300
+JOINED_TABLES = 1000
+JOINED_SHEETS = 200
+JOINED_THREE = 150
 CARRIED_TABLES = 1500
 CARRIED_SHEETS = 150
 HANDED_ON = 200
@@ -569,6 +574,20 @@ def check_carries(rng, counts):
          "sheets carried over at once and by one between")))
 
 
+def check_joins(rng, counts):
+    """Joins of tables and of sheets, by pairs in the order in which they are
+    met, by steps and words, and by a single sheet with both sheets' rules."""
+    fault = joined_fault()
+    if fault:
+        raise Difference("join", *fault)
+    drawn_differences("join", rng, counts, (
+        (JOINED_TABLES, tables_difference,
+         "tables joined by pairs and by steps, records and words"),
+        (JOINED_SHEETS, sheets_difference,
+         "sheets joined by pairs and as a single sheet"),
+        (JOINED_THREE, three_difference, "three sheets joined either way")))
+
+
 def main(seed, count):
     counts = Counter()
     rng = random.Random(seed)
@@ -582,6 +601,7 @@ def main(seed, count):
         check_replays(rng, counts)
         check_courses(rng, counts)
         check_games(random.Random("game %d" % seed), counts)
+        check_joins(random.Random("join %d" % seed), counts)
         check_carries(random.Random("carry %d" % seed), counts)
         check_histograms(random.Random("histogram %d" % seed), counts)
         sheets = [(wanted.name, wanted.sheet) for wanted in EXAMPLES

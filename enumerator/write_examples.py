@@ -1,5 +1,5 @@
-"""Writes what `sluice` prints for each example sheet, and what `migrate` prints
-for two of them.
+"""Writes what `sluice` prints for each example sheet, and what `join` and
+`migrate` print for two of them.
 
     python3 enumerator/write_examples.py SHEETS FOLDER
 
@@ -9,11 +9,13 @@ For SHEETS/NAME.sheet the file is FOLDER/NAME.table.
 import os
 import sys
 
+from join import join_sheets
 from migrate import migrate
 from sluice import sluice
 
 # The file that is written, what prints it, and the names of the two sheets.
-PAIRS = (("timer.migrated", migrate, "timer", "timer-two"),)
+PAIRS = (("weirs.joined", join_sheets, "upper-weir", "lower-weir"),
+         ("timer.migrated", migrate, "timer", "timer-two"))
 
 
 def content(sheets, name):

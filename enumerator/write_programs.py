@@ -185,6 +185,46 @@ def given_bytes(given):
     return stream_bytes(given["streams"]) + entries + bytes(given["finals"])
 
 
+def join_lengths(rows, letters, fewest):
+    """The lengths of the nine tables that are lent for a join, as `lengths` has them, with one number a row in the keys too."""
+    own = lengths(rows, letters, fewest)
+    own[2] //= KEY_NUMBERS
+    return own
+
+
+def join_case(vector, call, fewest):
+    """The bytes of one join and the line that it must print; none where the tables are too large for the program.
+
+    A heading of nine numbers of four bytes, low first: how many bytes follow; and for either given table its entries, its final bytes, its letters and the streams of its
+    description (`given_heading`). Then the lengths of entries, finals, keys, live, class, next, heads, links and shared, nine numbers of four bytes; and either table, the
+    left one first (`given_bytes`): eight places of eight bytes for the names, their eight lengths, the eight kinds, the lowest and the highest values, eight numbers of four
+    bytes each that are 2^31 more, then the entries, two bytes each, low first, and the final bytes. The line has refusal, states, pairs and letters; the used entries; the
+    used final bytes; for each joined stream its name, lowest and highest value and kind, 0 for set and 1 for read; and how many numbers are not 0 beyond the used rows, in
+    work tables, and in the description of the joined streams behind a name and behind the streams."""
+    rows, refusal = call
+    own = join_lengths(rows, vector.get("letters", 0), fewest)
+    given = [vector["left"], vector["right"]]
+    behind = b"".join(map(word, own)) + b"".join(map(given_bytes, given))
+    if rows > ROW_ROOM or own[0] > ENTRY_ROOM or len(behind) > LARGEST_INPUT:
+        return None
+    heading = [len(behind)] + [number for table in given for number in given_heading(table)]
+    parts = [[refusal, 0, 0, 0], [], [], []]
+    if refusal == 0:
+        entries = [entry for row in vector["entries"] for entry in row]
+        streams = [field for *stream, kind in vector["streams"] for field in (*stream, STREAM_KIND_NUMBERS[kind])]
+        parts = [[0, vector["states"], vector["pairs"], vector["letters"]], entries, vector["finals"], streams]
+    line = ": ".join("".join("%s " % number for number in part) for part in parts)
+    return b"".join(map(word, heading)) + behind, line + ": 0\n"
+
+
+def join_program(vectors):
+    """Every call that the program has room for and whose table is stored, in order; each lent table in turn holds the fewest rows."""
+    calls = [(vector, call) for vector in vectors for call in vector["calls"] if type(vector.get("entries")) is not str]
+    cases = [join_case(*call, place % 9) for place, call in enumerate(calls)]
+    cases = [case for case in cases if case]
+    return b"".join(case[0] for case in cases), "".join(case[1] for case in cases).encode()
+
+
 def sheets_case(texts):
     """The bytes of one case of two sheets: how many bytes follow, the length of the first sheet, and both texts."""
     return word(sum(map(len, texts))) + word(len(texts[0])) + b"".join(texts)
@@ -377,6 +417,10 @@ def main(vectors, crates):
     settled = load(vectors, "strategy.jsonl")
     write_files(crates, "strategy", strategy_program(settled))
     write(crates, "strategy_vectors", strategy_vectors_program(settled))
+    write(crates, "join_vectors", join_program(load(vectors, "join.jsonl")))
+    joined = load(vectors, "join_sheets.jsonl")
+    write_files(crates, "join", sheets_files(joined[0], ("first", "second")))
+    write(crates, "join_sheets_vectors", sheets_program(joined, ("first", "second")))
     write(crates, "carry_vectors", carry_program(load(vectors, "carry.jsonl")))
     migrated = load(vectors, "migrate.jsonl")
     write_files(crates, "migrate", sheets_files(migrated[0], ("old", "new")))

@@ -26,6 +26,8 @@ from grammar import constraint_text
 from histogram import histogram
 from histogram_cases import histogram_cases
 from intervals import deepest_back, deepest_reach, firsts, untils
+from join import analyse_join, join_analysed, join_sheets
+from join_cases import join_cases, join_sheets_cases
 from limits import SITUATIONS, STEP_REFUSED
 from migrate import migrate
 from normal_form import entry_texts, normal_form, normal_form_of
@@ -60,10 +62,12 @@ COURSES = (140, 80)
 COURSE_SHEETS = (200, 24)
 GAME_SHEETS = 60
 # Drawn pairs of tables, and of sheets whose tables are given.
+JOINS = (100, 30)
+JOINED_SHEETS = 24
 CARRIES = (100, 30)
 MIGRATED_SHEETS = 24
 # Larger tables have a digest in place of their entries.
-GAME_ENTRIES = 2000
+STORED_ENTRIES = 2000
 # Drawn sheets with larger tables are left out, to keep the files short.
 RANDOM_ENTRIES = 600
 
@@ -193,16 +197,21 @@ def shortest_vector(sheet, start):
             "printed": shortest(sheet, start).decode()}
 
 
+def stored_entries(entries):
+    """The entries, or the digest of their bytes where they are many."""
+    if len(entries) * len(entries[0]) <= STORED_ENTRIES:
+        return entries
+    return hashlib.sha256(table_bytes(entries)).hexdigest()
+
+
 def played_table(analysis):
     """The table of the compile, also where the river can prevent a solution
     from state 0, and for each state + if it keeps a row of the play table."""
     entries = analysis.table.entries
     finals = [int(final) for final in analysis.table.finals]
     play = play_table(entries, finals, letter_choices(analysis.sheet))
-    digest = hashlib.sha256(table_bytes(entries)).hexdigest()
-    is_large = len(entries) * len(entries[0]) > GAME_ENTRIES
     return {"states": len(entries), "situations": analysis.situations,
-            "entries": digest if is_large else entries, "finals": finals,
+            "entries": stored_entries(entries), "finals": finals,
             "keeps": "".join("+" if kept else "-" for kept in kept_rows(play))}
 
 
@@ -249,6 +258,32 @@ def migrate_vector(old, new):
             "printed": migrate(old, new).decode()}
 
 
+def join_vector(case):
+    """Two given tables with their calls: the rows and the refusal; and what the
+    tables come to in enough room."""
+    analysis = analyse_join(case.left, case.right, SITUATIONS)
+    answer = join_analysed(analysis, SITUATIONS)
+    vector = {"name": case.name, "left": given_fields(case.left),
+              "right": given_fields(case.right),
+              "calls": [(rows, join_analysed(analysis, rows).refusal)
+                        for rows in case.rooms]}
+    if not analysis.refusal:
+        vector.update({"letters": analysis.letters,
+                       "streams": analysis.streams})
+    if analysis.pairs is not None:
+        vector["pairs"] = analysis.pairs
+    if not answer.refusal:
+        vector.update({"states": answer.states, "finals": answer.finals,
+                       "entries": stored_entries(answer.entries)})
+    return vector
+
+
+def join_sheets_vector(first, second):
+    return {"first": first.decode("latin-1"),
+            "second": second.decode("latin-1"),
+            "printed": join_sheets(first, second).decode()}
+
+
 def write_lines(directory, name, vectors):
     lines = [json.dumps(vector, sort_keys=True) for vector in vectors]
     (directory / name).write_text("".join(line + "\n" for line in lines))
@@ -279,6 +314,9 @@ def main(directory):
                for case in shortest_cases(SEED, *COURSE_SHEETS)]
     games = [game_vector(case) for case in game_cases(SEED, GAME_SHEETS)]
     settled = [strategy_vector(sheet) for sheet in strategy_cases()]
+    joins = [join_vector(case) for case in join_cases(SEED, *JOINS)]
+    joined = [join_sheets_vector(*case)
+              for case in join_sheets_cases(SEED, JOINED_SHEETS)]
     carries = [carry_vector(case) for case in carry_cases(SEED, *CARRIES)]
     migrated = [migrate_vector(*case)
                 for case in migrate_cases(SEED, MIGRATED_SHEETS)]
@@ -288,7 +326,8 @@ def main(directory):
                           ("normal", normals), ("step", steps),
                           ("replay", replays), ("course", courses),
                           ("shortest", printed), ("game", games),
-                          ("strategy", settled), ("carry", carries),
+                          ("strategy", settled), ("join", joins),
+                          ("join_sheets", joined), ("carry", carries),
                           ("migrate", migrated),
                           ("histogram", histograms)):
         write_lines(directory, name + ".jsonl", vectors)
@@ -303,6 +342,9 @@ def main(directory):
     print_counts("compiles with a play table", (
         refusal for vector in games for _, _, refusal in vector["calls"]))
     print("play tables of sheets: %d" % len(settled))
+    print_counts("joins", (refusal for vector in joins
+                           for _, refusal in vector["calls"]))
+    print("joins of sheets: %d" % len(joined))
     print_counts("carries", (refusal for vector in carries
                              for _, refusal in vector["calls"]))
     print("sheets carried over: %d" % len(migrated))

@@ -2,6 +2,7 @@
 #include "carry.h"
 #include "compile.h"
 #include "course.h"
+#include "join.h"
 #include "normal_form.h"
 #include "step.h"
 #include "strategy.h"
@@ -18,6 +19,7 @@ _Static_assert(offsetof(struct streams, names) == 8 && offsetof(struct streams, 
 _Static_assert(offsetof(struct streams, highs) == 144 && offsetof(struct streams, kinds) == 208, "as in bench/compile/check.py");
 _Static_assert(sizeof(struct compile_answer) == 4 * 4 + sizeof(struct streams), "four numbers of four bytes, and the streams");
 _Static_assert(sizeof(struct course_answer) == 8, "two numbers of four bytes");
+_Static_assert(sizeof(struct join_answer) == 4 * 4 + sizeof(struct streams), "four numbers of four bytes, and the streams");
 _Static_assert(sizeof(struct normal_form_answer) == 12, "three numbers of four bytes");
 _Static_assert(sizeof(struct normal_form_entry) == 12 * 2 + 2 * 8, "twelve numbers of two bytes and two of eight, with no bytes between them");
 _Static_assert(offsetof(struct normal_form_entry, left) == 8 && offsetof(struct normal_form_entry, right) == 16 && offsetof(struct normal_form_entry, low) == 24, "as in tests/normal/compare.py");

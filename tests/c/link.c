@@ -1,14 +1,22 @@
 /* A program that calls the function of one archive and needs no other library. Compiled as C and as C++; CALL is 1 for the step, 2 for the compile,
- * 3 for the normal form, 4 for the compile with a play table, 5 for the course and 6 for going on in a new table. */
+ * 3 for the normal form, 4 for the compile with a play table, 5 for the course, 6 for going on in a new table and 7 for the join. */
 #include "carry.h"
 #include "compile.h"
 #include "course.h"
+#include "join.h"
 #include "normal_form.h"
 #include "step.h"
 #include "strategy.h"
 
 #if CALL < 5
 static const uint8_t sheet[] = {'x', '\n', '0', '\n', '1', '\n', 'r', 'e', 'a', 'd', '\n', 'x', ' ', '=', '=', ' ', '1'};
+#elif CALL > 5
+static struct streams one_stream(uint8_t name)
+{
+    struct streams streams = {1, {0}, {1}, {0}, {1}, {STREAM_READ}};
+    streams.names[0] = name;
+    return streams;
+}
 #endif
 
 #if CALL == 1
@@ -97,14 +105,7 @@ static int called(void)
         && leads(two(STREAM_READ, STREAM_READ), 1, 2) && refuses(odd, 12, 3, 11) && refuses(wide, 12, 3, 11) && refuses(turned, 12, 3, 11)
         && refuses(set, 11, 3, 10) && refuses(set, 12, 1, 10);
 }
-#else
-static struct streams one_stream(uint8_t name)
-{
-    struct streams streams = {1, {0}, {1}, {0}, {1}, {STREAM_READ}};
-    streams.names[0] = name;
-    return streams;
-}
-
+#elif CALL == 6
 /* from the table of `1 until x` to that of the stream without rules, and back, which no state has; and to another stream */
 static int called(void)
 {
@@ -119,6 +120,63 @@ static int called(void)
     return carried == 0 && filled && itself == 0 && same && carry_c(any, 2, any_finals, 1, 2, x, until, 4, until_finals, 2, 2, x, list, 4) == 18 && list[1] == 0
         && carry_c(until, 4, until_finals, 2, 2, x, any, 2, any_finals, 1, 2, y, list, 4) == 17
         && carry_c(until, 4, until_finals, 2, 2, x, any, 2, any_finals, 1, 2, x, list, 1) == 10;
+}
+#else
+enum { ROWS = 4, LETTERS = 4 };
+
+static uint16_t entries[ROWS * LETTERS];
+static uint8_t finals[ROWS];
+static uint32_t work[7][ROWS];
+
+/* the table of `1 until x` joined with the one row of another sheet, with so many rows lent */
+static struct join_answer joined(const uint16_t *row, uint32_t letters, struct streams streams, size_t rows)
+{
+    static const uint16_t until[] = {0, 1, 1, 1};
+    static const uint8_t until_finals[] = {0, 1}, row_finals[] = {1};
+    for (size_t i = 0; i < ROWS * LETTERS; i++)
+        entries[i] = 9;
+    for (size_t i = 0; i < ROWS; i++)
+        finals[i] = 9;
+    return join_c(until, 4, until_finals, 2, 2, one_stream('x'), row, letters, row_finals, 1, letters, streams, entries, rows * LETTERS, finals, rows,
+        work[0], rows, work[1], rows, work[2], rows, work[3], rows, work[4], rows, work[5], rows, work[6], rows);
+}
+
+/* with `x == 1`: one state is left of two pairs */
+static int joins(void)
+{
+    static const uint16_t one[] = {65535, 0};
+    struct join_answer answer = joined(one, 2, one_stream('x'), ROWS);
+    const struct streams *told = &answer.streams;
+    return answer.refusal == 0 && answer.states == 1 && answer.pairs == 2 && answer.letters == 2 && told->count == 1 && told->names[0] == 'x'
+        && told->lengths[0] == 1 && told->lows[0] == 0 && told->highs[0] == 1 && told->kinds[0] == STREAM_READ && entries[0] == 65535 && entries[1] == 0
+        && entries[2] == 0 && finals[0] == 1 && finals[1] == 0;
+}
+
+/* with `y == 1`: y counts fastest */
+static int joins_streams(void)
+{
+    static const uint16_t one[] = {65535, 0};
+    struct join_answer answer = joined(one, 2, one_stream('y'), ROWS);
+    const struct streams *told = &answer.streams;
+    return answer.refusal == 0 && answer.states == 2 && answer.pairs == 2 && answer.letters == 4 && told->count == 2 && told->names[0] == 'x'
+        && told->names[STREAMS_NAME] == 'y' && entries[0] == 65535 && entries[1] == 0 && entries[2] == 65535 && entries[3] == 1 && entries[4] == 65535
+        && entries[5] == 1 && entries[6] == 65535 && entries[7] == 1 && finals[0] == 0 && finals[1] == 1;
+}
+
+static int refuses(const uint16_t *row, uint32_t letters, struct streams streams, size_t rows, uint32_t refusal)
+{
+    struct join_answer answer = joined(row, letters, streams, rows);
+    return answer.refusal == refusal && answer.states == 0 && answer.pairs == 0 && answer.letters == 0 && answer.streams.count == 0 && entries[0] == 0
+        && finals[0] == 0;
+}
+
+static int called(void)
+{
+    static const uint16_t one[] = {65535, 0}, zero[] = {0, 65535}, any[] = {0, 0, 0};
+    struct streams x = one_stream('x'), wide = x;
+    wide.highs[0] = 2;
+    return joins() && joins_streams() && refuses(any, 3, x, ROWS, 11) && refuses(any, 3, wide, ROWS, 17) && refuses(one, 2, x, 1, 10)
+        && refuses(zero, 2, x, ROWS, 9);
 }
 #endif
 

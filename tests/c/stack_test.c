@@ -1,7 +1,7 @@
 /* The stack that a call takes. Each sheet is compiled, without and with a play table, and its normal form is made, twice: on a large stack, and in a thread
  * whose whole stack is the figure that the header states, with a page below it that cannot be touched. Both calls must give the same answer and the same tables,
- * and the first may use no more than the figure. The stack of two steps, of calls for a course and of calls for the states of a new table is measured too. It prints the most that was used, and ends
- * with status 1 at a difference.
+ * and the first may use no more than the figure. The stack of two steps, of calls for a course, of calls for the states of a new table and of joins is measured
+ * too. It prints the most that was used, and ends with status 1 at a difference.
  *
  *     stack_test all          prints what each of its sheets takes: bytes of the compile, of that with a play table and of the normal form, their
  *                             refusals, the sheet
@@ -19,6 +19,7 @@
 #include "carry.h"
 #include "compile.h"
 #include "course.h"
+#include "join.h"
 #include "normal_form.h"
 #include "step.h"
 #include "strategy.h"
@@ -139,6 +140,18 @@ static void call_carry(void)
     struct tables *t = &compiled;
     carry_refusal = carry_c(t->entries, ROWS * MOST_LETTERS, t->finals, ROWS, MOST_LETTERS, streams, t->entries, ROWS * MOST_LETTERS, t->finals, ROWS,
         MOST_LETTERS, streams, carried, ROWS);
+}
+
+/* the same table with itself */
+static struct join_answer join_answer;
+
+static void call_join(void)
+{
+    const struct tables *t = &compiled;
+    struct tables *joined = &compiled_again;
+    join_answer = join_c(t->entries, ROWS * MOST_LETTERS, t->finals, ROWS, MOST_LETTERS, streams, t->entries, ROWS * MOST_LETTERS, t->finals, ROWS,
+        MOST_LETTERS, streams, joined->entries, ROWS * MOST_LETTERS, joined->finals, ROWS, joined->keys, ROWS, joined->work[0], ROWS, joined->work[1], ROWS,
+        joined->work[2], ROWS, joined->work[3], ROWS, joined->work[4], ROWS, joined->work[5], ROWS);
 }
 
 /* ---- the sheets */
@@ -299,7 +312,7 @@ static const char *write_sheet(size_t number)
 
 /* ---- comparing */
 
-static uint8_t *large, *stated_compile, *stated_strategy, *stated_normal_form, *stated_course, *stated_carry, *stated_step;
+static uint8_t *large, *stated_compile, *stated_strategy, *stated_normal_form, *stated_course, *stated_carry, *stated_join, *stated_step;
 static size_t most_compile, most_strategy, most_normal_form;
 
 /* A call that fills the tables: on a large stack, and on one of the figure. */
@@ -417,6 +430,33 @@ static void check_carry(void)
     printf("stack: going on in a new table takes %zu bytes of %d\n", most, CARRY_STACK);
 }
 
+/* One call that gives a table and one that is refused, on the table of the courses; its last row leads to itself, so that there are solutions. */
+static void check_join(void)
+{
+    size_t most = 0, before_last = (ROWS - 2) * MOST_LETTERS;
+    make_chain();
+    for (size_t letter = 0; letter < MOST_LETTERS; letter++)
+        compiled.entries[(ROWS - 1) * MOST_LETTERS + letter] = ROWS - 1;
+    for (int refused = 0; refused < 2; refused++) {
+        streams.kinds[0] = refused ? 2 : STREAM_SET;
+        memset(&compiled_again, 0xff, sizeof compiled_again);
+        size_t bytes = used(large, LARGE, call_join);
+        struct join_answer answer = join_answer;
+        uint16_t entry = compiled_again.entries[before_last];
+        if (bytes > most)
+            most = bytes;
+        if (bytes > JOIN_STACK)
+            fail("a join takes more than the header states");
+        memset(&compiled_again, 0xff, sizeof compiled_again);
+        used(stated_join, JOIN_STACK, call_join);
+        if (answer.refusal != (refused ? 11 : 0) || answer.states != (refused ? 0 : ROWS) || answer.pairs != answer.states || entry != (refused ? 0 : ROWS - 1))
+            fail("a join is wrong");
+        if (memcmp(&answer, &join_answer, sizeof answer) || compiled_again.entries[before_last] != entry)
+            fail("a join differs on a smaller stack");
+    }
+    printf("stack: a join takes %zu bytes of %d\n", most, JOIN_STACK);
+}
+
 static void measure(const char *name)
 {
     size_t compile_bytes = used(large, LARGE, call_compile);
@@ -446,6 +486,7 @@ int main(int count, char **words)
     stated_normal_form = room(NORMAL_FORM_STACK);
     stated_course = room(COURSE_STACK);
     stated_carry = room(CARRY_STACK);
+    stated_join = room(JOIN_STACK);
     stated_step = room(PTHREAD_STACK_MIN);
     bool print = count == 2 && strcmp(words[1], "all") == 0;
     for (int i = 1; i < count && !print; i++)
@@ -469,6 +510,7 @@ int main(int count, char **words)
     check_steps();
     check_course();
     check_carry();
+    check_join();
     printf("stack: of %zu sheets, the compile takes at most %zu bytes of %d, the play table %zu of %d, the normal form %zu of %d\n", sheets, most_compile,
         COMPILE_STACK, most_strategy, STRATEGY_STACK, most_normal_form, NORMAL_FORM_STACK);
     return 0;

@@ -2,7 +2,7 @@
 
     python3 tests/launch/run.py
 
-Uses target/bin/sluice, which `rt check sluice` makes, and target/bin/replay, histogram, shortest, strategy and migrate where they are there. How a
+Uses target/bin/sluice, which `rt check sluice` makes, and target/bin/replay, histogram, shortest, strategy, join and migrate where they are there. How a
 program is built, what is passed on and how long it is kept is tested in a folder of its own, with stand-ins for `rt` and for the program.
 """
 
@@ -191,6 +191,25 @@ def migrate_cases(folder):
     expect("streams in another order", run([tool, old, new]), "refused 17\n", 1, "")
 
 
+def join_cases(folder):
+    tool = ROOT / "tools" / "join"
+    help_and_usage("join", 1, 3)
+    if not is_there("join"):
+        return
+    first, second, missing = folder / "upper.sheet", folder / "lower.sheet", folder / "none"
+    first.write_text("level up\n0 0\n1 1\nread set\nlevel -> up\n")
+    second.write_text("low level\n0 0\n1 1\nset read\nlow == level\n")
+    joined = "state final level up low next\n0 1 0 0 0 0\n0 1 0 1 0 0\n0 1 1 1 1 0\n"
+    expect("two sheets", run([tool, first, second]), joined, 0, "")
+    expect("no such first sheet", run([tool, missing, second]), "refused 3\n", 2, "cannot be read")
+    expect("no such second sheet", run([tool, first, missing]), "refused 3\n", 2, "cannot be read")
+    expect("a full device for a join", full_device([tool, first, second]), None, 2, "cannot be written")
+    second.write_text("low level\n0 0\n1 1\nlow == level\n")
+    expect("a gauge that is set in the other sheet", run([tool, first, second]), "refused 17\n", 1, "")
+    second.write_text(NO_SOLUTION)
+    expect("a second sheet without a solution", run([tool, first, second]), "refused 9\n", 1, "")
+
+
 def stand_in(path, text):
     path.write_text("#!/usr/bin/env bash\n" + text)
     path.chmod(0o755)
@@ -251,14 +270,14 @@ def stand_in_cases(folder):
 
 def build():
     """A program that is older than a source is built by its first call, which says so on standard error."""
-    for name, arguments in [("sluice", []), ("replay", ["", ""]), ("histogram", ["", ""]), ("shortest", [""]), ("strategy", [""]), ("migrate", ["", ""])]:
+    for name, arguments in [("sluice", []), ("replay", ["", ""]), ("histogram", ["", ""]), ("shortest", [""]), ("strategy", [""]), ("join", ["", ""]), ("migrate", ["", ""])]:
         if (ROOT / "target" / "bin" / name).exists():
             subprocess.run([str(ROOT / "tools" / name), *arguments], stdin=subprocess.DEVNULL, capture_output=True)
 
 
 def main():
     build()
-    for cases in [sluice_cases, replay_cases, histogram_cases, shortest_cases, strategy_cases, migrate_cases, stand_in_cases]:
+    for cases in [sluice_cases, replay_cases, histogram_cases, shortest_cases, strategy_cases, join_cases, migrate_cases, stand_in_cases]:
         with tempfile.TemporaryDirectory() as folder:
             cases(pathlib.Path(folder))
     print(f"{done} cases: help, usage, statuses, links, reads and writes that fail, the first call")

@@ -39,3 +39,5 @@ pub mod Worked
 pub mod Reachable
 pub mod ReachedRows
 pub mod ReachedOnce
+pub mod Join
+pub mod PairSearch

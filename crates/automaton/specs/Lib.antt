@@ -18,3 +18,5 @@ pub mod PlayTable
 pub mod Ranking
 pub mod Reachable
 pub mod ReachedRows
+pub mod Join
+pub mod PairSearch

@@ -1,82 +1,33 @@
--- Chains of keys: what a step along a chain keeps, and what a new row makes of the chains. From the laws of lists alone.
-use mathlib.Core.Path.{_≡_, sym, ap, _∙_, subst}
-use mathlib.Core.Logic.{_≢_}
+-- Chains of keys: what a step along a chain keeps, and what a new row makes of the chains. From the laws of chains (key_chains) and of lists.
+use mathlib.Core.Path.{_≡_, sym, ap, _∙_}
 use mathlib.Core.List.{List, _++_}
 use Prim.Native.Nat.{ℕ, _+_, _-_, _*_, _≤_, _<_}
-use native.Mathlib.Nat.{mod-lt, not-suc-le-zero}
+use native.Mathlib.Nat.{mod-lt}
 use native.Mathlib.Omega.{arith}
-use native.Mathlib.Decide.{ℕ-discrete}
 use lib.ListN.{length, getD, set, take, drop, length-drop, length-set, List·getD-append, replicate, length-replicate}
-use lib.Seq.{getD-set-same, getD-set-other, getD-take, getD-drop, length-take-le, ext-getD, paste, length-paste, getD-append-add, take-paste}
+use lib.Seq.{getD-take, getD-drop, length-take-le, ext-getD, paste, length-paste, getD-append-add, take-paste}
 use Rattle.basics.proofs.Clearing.{zeros}
 use Rattle.prepare.proofs.Parts.{part-size}
 use Rattle.sizes.specs.Room.{keySize}
-use Rattle.explore.specs.Chains.{rowAt, bucketOf, Chained, KeyTables, Inserts}
+use Rattle.key_chains.specs.Chains.{ChainLeft}
+use Rattle.key_chains.proofs.Chains.{chain-first, chain-next, chain-more, chain-none}
+use Rattle.explore.specs.Chains.{rowAt, bucketOf, KeyTables, Inserts}
 
 pub bucket-lt : (m : ℕ) (key : List ℕ) → 0 < m → bucketOf m key < m
 unfolding bucketOf
 bucket-lt m key h = mod-lt _ h
 
--- what is left of a search: every row that equals key is below j, and j's row is in key's bucket
-pub record Left (links keys : List ℕ) (n m : ℕ) (key : List ℕ) (j : ℕ) : Type 0 where
-  pub at-most : j ≤ n
-  pub bucket : 0 < j → bucketOf m (rowAt keys (j - 1)) ≡ bucketOf m key
-  pub all : (i : ℕ) → i < n → rowAt keys i ≡ key → i < j
+-- ---- a search along a chain
 
 pub left-first : {heads links keys : List ℕ} {n : ℕ} → KeyTables heads links keys n → (key : List ℕ)
-    → Left links keys n (length heads) key (getD heads (bucketOf (length heads) key) 0)
-left-first {heads} {links} {keys} {n} t key =
-    record {
-      at-most = t .chained .head-le _;
-      bucket = t .chained .head-in _;
-      all = λ i h e. rw (← e) (t .chained .head-all i h);
-    }
+    → ChainLeft (bucketOf (length heads)) (rowAt keys) n key (getD heads (bucketOf (length heads) key) 0)
+left-first {heads} {links} {keys} {n} t key = chain-first (bucketOf (length heads)) (rowAt keys) heads links n (t .chained) key
 
-pub left-next : {heads links keys : List ℕ} {n m : ℕ} {key : List ℕ} {j : ℕ} → KeyTables heads links keys n → m ≡ length heads → Left links keys n m key j → 0 < j
-    → (rowAt keys (j - 1) ≡ key → ⊥) → Left links keys n m key (getD links (j - 1) 0)
-left-next {heads} {links} {keys} {n} {m} {key} {j} t e l pos no-row =
-    let lt : j - 1 < n = omega (arith, l .at-most) in
-    record {
-      at-most = omega (arith, t .chained .link-le (j - 1) lt, l .at-most);
-      bucket = λ h. rw e (t .chained .link-in (j - 1) lt h ∙ rw e at (l .bucket pos));
-      all = λ i h q.
-          let other : i ≢ j - 1 = λ z. no-row (rw z at q) in
-          let below : i < j - 1 = omega (arith, l .all i h q) in
-          t .chained .link-all i (j - 1) below lt (rw (q, ← e) (sym (l .bucket pos)));
-    }
+pub left-next : {heads links keys : List ℕ} {n : ℕ} {key : List ℕ} {j : ℕ} → KeyTables heads links keys n → ChainLeft (bucketOf (length heads)) (rowAt keys) n key j → 0 < j
+    → (rowAt keys (j - 1) ≡ key → ⊥) → ChainLeft (bucketOf (length heads)) (rowAt keys) n key (getD links (j - 1) 0)
+left-next {heads} {links} {keys} {n} {key} t l pos no-row = chain-next (bucketOf (length heads)) (rowAt keys) heads links n (t .chained) key l pos no-row
 
--- the chains with row n in bucket k
-pub chain-more : (heads links : List ℕ) (b b′ : ℕ → ℕ) (n k : ℕ) → k < length heads → n < length links → b′ n ≡ k → ((i : ℕ) → i < n → b′ i ≡ b i)
-    → Chained heads links b n → Chained (set heads k (n + 1)) (set links n (getD heads k 0)) b′ (n + 1)
-chain-more heads links b b′ n k hk hn new old c =
-    record {
-      head-le = λ i. on-head (λ i x. x ≤ n + 1) (omega arith) (λ i q. omega (arith, c .head-le i)) i;
-      link-le = λ j h. on-link (λ j x. x ≤ j) (c .head-le k) (λ j q. c .link-le j q) j h;
-      head-in = λ i. on-head (λ i x. 0 < x → b′ (x - 1) ≡ i) (λ h. ap b′ (omega arith) ∙ new) (λ i q h. old _ (omega (arith, c .head-le i)) ∙ c .head-in i h) i;
-      link-in = λ j h. on-link (λ j x. 0 < x → b′ (x - 1) ≡ b′ j) (λ h. old _ (omega (arith, c .head-le k)) ∙ c .head-in k h ∙ sym new) (λ j q h. old _ (omega (arith, c .link-le j q)) ∙ c .link-in j q h ∙ sym (old j q)) j h;
-      head-all = λ i h. heads-all i h (ℕ-discrete i n);
-      link-all = λ i j h l e. on-link (λ j x. i < j → b′ i ≡ b′ j → i < x)
-          (λ h e. subst (λ (z : ℕ). i < getD heads z 0) (sym (old i h) ∙ e ∙ new) (c .head-all i h))
-          (λ j q h e. c .link-all i j h q (sym (old i (omega arith)) ∙ e ∙ old j q)) j l h e;
-    }
-  where
-    on-head : (P : ℕ → ℕ → Type 0) → P k (n + 1) → ((i : ℕ) → i ≢ k → P i (getD heads i 0)) → (i : ℕ) → P i (getD (set heads k (n + 1)) i 0)
-    on-head P here there i =
-        elim (ℕ-discrete i k) [
-          | yes q ↦ rw (q, getD-set-same heads k (n + 1) 0 hk) here
-          | no q ↦ rw (getD-set-other heads k i (n + 1) 0 q) (there i q)
-        ]
-
-    on-link : (P : ℕ → ℕ → Type 0) → P n (getD heads k 0) → ((j : ℕ) → j < n → P j (getD links j 0)) → (j : ℕ) → j < n + 1 → P j (getD (set links n (getD heads k 0)) j 0)
-    on-link P here there j h =
-        elim (ℕ-discrete j n) [
-          | yes q ↦ rw (q, getD-set-same links n (getD heads k 0) 0 hn) here
-          | no q ↦ rw (getD-set-other links n j (getD heads k 0) 0 q) (there j (omega arith))
-        ]
-
-    heads-all : (i : ℕ) → i < n + 1 → Dec (i ≡ n) → i < getD (set heads k (n + 1)) (b′ i) 0
-    heads-all i h (yes q) = rw (q, new, getD-set-same heads k (n + 1) 0 hk) (omega arith)
-    heads-all i h (no q) = on-head (λ z x. b i ≡ z → i < x) (λ e. omega arith) (λ z r e. rw (← e) (c .head-all i (omega arith))) (b′ i) (sym (old i (omega arith)))
+-- ---- rows
 
 -- the part of the rows that is row i
 pub row-part : (keys : List ℕ) (i : ℕ) → take (i * keySize + keySize - i * keySize) (drop (i * keySize) keys) ≡ rowAt keys i
@@ -130,14 +81,7 @@ none-chained heads links keys some empty =
       buckets = some;
       links-room = omega arith;
       keys-room = omega arith;
-      chained = record {
-        head-le = λ k. omega (arith, empty k);
-        link-le = λ j h. omega arith;
-        head-in = λ k h. absurd (not-suc-le-zero (let z : getD heads k 0 < 0 = omega (arith, empty k) in z));
-        link-in = λ j h l. absurd (not-suc-le-zero h);
-        head-all = λ i h. omega arith;
-        link-all = λ i j h l e. omega arith;
-      };
+      chained = chain-none heads links (λ i. bucketOf (length heads) (rowAt keys i)) empty;
     }
 
 pub cleared-chained : (heads heads′ links keys : List ℕ) → 0 < length heads → heads′ ≡ replicate (length heads) 0 → KeyTables heads′ links keys 0

@@ -1,9 +1,9 @@
--- Keys in rows, found again by chains: `heads` has one more than the last row of each bucket, `links` one more than the row before it in the
--- same bucket, and 0 stands for none.
+-- Keys in rows, found again by chains of rows (key_chains, Chains).
 use Prim.Native.Nat.{ℕ, _+_, _-_, _*_, _%_, _≤_, _<_}
 use mathlib.Core.Path.{_≡_}
 use mathlib.Core.List.{List, [], _∷_}
-use lib.ListN.{getD, length, take, drop}
+use lib.ListN.{length, take, drop}
+use Rattle.key_chains.specs.Chains.{Chained}
 use Rattle.sizes.specs.Room.{keySize}
 
 abbrev pub rowAt : List ℕ → ℕ → List ℕ
@@ -19,15 +19,6 @@ hashFrom h (x ∷ xs) = hashFrom (mixOf h x) xs
 
 unfoldable pub bucketOf : ℕ → List ℕ → ℕ
 bucketOf m key = hashFrom 0 key % m
-
--- the chains of n rows, where b gives each row's bucket
-pub record Chained (heads links : List ℕ) (b : ℕ → ℕ) (n : ℕ) : Type 0 where
-  pub head-le : (k : ℕ) → getD heads k 0 ≤ n
-  pub link-le : (j : ℕ) → j < n → getD links j 0 ≤ j
-  pub head-in : (k : ℕ) → 0 < getD heads k 0 → b (getD heads k 0 - 1) ≡ k
-  pub link-in : (j : ℕ) → j < n → 0 < getD links j 0 → b (getD links j 0 - 1) ≡ b j
-  pub head-all : (i : ℕ) → i < n → i < getD heads (b i) 0
-  pub link-all : (i j : ℕ) → i < j → j < n → b i ≡ b j → i < getD links j 0
 
 -- the tables hold n keys, in chains
 pub record KeyTables (heads links keys : List ℕ) (n : ℕ) : Type 0 where

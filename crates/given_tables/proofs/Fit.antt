@@ -21,7 +21,7 @@ table-decided g = map-dec (λ x. record { well-formed = x .0; streams-fit = x .1
 
 -- ---- the same streams
 
-kind-discrete : Discrete StreamKind
+pub kind-discrete : Discrete StreamKind
 kind-discrete readKind readKind = yes refl
 kind-discrete readKind setKind = no read≢set
 kind-discrete setKind readKind = no (λ e. read≢set (sym e))

@@ -35,7 +35,7 @@ fn same_name(a: StreamsDescription, b: StreamsDescription, stream: usize) -> boo
     scan::same_bytes(&names[from..to], &other_names[from..other_to])
 }
 
-fn same_range(low: i64, high: i64, other_low: i64, other_high: i64) -> bool
+pub fn same_range(low: i64, high: i64, other_low: i64, other_high: i64) -> bool
     ensures { λ r. ⌜ Says r ((low ≡ «other_low») × (high ≡ «other_high»)) ⌝ }
 {
     if !arithmetic::same(low, other_low) {
@@ -45,7 +45,7 @@ fn same_range(low: i64, high: i64, other_low: i64, other_high: i64) -> bool
 }
 
 // A number that is not that of `read` is taken for `set`.
-fn same_kind(kind: u8, other: u8) -> bool
+pub fn same_kind(kind: u8, other: u8) -> bool
     ensures { λ r. ⌜ Says r (kindWith kind ≡ kindWith other) ⌝ }
 {
     if kind == READ_STREAM {

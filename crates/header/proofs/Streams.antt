@@ -38,7 +38,7 @@ use Rattle.header.specs.Streams.{padded, nameBytes, nameLengths, StreamT
 
 module _ {A : Type 0} (n : ℕ) (z : A) where
   -- One element more.
-  padded-set : (l : List A) (a : A) → length l < n → set (padded n z l) (length l) a ≡ padded n z (l ++ (a ∷ []))
+  pub padded-set : (l : List A) (a : A) → length l < n → set (padded n z l) (length l) a ≡ padded n z (l ++ (a ∷ []))
   padded-set l a h =
       let e = length-append l (a ∷ []) in
       let room : n - length l ≡ suc (n - length (l ++ (a ∷ []))) = omega arith in
@@ -47,7 +47,7 @@ module _ {A : Type 0} (n : ℕ) (z : A) where
       ∙ sym (append-snoc l a (replicate (n - length (l ++ (a ∷ []))) z))
 
   -- Several elements more.
-  padded-sets : (l vs : List A) → length l + length vs ≤ n → sets (padded n z l) (length l) vs ≡ padded n z (l ++ vs)
+  pub padded-sets : (l vs : List A) → length l + length vs ≤ n → sets (padded n z l) (length l) vs ≡ padded n z (l ++ vs)
   padded-sets l [] h = ap (padded n z) (sym (append-nil l))
   padded-sets l (v ∷ vs) h =
       let e = length-append l (v ∷ []) in
@@ -57,7 +57,7 @@ module _ {A : Type 0} (n : ℕ) (z : A) where
       ∙ ap (padded n z) (append-snoc l v vs)
 
   -- What is padded is padded further.
-  padded-further : (l vs : List A) (m : ℕ) → length vs ≤ m → length l + m ≤ n → padded n z (l ++ vs) ≡ padded n z (l ++ padded m z vs)
+  pub padded-further : (l vs : List A) (m : ℕ) → length vs ≤ m → length l + m ≤ n → padded n z (l ++ vs) ≡ padded n z (l ++ padded m z vs)
   padded-further l vs m h k =
       let r = replicate (m - length vs) z in
       let a = length-append l vs in

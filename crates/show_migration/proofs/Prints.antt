@@ -1,12 +1,12 @@
 -- What `migrate` prints is there for every two sheets, and is one; and what a call for the states gives between the used rows of two compiles, in a list of
 -- 256 numbers, is printed so. From the one outcome of a compile in the rows lent (lend), the one outcome of such a call (carry), and the streams that are
 -- told of a sheet (compiled_sheet).
-use Prim.Native.Nat.{ℕ, _-_, _≤_}
+use Prim.Native.Nat.{ℕ, _-_}
 use native.Mathlib.Omega.{arith}
 use mathlib.Core.Path.{_≡_, refl, sym, ap, subst, transport, _∙_}
 use mathlib.Core.List.{List}
 use lib.ListN.{length, take, replicate}
-use lib.Seq.{take-at, length-take-le}
+use lib.Seq.{take-at}
 use Rattle.meaning.specs.Expression.{Sheet}
 use Rattle.meaning.specs.Letter.{letterCount}
 use Rattle.sheet.proofs.Accepted.{accepted-facts}
@@ -14,33 +14,19 @@ use Rattle.automaton.proofs.WellFormed.{well-formed-entries}
 use Rattle.reader.specs.Stored.{storedSheet}
 use Rattle.outcome.specs.Compile.{CompileAnswer, Tables}
 use Rattle.compiled_sheet.specs.Told.{sheetStreams}
-use Rattle.compiled_sheet.proofs.Sheets.{stored-description, stored-streams-fit}
+use Rattle.compiled_sheet.proofs.Sheets.{stored-description}
 use Rattle.theorems.specs.UsedRows.{usedFinals}
-use Rattle.theorems.proofs.Courses.{compiled-well-formed}
 use Rattle.lend.specs.Lend.{CompiledLent, HasOutcome, isRefused, isCompiled}
-use Rattle.lend.proofs.Rows.{lent-rows}
-use Rattle.lend.proofs.Outcome.{compiled-unique, compiled-held, refused-unique, refused-not-compiled, lent-total}
+use Rattle.lend.proofs.Outcome.{compiled-unique, refused-unique, refused-not-compiled, lent-total}
 use Rattle.print.specs.Text.{refusalLine}
-use Rattle.given_tables.specs.Given.{IsFitTable, SameStreams}
+use Rattle.given_tables.specs.Given.{SameStreams}
 use Rattle.carry.specs.Carry.{LacksState, AreCarried, CarryOutcome, CarryOutcome.unfit as carryUnfit, CarryOutcome.otherStreams as carryStreams, CarryOutcome.lacking as carryLacking, CarryOutcome.short as carryShort, CarryOutcome.carried as carryGiven}
 use Rattle.carry.proofs.Outcome.{states-unique, carried-none-lacks, carry-total}
+use Rattle.opened_tables.specs.Used.{compiledGiven}
+use Rattle.opened_tables.proofs.Used.{compiled-fit, few-rows, finals-long}
 use Rattle.migration_text.specs.Migration.{mostStates, migrationText, migrationOutput}
 use Rattle.migration_text.proofs.Text.{refused-output, given-output}
 use Rattle.show_migration.specs.Prints.{usedEntry, PrintsStates, otherStreams, lacking, migrated, PrintsMigration, refusedOld, refusedNew, compared, HasMigrationOutput}
-use Rattle.show_migration.specs.Shows.{compiledGiven}
-
--- ---- the used rows of a compile
-
-module _ {text : List ℕ} {s : Sheet} {a : CompileAnswer} {t : Tables} (c : CompiledLent text s a t) (z : a .refusal ≡ 0) where
-  pub compiled-fit : IsFitTable (compiledGiven s a t)
-  compiled-fit = record { well-formed = compiled-well-formed (c .call) (c .reads) z; streams-fit = stored-streams-fit s (accepted-facts (c .reads)) }
-
-  -- There are no more states than rows lent.
-  pub few-rows : a .states ≤ mostStates
-  few-rows = let held = compiled-held c z in omega (arith, held .table .finals-fit, held .finalsSize, lent-rows (letterCount (s .streams)))
-
-  finals-long : length (usedFinals a t) ≡ a .states
-  finals-long = length-take-le (a .states) (t .finals) (compiled-held c z .table .finals-fit)
 
 -- ---- what is printed of two compiles
 
@@ -56,7 +42,7 @@ module _ {text text′ : List ℕ} {s : Sheet} {a : CompileAnswer} {t : Tables} 
   none-lacks : {states : List ℕ} → length states ≡ a .states → AreCarried (letterCount (s .streams)) (usedEntry s a t) (usedEntry s′ a′ t′) states
       → LacksState (letterCount (s .streams)) (usedEntry s a t) (usedEntry s′ a′ t′) → ⊥
   none-lacks long A =
-      let formed = compiled-well-formed (c .call) (c .reads) z in
+      let formed = compiled-fit c z .well-formed in
       carried-none-lacks A (well-formed-entries formed) (formed .whole .some-row) (long ∙ sym (finals-long c z))
 
   pub states-one : {b d : List ℕ} → PrintsStates s a t s′ a′ t′ b → PrintsStates s a t s′ a′ t′ d → b ≡ d

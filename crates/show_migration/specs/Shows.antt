@@ -1,20 +1,17 @@
 -- What `show_migration` gives back for the texts of an old and of a new sheet, and what its parts do.
-use Prim.Native.Nat.{ℕ, _*_, min}
+use Prim.Native.Nat.{ℕ}
 use mathlib.Core.Path.{_≡_}
 use mathlib.Core.Logic.{_≢_}
 use mathlib.Core.List.{List}
 use lib.ListN.{take}
 use Rattle.meaning.specs.Expression.{Sheet}
-use Rattle.meaning.specs.Letter.{letterCount}
-use Rattle.reader.specs.Stored.{storedSheet}
 use Rattle.outcome.specs.Compile.{CompileAnswer, Tables}
-use Rattle.compiled_sheet.specs.Told.{sheetStreams}
 use Rattle.lend.specs.Lend.{CompiledLent, RefusedLent}
 use Rattle.print.specs.Text.{refusalLine}
-use Rattle.theorems.specs.UsedRows.{usedEntries, usedFinals}
-use Rattle.given_tables.specs.Given.{GivenTable, givenTable, tableRows}
+use Rattle.given_tables.specs.Given.{GivenTable, tableRows}
 use Rattle.carry.specs.Carry.{CarryOutcome}
 use Rattle.opening.specs.declared.OpenedTable.{OpenedTable}
+use Rattle.opened_tables.specs.Used.{openedGiven, compiledGiven}
 use Rattle.output.specs.Output.{Hands}
 use Rattle.output.specs.declared.Handed.{Handed}
 use Rattle.migration_text.specs.Migration.{mostStates, migrationOutput}
@@ -27,15 +24,6 @@ pub record ShowsMigration (oldText newText : List ℕ) (r : Handed) : Type 0 whe
   pub hands : Hands bytes (r .size) (r .whole)
 
 -- ---- parts of a call
-
--- The used rows of a table that was opened, no more than its arrays hold, with the letters and the streams of its sheet.
-abbrev pub openedGiven : OpenedTable → (entries finals : List ℕ) → GivenTable
-openedGiven x entries finals =
-    givenTable (take (min (min (x .states) mostStates * x .sheet .letters) 32768) entries) (take (min (x .states) mostStates) finals) (x .sheet .letters) (sheetStreams (x .sheet))
-
--- The used rows of a compile, with the letters and the streams of its sheet.
-abbrev pub compiledGiven : Sheet → CompileAnswer → Tables → GivenTable
-compiledGiven s a t = givenTable (usedEntries s a t) (usedFinals a t) (letterCount (s .streams)) (sheetStreams (storedSheet s))
 
 -- What is printed where an old table was opened with a refusal's number or 0: that refusal, the new sheet's, or what a call for the states gives.
 pub data PrintsFrom (refusal : ℕ) (old : GivenTable) (newText : List ℕ) : List ℕ → Type 0 where

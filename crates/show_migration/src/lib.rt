@@ -1,30 +1,16 @@
 // Prints what `migrate` prints for the texts of an old and of a new sheet: the states to go on from, or the line of a refusal. The crate `migration_text`
 // gives the bytes; what is left here are the calls, and the write that counts the bytes that it hands over.
-use basics::fewer;
 use compiled_sheet::stored_streams;
+use opened_tables::used_entries;
+use opened_tables::used_rows;
 use opening::OpenedTable;
 use output::Handed;
 ghost use mathlib.Core.Path.{_≡_};
-ghost use Prim.Native.Nat.{_*_, _≤_, min};
 ghost use lib.ListN.{length, take};
 ghost use Rattle.output.specs.Output.{Hands};
 ghost use Rattle.migration_text.specs.Migration.{mostStates, migrationOutput};
-ghost use Rattle.show_migration.specs.Shows.{openedGiven, FindsStates, ShowsFrom, ShowsMigration};
-
-// How many rows of its array a table uses.
-fn used_rows(table: OpenedTable) -> usize
-    ensures { λ r. ⌜ r ≡ min (table .states) mostStates ⌝ }
-{
-    fewer(table.states as usize, 256)
-}
-
-// How many entries these rows take, and no more than the array has.
-fn used_entries(rows: usize, letters: u32) -> usize
-    requires { ⌜ rows ≤ mostStates ⌝ }
-    ensures { λ r. ⌜ r ≡ min (rows * letters) 32768 ⌝ }
-{
-    fewer(rows * letters as usize, 32768)
-}
+ghost use Rattle.opened_tables.specs.Used.{openedGiven};
+ghost use Rattle.show_migration.specs.Shows.{FindsStates, ShowsFrom, ShowsMigration};
 
 // The refusal with which a table was opened, or that of the call for the states between the used rows of both, or 0 with the states in the list.
 fn find_states(
@@ -47,10 +33,10 @@ fn find_states(
     }
     let sheet = old.sheet;
     let rows = used_rows(old);
-    let used = used_entries(rows, sheet.letters);
+    let used = used_entries(old);
     let new_sheet = new.sheet;
     let new_rows = used_rows(new);
-    let new_used = used_entries(new_rows, new_sheet.letters);
+    let new_used = used_entries(new);
     carry::carry(
         &entries[..used],
         &finals[..rows],

@@ -11,7 +11,7 @@ use Rattle.meaning.specs.Expression.{Stream, Sheet}
 use Rattle.meaning.proofs.Order.{≤ℤ-trans}
 use Rattle.sheet.specs.Refusal.{Answer, refused, sheet, AnswerTo, magnitudeBound}
 use Rattle.sheet.specs.Reading.{answerTo}
-use Rattle.sheet.specs.Accepted.{Accepted}
+use Rattle.sheet.specs.Accepted.{AcceptedStreams}
 use Rattle.sheet.proofs.Reading.{answer-correct}
 use Rattle.sheet.proofs.Accepted.{accepted-facts}
 use Rattle.nodes.specs.Bounds.{lowsOf, highsOf}
@@ -39,31 +39,38 @@ bound-low = record { sfits = omega arith }
 bound-high : SFits w64 (pos magnitudeBound)
 bound-high = record { sfits = omega arith }
 
-module _ {s : Sheet} (accepted : Accepted s) where
-  low-fits : (x : Stream) → List·Memᴰ x (s .streams) → SFits w64 (x .range .low)
+-- Streams that an accepted sheet could have.
+module _ {ss : List Stream} (accepted : AcceptedStreams ss) where
+  low-fits : (x : Stream) → List·Memᴰ x ss → SFits w64 (x .range .low)
   low-fits x m =
-      let i = accepted .streams .rangesInBounds x m in
-      between-fits (negℤ (pos magnitudeBound)) (x .range .low) (pos magnitudeBound) bound-low bound-high (i .above) (≤ℤ-trans (accepted .streams .rangesOrdered x m) (i .below))
+      let i = accepted .rangesInBounds x m in
+      between-fits (negℤ (pos magnitudeBound)) (x .range .low) (pos magnitudeBound) bound-low bound-high (i .above) (≤ℤ-trans (accepted .rangesOrdered x m) (i .below))
 
-  high-fits : (x : Stream) → List·Memᴰ x (s .streams) → SFits w64 (x .range .high)
+  high-fits : (x : Stream) → List·Memᴰ x ss → SFits w64 (x .range .high)
   high-fits x m =
-      let i = accepted .streams .rangesInBounds x m in
-      between-fits (negℤ (pos magnitudeBound)) (x .range .high) (pos magnitudeBound) bound-low bound-high (≤ℤ-trans (i .above) (accepted .streams .rangesOrdered x m)) (i .below)
+      let i = accepted .rangesInBounds x m in
+      between-fits (negℤ (pos magnitudeBound)) (x .range .high) (pos magnitudeBound) bound-low bound-high (≤ℤ-trans (i .above) (accepted .rangesOrdered x m)) (i .below)
 
-  stored-ranges : HasRanges (storedSheet s)
-  unfolding storedSheet
-  stored-ranges =
-      let few = accepted .streams .streamCount in
-      record {
-        lowCount = omega (arith, length-append (lowsOf (s .streams)) (replicate (8 - length (lowsOf (s .streams))) (pos 0)), length-map (s .streams) (λ x. x .range .low), length-replicate (8 - length (lowsOf (s .streams))) (pos 0));
-        highCount = omega (arith, length-append (highsOf (s .streams)) (replicate (8 - length (highsOf (s .streams))) (pos 0)), length-map (s .streams) (λ x. x .range .high), length-replicate (8 - length (highsOf (s .streams))) (pos 0));
-        lows = fit-append (lowsOf (s .streams)) (replicate (8 - length (lowsOf (s .streams))) (pos 0)) (fit-map (λ x. x .range .low) (s .streams) low-fits) (fit-zeros (8 - length (lowsOf (s .streams))));
-        highs = fit-append (highsOf (s .streams)) (replicate (8 - length (highsOf (s .streams))) (pos 0)) (fit-map (λ x. x .range .high) (s .streams) high-fits) (fit-zeros (8 - length (highsOf (s .streams))));
-      }
+  pub lows-fit : AllFit (lowsOf ss)
+  lows-fit = fit-map (λ x. x .range .low) ss low-fits
+
+  pub highs-fit : AllFit (highsOf ss)
+  highs-fit = fit-map (λ x. x .range .high) ss high-fits
+
+stored-ranges : (s : Sheet) → AcceptedStreams (s .streams) → HasRanges (storedSheet s)
+unfolding storedSheet
+stored-ranges s accepted =
+    let few = accepted .streamCount in
+    record {
+      lowCount = omega (arith, length-append (lowsOf (s .streams)) (replicate (8 - length (lowsOf (s .streams))) (pos 0)), length-map (s .streams) (λ x. x .range .low), length-replicate (8 - length (lowsOf (s .streams))) (pos 0));
+      highCount = omega (arith, length-append (highsOf (s .streams)) (replicate (8 - length (highsOf (s .streams))) (pos 0)), length-map (s .streams) (λ x. x .range .high), length-replicate (8 - length (highsOf (s .streams))) (pos 0));
+      lows = fit-append (lowsOf (s .streams)) (replicate (8 - length (lowsOf (s .streams))) (pos 0)) (lows-fit accepted) (fit-zeros (8 - length (lowsOf (s .streams))));
+      highs = fit-append (highsOf (s .streams)) (replicate (8 - length (highsOf (s .streams))) (pos 0)) (highs-fit accepted) (fit-zeros (8 - length (highsOf (s .streams))));
+    }
 
 pub read-ranges : (text : List ℕ) {reading : Reading} → reading ≡ readingOf (answerTo text) → HasRanges (reading .sheet)
 read-ranges text read-as = subst (λ x. HasRanges (x .sheet)) (sym read-as) (go (answerTo text) (answer-correct text))
   where
     go : (x : Answer) → AnswerTo text x → HasRanges (readingOf x .sheet)
     go (refused n) r = record { lowCount = refl; highCount = refl; lows = fit-zeros 8; highs = fit-zeros 8 }
-    go (sheet s) r = stored-ranges (accepted-facts r)
+    go (sheet s) r = stored-ranges s (accepted-facts r .streams)

@@ -37,13 +37,13 @@ module _ (s : StreamsDescription) where
   streams-length k (suc n) = ap suc (streams-length (suc k) n)
 
   -- Every stream of the description has a place, and every place a stream.
-  stream-origin : (k n : ℕ) (x : Stream) → List·Memᴰ x (describedFrom s k n) → (i : ℕ) × (k ≤ i) × (i < k + n) × (x ≡ streamIn s i)
+  pub stream-origin : (k n : ℕ) (x : Stream) → List·Memᴰ x (describedFrom s k n) → (i : ℕ) × (k ≤ i) × (i < k + n) × (x ≡ streamIn s i)
   unfolding describedFrom
   stream-origin k zero x m = absurd (List·Memᴰ·not-nil m)
   stream-origin k (suc n) x (List·Memᴰ·head e) = (k, omega arith, omega arith, e)
   stream-origin k (suc n) x (List·Memᴰ·tail m) = let (i, a, b, e) = stream-origin (suc k) n x m in (i, omega arith, omega arith, e)
 
-  stream-member : (k n i : ℕ) → k ≤ i → i < k + n → List·Memᴰ (streamIn s i) (describedFrom s k n)
+  pub stream-member : (k n i : ℕ) → k ≤ i → i < k + n → List·Memᴰ (streamIn s i) (describedFrom s k n)
   unfolding describedFrom
   stream-member k zero i a b = absurd (omega arith)
   stream-member k (suc n) i a b = by (ℕ-discrete i k) (λ c. stream-member (suc k) n i c (omega arith))
@@ -118,12 +118,12 @@ module _ (s : StreamsDescription) where
 
   -- ---- the letters
 
-  lows-from : (k n : ℕ) → k + n ≤ length (s .lows) → lowsOf (describedFrom s k n) ≡ take n (drop k (s .lows))
+  pub lows-from : (k n : ℕ) → k + n ≤ length (s .lows) → lowsOf (describedFrom s k n) ≡ take n (drop k (s .lows))
   unfolding describedFrom
   lows-from k zero h = refl
   lows-from k (suc n) h = ap (λ l. getD (s .lows) k (pos 0) ∷ l) (lows-from (suc k) n (omega arith)) ∙ sym (ap (take (suc n)) (drop-cons (s .lows) k (pos 0) (omega arith)))
 
-  highs-from : (k n : ℕ) → k + n ≤ length (s .highs) → highsOf (describedFrom s k n) ≡ take n (drop k (s .highs))
+  pub highs-from : (k n : ℕ) → k + n ≤ length (s .highs) → highsOf (describedFrom s k n) ≡ take n (drop k (s .highs))
   unfolding describedFrom
   highs-from k zero h = refl
   highs-from k (suc n) h = ap (λ l. getD (s .highs) k (pos 0) ∷ l) (highs-from (suc k) n (omega arith)) ∙ sym (ap (take (suc n)) (drop-cons (s .highs) k (pos 0) (omega arith)))

@@ -9,8 +9,8 @@ use mathlib.Core.List.{List, [], _∷_, map, List·Memᴰ·head, List·Memᴰ·t
 use lib.IntN.{pos}
 use lib.ListN.{length, getD, length-map}
 use Rattle.basics.proofs.Lists.{getD-map}
-use Rattle.automaton.specs.Words.{Word, tail, prefix, suffix, append, AllBelow}
-use Rattle.automaton.specs.Solutions.{SameSolutions, Begins}
+use Rattle.automaton.specs.Words.{Word, tail, prefix, suffix, append, AllBelow, InRange}
+use Rattle.automaton.specs.Solutions.{SameSolutions, Begins, Settles}
 use Rattle.automaton.specs.Table.{IsPath, AcceptedWord}
 use Rattle.automaton.specs.Stored.{StoredTable, SameUsedRows, entryAt, finalAt}
 use Rattle.automaton.proofs.Words.{append-prefix-suffix, in-range-suffix}
@@ -22,9 +22,9 @@ use Rattle.meaning.specs.Expression.{Stream, Constraint, Sheet, Solution}
 use Rattle.meaning.specs.Letter.{Letter, Record, IsLetter, none, more, OfLetters, letterCount, letterNumber, letterOf, spell, letterWith, wordOf, SolutionWord}
 use Rattle.meaning.specs.Scope.{NamesKnown}
 use Rattle.meaning.proofs.Letter.{letterNumber-bound, letterOf-letterNumber}
-use Rattle.meaning.proofs.Word.{wordOf-spells, solution-word}
+use Rattle.meaning.proofs.Word.{Spells, spell-ranged, wordOf-spells, spells-unique, solution-word}
 use Rattle.outcome.proofs.SheetWords.{solutions-settle}
-use Rattle.theorems.specs.Following.{FollowedAlong, BeginsSolution, HaveSameSolutions}
+use Rattle.theorems.specs.Following.{FollowedAlong, BeginsSolution, HaveSameSolutions, SolvesByWord}
 
 -- ---- records and words
 
@@ -43,7 +43,7 @@ letterWith-values : {ss : List Stream} {l : Letter} → IsLetter ss l → letter
 letterWith-values none = refl
 letterWith-values (more {v = v} w h) = ap (v ∷_) (letterWith-values h)
 
-letterWith-same : (ss : List Stream) (f g : ℕ → _) → ((k : ℕ) → k < length ss → f k ≡ g k) → letterWith ss f ≡ letterWith ss g
+pub letterWith-same : (ss : List Stream) (f g : ℕ → _) → ((k : ℕ) → k < length ss → f k ≡ g k) → letterWith ss f ≡ letterWith ss g
 letterWith-same [] f g h = refl
 letterWith-same (s ∷ ss) f g h = λ j. h 0 (omega arith) j ∷ letterWith-same ss (λ k. f (suc k)) (λ k. g (suc k)) (λ k b. h (suc k) (omega arith)) j
 
@@ -56,6 +56,64 @@ pub all-below : {ss : List Stream} (r : Record) → OfLetters ss r → AllBelow 
 all-below [] h = tt
 all-below (l ∷ r) h = (letterNumber-bound (h l (List·Memᴰ·head refl)), all-below r (λ m p. h m (List·Memᴰ·tail p)))
 
+-- ---- streams that solve exactly if their words lie in a set
+
+module _ {ss : List Stream} {Sol : Word → Type 0} {Solves : Streams → Type 0} (x : SolvesByWord ss Sol Solves) where
+  -- The streams that a word spells solve exactly if it lies in the set.
+  pub spelled↔word : (a : Word) → InRange (letterCount ss) a → Solves (spell ss a) ↔ Sol a
+  spelled↔word a b =
+      let w = spell ss a in
+      let p : Spells ss a w = record { letters = b; agrees = record { same = λ j i l. refl } } in
+      let ranged = spell-ranged ss a b in
+      let e : wordOf ss w ≡ a = λ j i. spells-unique ss (wordOf-spells ss w ranged) p i j in
+      (λ h. subst Sol e (x .word w ranged .1 h), λ h. x .word w ranged .0 (subst Sol (sym e) h))
+
+  -- A table of a set that settles is followed along exactly the streams that solve.
+  module _ {n : ℕ} {entries finals : List ℕ} (settles : Settles Sol (letterCount ss)) (stored : StoredTable Sol (letterCount ss) n entries finals) where
+    abbrev entry : ℕ → ℕ → ℕ
+    entry = entryAt (letterCount ss) entries
+
+    pub solves↔followed : (w : Streams) → Solves w ↔ FollowedAlong ss entries finals w
+    solves↔followed w = (to, from)
+      where
+        to : Solves w → FollowedAlong ss entries finals w
+        to h =
+            let ranged = x .ranged w h in
+            let v = wordOf ss w in
+            let b = wordOf-spells ss w ranged .letters in
+            let a = solution↔accepted (stored .table) settles v b .0 (x .word w ranged .1 h) in
+            record {
+              ranged = ranged;
+              path = follows↔paths (stored .table) 0 v (stored .table .some-state) b .0 (a .follows);
+              again = λ m. let g = a .again m in (g .0, g .1, ap (finalAt finals) (sym (run-walk entry (g .0) 0 v)) ∙ g .2);
+            }
+
+        from : FollowedAlong ss entries finals w → Solves w
+        from f =
+            let v = wordOf ss w in
+            let p = wordOf-spells ss w (f .ranged) in
+            let a : AcceptedWord n entry (finalAt finals) v = record {
+              follows = follows↔paths (stored .table) 0 v (stored .table .some-state) (p .letters) .1 (f .path);
+              again = λ m. let g = f .again m in (g .0, g .1, ap (finalAt finals) (run-walk entry (g .0) 0 v) ∙ g .2);
+            } in
+            x .word w (f .ranged) .0 (solution↔accepted (stored .table) settles v (p .letters) .1 a)
+
+-- Two such sets over the same streams are equal exactly if the same streams solve.
+pub words↔streams : {ss : List Stream} {Sol Sol′ : Word → Type 0} {Solves Solves′ : Streams → Type 0} → SolvesByWord ss Sol Solves → SolvesByWord ss Sol′ Solves′
+    → SameSolutions (letterCount ss) Sol Sol′ ↔ (((w : Streams) → Solves w → Solves′ w) × ((w : Streams) → Solves′ w → Solves w))
+words↔streams {ss} x y = (
+  (λ e. (
+    (λ w h. let r = x .ranged w h in y .word w r .0 (e .to (wordOf ss w) (wordOf-spells ss w r .letters) (x .word w r .1 h))),
+    λ w h. let r = y .ranged w h in x .word w r .0 (e .from (wordOf ss w) (wordOf-spells ss w r .letters) (y .word w r .1 h)),
+  )),
+  λ e. record {
+    to = λ a b h. spelled↔word y a b .0 (e .0 (spell ss a) (spelled↔word x a b .1 h));
+    from = λ a b h. spelled↔word x a b .0 (e .1 (spell ss a) (spelled↔word y a b .1 h));
+  },
+)
+
+-- ---- a sheet's solutions
+
 module _ (s : Sheet) (known : NamesKnown s) where
   abbrev ss : List Stream
   ss = s .streams
@@ -64,42 +122,18 @@ module _ (s : Sheet) (known : NamesKnown s) where
   k = letterCount ss
 
   -- Streams are a solution exactly if they are in their ranges and the word of their letter numbers is a solution word.
-  solution-numbers : (w : Streams) → Solution s w → SolutionWord s (wordOf ss w)
-  solution-numbers w h = solution-word known (wordOf-spells ss w (h .ranged)) .1 h
+  pub solution-by-word : SolvesByWord ss (SolutionWord s) (Solution s)
+  solution-by-word = record { ranged = λ w h. h .ranged; word = λ w ranged. solution-word known (wordOf-spells ss w ranged) }
 
   module _ {n : ℕ} {entries finals : List ℕ} (stored : StoredTable (SolutionWord s) k n entries finals) where
-    abbrev entry : ℕ → ℕ → ℕ
-    entry = entryAt k entries
-
     pub solution↔followed : (w : Streams) → Solution s w ↔ FollowedAlong ss entries finals w
-    solution↔followed w = (to, from)
-      where
-        to : Solution s w → FollowedAlong ss entries finals w
-        to h =
-            let x = wordOf ss w in
-            let b = wordOf-spells ss w (h .ranged) .letters in
-            let a = solution↔accepted (stored .table) (solutions-settle s) x b .0 (solution-numbers w h) in
-            record {
-              ranged = h .ranged;
-              path = follows↔paths (stored .table) 0 x (stored .table .some-state) b .0 (a .follows);
-              again = λ m. let g = a .again m in (g .0, g .1, ap (finalAt finals) (sym (run-walk entry (g .0) 0 x)) ∙ g .2);
-            }
-
-        from : FollowedAlong ss entries finals w → Solution s w
-        from f =
-            let x = wordOf ss w in
-            let p = wordOf-spells ss w (f .ranged) in
-            let a : AcceptedWord n entry (finalAt finals) x = record {
-              follows = follows↔paths (stored .table) 0 x (stored .table .some-state) (p .letters) .1 (f .path);
-              again = λ m. let g = f .again m in (g .0, g .1, ap (finalAt finals) (run-walk entry (g .0) 0 x) ∙ g .2);
-            } in
-            solution-word known p .0 (solution↔accepted (stored .table) (solutions-settle s) x (p .letters) .1 a)
+    solution↔followed w = solves↔followed solution-by-word (solutions-settle s) stored w
 
     -- a record, the empty one too
-    pub path↔begins-solution : (r : Record) → OfLetters ss r → IsPath entry (map (letterNumber ss) r) ↔ BeginsSolution s r
+    pub path↔begins-solution : (r : Record) → OfLetters ss r → IsPath (entryAt k entries) (map (letterNumber ss) r) ↔ BeginsSolution s r
     path↔begins-solution r h = (to, from)
       where
-        to : IsPath entry (map (letterNumber ss) r) → BeginsSolution s r
+        to : IsPath (entryAt k entries) (map (letterNumber ss) r) → BeginsSolution s r
         to p =
             let g = path↔begins (stored .table) (map (letterNumber ss) r) (all-below r h) .0 p in
             record {
@@ -111,7 +145,7 @@ module _ (s : Sheet) (known : NamesKnown s) where
                   ap (λ a. getD (letterOf ss a) j (pos 0)) e ∙ ap (λ m. getD m j (pos 0)) (letterOf-letterNumber (getD-letter r i h l));
             }
 
-        from : BeginsSolution s r → IsPath entry (map (letterNumber ss) r)
+        from : BeginsSolution s r → IsPath (entryAt k entries) (map (letterNumber ss) r)
         from g =
             let w = g .solution in
             let x = wordOf ss w in
@@ -123,7 +157,7 @@ module _ (s : Sheet) (known : NamesKnown s) where
             let c : Begins (SolutionWord s) k (prefix x (length (map (letterNumber ss) r))) = record {
               word = suffix x (length (map (letterNumber ss) r));
               in-range = in-range-suffix (length (map (letterNumber ss) r)) x b;
-              continues = record { solves = rw (append-prefix-suffix x (length (map (letterNumber ss) r))) (solution-numbers w (g .solves)) };
+              continues = record { solves = rw (append-prefix-suffix x (length (map (letterNumber ss) r))) (solution-by-word .word w (g .solves .ranged) .1 (g .solves)) };
             } in
             path↔begins (stored .table) (map (letterNumber ss) r) (all-below r h) .1 (subst (Begins (SolutionWord s) k) e c)
 
@@ -137,18 +171,10 @@ module _ (ss : List Stream) (cs cs′ : List Constraint) where
   S′ = record { streams = ss; constraints = cs′ }
 
   module _ (known : NamesKnown S) (known′ : NamesKnown S′) where
-    words↔streams : SameSolutions (letterCount ss) (SolutionWord S) (SolutionWord S′) ↔ HaveSameSolutions S S′
-    words↔streams = (
-      (λ e. record {
-        to = λ w h. let p = wordOf-spells ss w (h .ranged) in solution-word known′ p .0 (e .to (wordOf ss w) (p .letters) (solution-word known p .1 h));
-        from = λ w h. let p = wordOf-spells ss w (h .ranged) in solution-word known p .0 (e .from (wordOf ss w) (p .letters) (solution-word known′ p .1 h));
-      }),
-      λ e. record { to = λ x b h. record { solves = e .to (spell ss x) (h .solves) }; from = λ x b h. record { solves = e .from (spell ss x) (h .solves) } },
-    )
-
     pub used-rows↔same-solutions : {n n′ : ℕ} {entries finals entries′ finals′ : List ℕ}
         → StoredTable (SolutionWord S) (letterCount ss) n entries finals → StoredTable (SolutionWord S′) (letterCount ss) n′ entries′ finals′
         → SameUsedRows (letterCount ss) n entries finals n′ entries′ finals′ ↔ HaveSameSolutions S S′
     used-rows↔same-solutions a b =
         let e = used-rows↔solutions (solutions-settle S) (solutions-settle S′) a b in
-        (λ r. words↔streams .0 (e .0 r), λ h. e .1 (words↔streams .1 h))
+        let same = words↔streams (solution-by-word S known) (solution-by-word S′ known′) in
+        (λ r. let h = same .0 (e .0 r) in record { to = h .0; from = h .1 }, λ h. e .1 (same .1 (h .to, h .from)))

@@ -13,8 +13,11 @@ pub mod Histograms
 pub mod WorkedHistograms
 pub mod Courses
 pub mod Strategies
+pub mod ToldTables
 pub mod Migrations
 pub mod Smallest
+pub mod JoinedStreams
+pub mod Joins
 pub mod WorkedMachines
 pub mod LetterNumbers
 pub mod Divisions

@@ -13,15 +13,14 @@ use lib.ListN.{length, getD, drop, take, replicate, List·getD-append}
 use lib.Seq.{drop-at, length-take-le}
 use Rattle.automaton.specs.Words.{AllBelow}
 use Rattle.automaton.specs.Table.{walk, PathFrom, IsPath}
-use Rattle.automaton.specs.Stored.{entryAt}
-use Rattle.automaton.specs.WellFormed.{WholeTable, IsWellFormed}
+use Rattle.automaton.specs.WellFormed.{WholeTable}
 use Rattle.automaton.proofs.Words.{all-below-append}
-use Rattle.automaton.proofs.WellFormed.{well-formed-entries, used-table, used-well-formed}
+use Rattle.automaton.proofs.WellFormed.{well-formed-entries}
 use Rattle.automaton.proofs.Course.{walk-append, path-append}
 use Rattle.automaton.proofs.States.{representative-path, representative-leads}
 use Rattle.meaning.specs.Expression.{Sheet}
 use Rattle.meaning.specs.Letter.{Record, OfLetters, letterCount, letterNumber}
-use Rattle.outcome.specs.Compile.{Room, Tables, CompileCall}
+use Rattle.outcome.specs.Compile.{Room, Tables}
 use Rattle.stored.specs.Number.{tableBytes}
 use Rattle.step.specs.Step.{entryWidth}
 use Rattle.step.specs.declared.Place.{Place}
@@ -32,7 +31,7 @@ use Rattle.step.proofs.Places.{followed-place}
 use Rattle.compiled.specs.Answer.{answerOf}
 use Rattle.compiled_sheet.specs.declared.CompiledSheet.{CompiledSheet}
 use Rattle.compiled_sheet.specs.Told.{compiledIn, SheetCall}
-use Rattle.compiled_sheet.proofs.Sheets.{letters-told, streams-told, told-fit}
+use Rattle.compiled_sheet.proofs.Sheets.{streams-told}
 use Rattle.given_tables.specs.Given.{GivenTable, tableRows, tableEntry, IsFitTable, SameStreams}
 use Rattle.given_tables.proofs.Fit.{same-letters}
 use Rattle.carry.specs.Carry.{LeadsToState, IsReached, CarriesTo, IsCarried, to-state, unreached, OverSameStreams, TableLacksState, CarryOutcome, unfit, otherStreams, lacking, short, carried}
@@ -40,9 +39,11 @@ use Rattle.carry.proofs.Records.{path-behind, leads-row}
 use Rattle.carry.proofs.Outcome.{none-lacks, carry-functional}
 use Rattle.theorems.specs.Following.{BeginsSolution}
 use Rattle.theorems.specs.UsedRows.{usedBytes}
-use Rattle.theorems.specs.Migrations.{stepBytes, toldTable, placeOver}
+use Rattle.theorems.specs.ToldTables.{toldTable}
+use Rattle.theorems.specs.Migrations.{stepBytes, placeOver}
 use Rattle.theorems.proofs.Following.{all-below}
-use Rattle.theorems.proofs.Demands.{ReadAs, few-states, table-stored, steps↔solution}
+use Rattle.theorems.proofs.Demands.{ReadAs, table-stored, steps↔solution}
+use Rattle.theorems.proofs.ToldTables.{k-told, told-table, told-table-fit}
 
 module _ {old new : GivenTable} {room : ℕ} where
   -- ---- the refusals: "Turned away: 11 as in S-9; then 17 for streams of another name, place, range or kind; then 18 for an old state with no such new state,
@@ -189,27 +190,12 @@ module _ {old new : GivenTable} {room : ℕ} where
 -- ---- tables that compiles gave, each with the letters and the streams that it tells
 
 module _ {text : List ℕ} {room : Room} {r : CompiledSheet} {t : Tables} (call : SheetCall text room r t) (accepted : r .refusal ≡ 0) {s : Sheet} (read : ReadAs text s) where
-  compile-call : CompileCall text room (answerOf (compiledIn r)) t
-  compile-call = call .call
-
-  k-told : r .letters ≡ letterCount (s .streams)
-  k-told = letters-told (call .tells) accepted read
-
-  -- They are fit for a call.
-  pub told-table-fit : IsFitTable (toldTable r t)
-  told-table-fit = record {
-    well-formed = subst (λ k. IsWellFormed k (take (r .states * k) (t .entries)) (take (r .states) (t .finals))) (sym k-told)
-        (used-well-formed (table-stored compile-call read accepted) (few-states compile-call read accepted));
-    streams-fit = told-fit (call .tells) accepted read;
-  }
-
   -- Every state is reached by a record, so that 65,535 is given for none.
   pub state-reached : (i : ℕ) → i < r .states → IsReached (r .letters) (tableEntry (toldTable r t)) i
   state-reached i h =
-      let table = used-table (table-stored compile-call read accepted) in
-      let record-of = table .representative i in
-      subst (λ k. IsReached k (entryAt k (take (r .states * k) (t .entries))) i) (sym k-told) (record {
-        by = record-of;
+      let table = told-table call accepted read in
+      subst (λ k. IsReached k (tableEntry (toldTable r t)) i) (sym (k-told call accepted read)) (record {
+        by = table .representative i;
         reaches = record {
           letters = table .letters i h;
           path = representative-path table i h;

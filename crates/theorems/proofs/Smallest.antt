@@ -1,26 +1,27 @@
 -- No smaller table would do (document 02, S-14): the file to open for it. For every accepted sheet, any machine that takes exactly its solutions, with any
 -- entries, any start and any final states, has at least as many states as its compile reports; and the table given is such a machine. States have different
 -- sets of continuations, and a machine is in different states after records that leave over different sets. From the definition of a table, and what a
--- compile gives (`Demands`).
+-- compile gives (`Demands`). The same of joined tables is in `Joins`.
 use Prim.Native.Nat.{ℕ, zero, suc, _≤_, _<_}
 use native.Mathlib.Omega.{arith}
-use mathlib.Core.Path.{_≡_, refl, sym, subst}
+use mathlib.Core.Path.{_≡_, sym, subst}
 use mathlib.Core.Logic.{_↔_}
 use mathlib.Core.List.{List, [], _∷_}
 use Rattle.automaton.specs.Words.{Word, cons, append, InRange}
+use Rattle.automaton.specs.Solutions.{Settles}
 use Rattle.automaton.specs.Table.{walk, run, IsTable}
 use Rattle.automaton.specs.Stored.{StoredTable, entryAt, finalAt}
 use Rattle.automaton.proofs.Words.{in-range-append}
 use Rattle.automaton.proofs.Pigeonhole.{pigeonhole}
 use Rattle.automaton.proofs.Acceptance.{solution↔accepted}
 use Rattle.meaning.specs.Value.{Streams}
-use Rattle.meaning.specs.Expression.{Sheet, Solution}
-use Rattle.meaning.specs.Letter.{letterCount, wordOf, spell, SolutionWord}
-use Rattle.meaning.specs.Scope.{NamesKnown}
-use Rattle.meaning.proofs.Word.{Spells, spell-ranged, wordOf-spells, spells-unique, solution-word}
+use Rattle.meaning.specs.Expression.{Stream, Sheet}
+use Rattle.meaning.specs.Letter.{letterCount, SolutionWord}
 use Rattle.outcome.specs.Compile.{CompileAnswer, Room, Tables, CompileCall}
 use Rattle.outcome.proofs.SheetWords.{solutions-settle}
+use Rattle.theorems.specs.Following.{SolvesByWord}
 use Rattle.theorems.specs.Machines.{MetAgain, MetAlways, IsTailTest, TakesWord, TakesStreams}
+use Rattle.theorems.proofs.Following.{solution-by-word, words↔streams}
 use Rattle.theorems.proofs.Demands.{ReadAs, Solves, table-stored, read-known}
 
 -- ---- both readings of "for ever" do not depend on the first state
@@ -90,56 +91,54 @@ module _ {m : ℕ} {entry : ℕ → ℕ → ℕ} {meets : (ℕ → ℕ) → Type
 
 -- ---- machines over streams
 
-module _ (s : Sheet) (known : NamesKnown s) (m : ℕ) (entry : ℕ → ℕ → ℕ) (meets : (ℕ → ℕ) → Type 0) (start : ℕ) where
-  abbrev k : ℕ
-  k = letterCount (s .streams)
+module _ {ss : List Stream} {Sol : Word → Type 0} {Solves : Streams → Type 0} (x : SolvesByWord ss Sol Solves) where
+  module _ (m : ℕ) (entry : ℕ → ℕ → ℕ) (meets : (ℕ → ℕ) → Type 0) (start : ℕ) where
+    abbrev Taken : Word → Type 0
+    Taken = TakesWord m entry meets start
 
-  abbrev Taken : Word → Type 0
-  Taken = TakesWord m entry meets start
+    taken-by-word : SolvesByWord ss Taken (TakesStreams ss m entry meets start)
+    taken-by-word = record { ranged = λ w h. h .ranged; word = λ w ranged. (λ h. record { ranged = ranged; takes = h }, λ h. h .takes) }
 
-  -- Taking exactly the solutions is taking exactly the solution words.
-  pub streams→words : ((w : Streams) → Solution s w ↔ TakesStreams (s .streams) m entry meets start w) → (x : Word) → InRange k x → SolutionWord s x ↔ Taken x
-  streams→words same x b =
-      let ss = s .streams in
-      let w = spell ss x in
-      let p : Spells ss x w = record { letters = b; agrees = record { same = λ j i l. refl } } in
-      let ranged = spell-ranged ss x b in
-      let e : wordOf ss w ≡ x = λ j i. spells-unique ss (wordOf-spells ss w ranged) p i j in (
-        λ h. subst Taken e (same w .0 (solution-word known p .0 h) .takes),
-        λ h. solution-word known p .1 (same w .1 (record { ranged = ranged; takes = subst Taken (sym e) h })),
-      )
+    -- Taking exactly the streams that solve is taking exactly their words.
+    pub streams→words : ((w : Streams) → Solves w ↔ TakesStreams ss m entry meets start w) → (a : Word) → InRange (letterCount ss) a → Sol a ↔ Taken a
+    streams→words same a b =
+        let e = words↔streams x taken-by-word .1 ((λ w. same w .0), λ w. same w .1) in
+        (e .to a b, e .from a b)
 
-  pub words→streams : ((x : Word) → InRange k x → SolutionWord s x ↔ Taken x) → (w : Streams) → Solution s w ↔ TakesStreams (s .streams) m entry meets start w
-  words→streams same w = (
-    λ h. let p = wordOf-spells (s .streams) w (h .ranged) in record { ranged = h .ranged; takes = same (wordOf (s .streams) w) (p .letters) .0 (solution-word known p .1 h) },
-    λ h. let p = wordOf-spells (s .streams) w (h .ranged) in solution-word known p .0 (same (wordOf (s .streams) w) (p .letters) .1 (h .takes)),
-  )
+    pub words→streams : ((a : Word) → InRange (letterCount ss) a → Sol a ↔ Taken a) → (w : Streams) → Solves w ↔ TakesStreams ss m entry meets start w
+    words→streams same w =
+        let e = words↔streams x taken-by-word .0 (record { to = λ a b. same a b .0; from = λ a b. same a b .1 }) in
+        (e .0 w, e .1 w)
+
+  module _ {n : ℕ} {entries finals : List ℕ} (stored : StoredTable Sol (letterCount ss) n entries finals) where
+    -- A machine that takes exactly the streams that solve has at least as many states as their table.
+    pub no-fewer-rows : (m : ℕ) (entry : ℕ → ℕ → ℕ) {meets : (ℕ → ℕ) → Type 0} → IsTailTest meets → (start : ℕ) → ((w : Streams) → Solves w ↔ TakesStreams ss m entry meets start w) → n ≤ m
+    no-fewer-rows m entry {meets} test start same = no-fewer-states test (stored .table) start (streams→words m entry meets start same)
+
+    -- The used rows are such a machine, where the set settles.
+    pub used-rows-take : Settles Sol (letterCount ss) → (w : Streams) → Solves w ↔ TakesStreams ss n (entryAt (letterCount ss) entries) (MetAgain (finalAt finals)) 0 w
+    used-rows-take settles = words→streams n (entryAt (letterCount ss) entries) (MetAgain (finalAt finals)) 0 λ a b.
+        let own = solution↔accepted (stored .table) settles a b in (
+          λ h. let g = own .0 h in record { follows = g .follows; met = g .again },
+          λ h. own .1 (record { follows = h .follows; again = h .met }),
+        )
 
 -- ---- a call of the compile
 
 module _ {text : List ℕ} {room : Room} {a : CompileAnswer} {t : Tables} (call : CompileCall text room a t) {s : Sheet} (read : ReadAs text s) (accepted : a .refusal ≡ 0) where
-  stored : StoredTable (SolutionWord s) (letterCount (s .streams)) (a .states) (t .entries) (t .finals)
-  stored = table-stored call read accepted
+  by-word : SolvesByWord (s .streams) (SolutionWord s) (Solves s)
+  by-word = solution-by-word s (read-known read)
 
-  module _ (m : ℕ) (entry : ℕ → ℕ → ℕ) where
-    smallest : {meets : (ℕ → ℕ) → Type 0} → IsTailTest meets → (start : ℕ)
-        → ((w : Streams) → Solves s w ↔ TakesStreams (s .streams) m entry meets start w) → a .states ≤ m
-    smallest {meets} test start same = no-fewer-states test (stored .table) start (streams→words s (read-known read) m entry meets start same)
+  module _ (m : ℕ) (entry : ℕ → ℕ → ℕ) (final : ℕ → ℕ) (start : ℕ) where
+    -- "no table with fewer states, numbered in any manner, with any choice of final states, followed as ours is and met in final states for ever, has the
+    -- same solutions": met again and again,
+    pub no-smaller-table : ((w : Streams) → Solves s w ↔ TakesStreams (s .streams) m entry (MetAgain final) start w) → a .states ≤ m
+    no-smaller-table = no-fewer-rows by-word (table-stored call read accepted) m entry (again-tail final) start
 
-    module _ (final : ℕ → ℕ) (start : ℕ) where
-      -- "no table with fewer states, numbered in any manner, with any choice of final states, followed as ours is and met in final states for ever, has the
-      -- same solutions": met again and again,
-      pub no-smaller-table : ((w : Streams) → Solves s w ↔ TakesStreams (s .streams) m entry (MetAgain final) start w) → a .states ≤ m
-      no-smaller-table = smallest (again-tail final) start
-
-      -- and from some time on always.
-      pub no-smaller-table-always : ((w : Streams) → Solves s w ↔ TakesStreams (s .streams) m entry (MetAlways final) start w) → a .states ≤ m
-      no-smaller-table-always = smallest (always-tail final) start
+    -- and from some time on always.
+    pub no-smaller-table-always : ((w : Streams) → Solves s w ↔ TakesStreams (s .streams) m entry (MetAlways final) start w) → a .states ≤ m
+    no-smaller-table-always = no-fewer-rows by-word (table-stored call read accepted) m entry (always-tail final) start
 
   -- The used rows are such a machine, so that the least number of states is the one reported.
   pub own-table-takes : (w : Streams) → Solves s w ↔ TakesStreams (s .streams) (a .states) (entryAt (letterCount (s .streams)) (t .entries)) (MetAgain (finalAt (t .finals))) 0 w
-  own-table-takes = words→streams s (read-known read) (a .states) (entryAt (letterCount (s .streams)) (t .entries)) (MetAgain (finalAt (t .finals))) 0 λ x b.
-      let own = solution↔accepted (stored .table) (solutions-settle s) x b in (
-        λ h. let g = own .0 h in record { follows = g .follows; met = g .again },
-        λ h. own .1 (record { follows = h .follows; again = h .met }),
-      )
+  own-table-takes = used-rows-take by-word (table-stored call read accepted) (solutions-settle s)

@@ -30,6 +30,7 @@ use Rattle.outcome.proofs.SheetWords.{solutions-settle}
 use Rattle.worked.specs.Rows.{WorkedSheet, workedSheets, Holds, compiles, refuses}
 use Rattle.worked.proofs.Rows.{rows-hold}
 use Rattle.theorems.specs.Machines.{MetOnce, TakesWord, TakesStreams}
+use Rattle.theorems.proofs.Following.{solution-by-word}
 use Rattle.theorems.proofs.Demands.{read-known}
 use Rattle.theorems.proofs.Smallest.{words→streams}
 
@@ -202,7 +203,7 @@ same-words x b = (to, from)
 pub fewer-states-once : {s : Sheet} → AnswerTo (bytesOf (noTwoOnes .text)) (sheet s)
     → (w : Streams) → Solution s w ↔ TakesStreams (s .streams) 2 twoStates (MetOnce secondFinal) 0 w
 fewer-states-once {s} read =
-    words→streams s (read-known read) 2 twoStates (MetOnce secondFinal) 0 λ x b.
+    words→streams (solution-by-word s (read-known read)) 2 twoStates (MetOnce secondFinal) 0 λ x b.
     let two : InRange 2 x = λ t. subst (x t <_) (letters read) (b t) in
     let own = solution↔accepted (row-table read .table) (subst (Settles (SolutionWord s)) (letters read) (solutions-settle s)) x two in
     let same = same-words x two in

@@ -1,9 +1,11 @@
--- What it means that streams of integers are followed along a stored table, and that a record of letters begins a solution.
+-- What it means that streams of integers are followed along a stored table, that a record of letters begins a solution, and that streams solve exactly if
+-- their words lie in a set.
 use Prim.Native.Nat.{ℕ, _≤_, _<_}
 use mathlib.Core.Path.{_≡_}
+use mathlib.Core.Logic.{_↔_}
 use mathlib.Core.List.{List}
 use lib.ListN.{length}
-use Rattle.automaton.specs.Words.{prefix}
+use Rattle.automaton.specs.Words.{Word, prefix}
 use Rattle.automaton.specs.Table.{walk, IsPath}
 use Rattle.automaton.specs.Stored.{entryAt, finalAt}
 use Rattle.meaning.specs.Value.{Streams}
@@ -28,3 +30,8 @@ pub record BeginsSolution (s : Sheet) (r : Record) : Type 0 where
 pub record HaveSameSolutions (s t : Sheet) : Type 0 where
   pub to : (w : Streams) → Solution s w → Solution t w
   pub from : (w : Streams) → Solution t w → Solution s w
+
+-- Streams solve exactly if they are in their ranges and the word of their letter numbers lies in the set. It is so of a sheet's solutions and of joined ones.
+pub record SolvesByWord (ss : List Stream) (Sol : Word → Type 0) (Solves : Streams → Type 0) : Type 0 where
+  pub ranged : (w : Streams) → Solves w → (k i : ℕ) → k < length ss → Within (rangeOf ss k) (w k i)
+  pub word : (w : Streams) → ((k i : ℕ) → k < length ss → Within (rangeOf ss k) (w k i)) → Sol (wordOf ss w) ↔ Solves w

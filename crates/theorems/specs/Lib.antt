@@ -7,7 +7,9 @@ pub mod Histograms
 pub mod WorkedHistograms
 pub mod Courses
 pub mod Strategies
+pub mod ToldTables
 pub mod Migrations
+pub mod Joins
 pub mod Machines
 pub mod LetterNumbers
 pub mod Divisions

@@ -1,7 +1,6 @@
 -- `show_migration::find_states` meets its contract: the refusals with which the tables were opened, or what the call for the states between their used rows gives.
-use Prim.Native.Nat.{_*_, min}
 use native.Mathlib.Omega.{arith}
-use mathlib.Core.Path.{refl, sym, ap, transport, _∙_}
+use mathlib.Core.Path.{refl, sym, transport}
 use lib.ListN.{length, take}
 use lib.Seq.{length-take-le}
 use borrow.Author.Needs.{needs}
@@ -64,10 +63,10 @@ returns-3 c =
     let a = c .before .before .before .before .before .before .before .before .before .before .before .before .before .before .before .before .before .before .before .before .before .before .before .before .before .before .before .args in
     let answer = c .before .before .carry in
     let rows = c .before .before .before .before .before .before .before .before .before .before .before .before .before .before .before .before .used-rows .ensures in
-    let used = c .before .before .before .before .before .before .before .before .before .before .before .before .before .before .before .used-entries .ensures ∙ ap (λ r. min (r * a .old .sheet .letters) 32768) rows in
+    let used = c .before .before .before .before .before .before .before .before .before .before .before .before .before .before .before .used-entries .ensures in
     let streams = c .before .before .before .before .before .before .before .before .stored-streams .ensures in
     let new-rows = c .before .before .before .before .before .before .before .before .before .before .before .before .before .used-rows2 .ensures in
-    let new-used = c .before .before .before .before .before .before .before .before .before .before .before .before .used-entries2 .ensures ∙ ap (λ r. min (r * a .new .sheet .letters) 32768) new-rows in
+    let new-used = c .before .before .before .before .before .before .before .before .before .before .before .before .used-entries2 .ensures in
     let new-streams = c .before .before .before .before .stored-streams2 .ensures in
     found (c .before .before .before .before .before .before .before .before .before .before .before .before .before .before .before .before .before .before .before .before .if1 .left) (c .before .before .before .before .before .before .before .before .before .before .before .before .before .before .before .before .before .before .if2 .left)
     (transport (λ i. CarryOutcome (givenTable (take (used i) (a .entries .now)) (take (rows i) (a .finals .now)) (a .old .sheet .letters) (streams i)) (givenTable (take (new-used i) (a .new-entries .now)) (take (new-rows i) (a .new-finals .now)) (a .new .sheet .letters) (new-streams i)) (length (a .list .now)) (answer .result) (answer .last .1 .1 .1 .1 .1 .1 .1 .1 .0))

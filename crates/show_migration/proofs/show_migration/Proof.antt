@@ -2,7 +2,8 @@
 -- of both sheets (Printing).
 use mathlib.Core.Path.{sym}
 use borrow.Author.Needs.{needs}
-use Rattle.show_migration.proofs.Printing.{opened-sizes, calls-print}
+use Rattle.opened_tables.proofs.Used.{opened-sizes}
+use Rattle.show_migration.proofs.Printing.{calls-print}
 use Rattle.show_migration.proofs.show_migration.Statement.{statement}
 use Rattle.show_migration.proofs.show_migration.Tie as tie
 

@@ -7,7 +7,9 @@ use native.Mathlib.Nat.{not-suc-le-zero}
 use Rattle.basics.proofs.Answers.{says-yes, says-no}
 use Rattle.sizes.specs.Room.{keySize}
 use Rattle.prepare.proofs.Parts.{part-size, part-long}
-use Rattle.explore.proofs.ChainLaws.{Left, left-first, left-next}
+use Rattle.key_chains.specs.Chains.{ChainLeft}
+use Rattle.explore.specs.Chains.{rowAt, bucketOf}
+use Rattle.explore.proofs.ChainLaws.{left-first, left-next}
 use borrow.Author.Needs.{needs}
 use Rattle.explore.proofs.chains.find.Statement.{statement}
 use Rattle.explore.proofs.chains.find.Tie as tie
@@ -16,7 +18,7 @@ use Rattle.explore.proofs.chains.find.Lts as lts
 use Rattle.explore.proofs.chains.same.Reads as same-reads
 
 abbrev Inv-loop : tie.InvT-loop
-Inv-loop heads links keys n h key j₀ j = Left links keys n (length heads) key j
+Inv-loop heads links keys n h key j₀ j = ChainLeft (bucketOf (length heads)) (rowAt keys) n key j
 
 abbrev μ-loop : tie.MeasureT-loop
 μ-loop heads links keys n h key j₀ j = j
@@ -94,7 +96,7 @@ loop-less c =
 loop-again : tie.Need-loop-again Inv-loop μ-loop
 loop-again c =
     let in-loop = c .before .before .before .before in
-    left-next (start (in-loop .before) .pre .0) refl (in-loop .before .loop .inv) (pos in-loop) (rw part-size at (says-no (c .before .if1 .left) (c .before .before .same .ensures)))
+    left-next (start (in-loop .before) .pre .0) (in-loop .before .loop .inv) (pos in-loop) (rw part-size at (says-no (c .before .if1 .left) (c .before .before .same .ensures)))
 
 returns-2 : tie.Need-returns-2 Inv-loop μ-loop
 returns-2 c =
