@@ -23,7 +23,8 @@ from damage import damaged_sheets
 from examples import EXAMPLES, example_faults
 from game_check import (sheet_difference as game_difference, table_difference,
                         worked_fault)
-from generate import bound_sheets, division_sheets, random_sheets
+from generate import (bound_sheets, division_sheets, random_release_sheets,
+                      random_sheets, release_sheets)
 from grammar import all_subexpressions, expression_text
 from histogram_check import difference as histogram_difference
 from intervals import interval
@@ -36,6 +37,8 @@ from limits import NO_ENTRY, STEP_REFUSED
 from meaning import value
 from normal_form import entry_texts, normal_form_of
 from reading import ranges, read
+from release_check import (by_first_line, drawn_difference as release_difference,
+                           short_sheets as short_release_sheets)
 from replay_check import difference as replay_difference
 from shortest_check import difference as shortest_difference
 from situations import explore, is_lawful, judge_of, situation
@@ -54,6 +57,7 @@ HISTOGRAMS = 1000
 COURSES = 1000
 SHEET_COURSES = 500
 KINDS_SHEETS = 60
+RELEASE_SHEETS = 150
 GAME_TABLES = 1000
 GAME_SHEETS = 300
 STRATEGIES = 300
@@ -479,7 +483,8 @@ def check_refusals(seed, counts):
     sheet with an answer worked out by hand meets that."""
     cases = [(name, int(name.split("-")[1]), text)
              for name, text in damaged_sheets(seed, 24)]
-    for name, wanted, text in cases + spelling_sheets() + bound_sheets():
+    for name, wanted, text in (cases + spelling_sheets() + bound_sheets()
+                               + release_sheets()):
         if read(text)[0] != wanted:
             raise Difference(name, "refusal", read(text)[0], wanted, text)
         counts["sheets with the refusal meant"] += 1
@@ -498,6 +503,22 @@ def check_kinds(rng, counts):
         if case:
             raise Difference("kinds", *case)
         counts["sheets with kinds and without, with equal tables"] += 1
+
+
+def check_releases(rng, counts):
+    """The release line, by reading the sheet and by its first line alone, and
+    tables of sheets of release 2 against those of release 1 that say the
+    same."""
+    for text in short_release_sheets():
+        if read(text)[0] != by_first_line(text):
+            raise Difference("release", text, read(text)[0],
+                             by_first_line(text))
+        counts["short sheets about releases, read and by the first line"] += 1
+    for _ in range(RELEASE_SHEETS):
+        case = release_difference(rng)
+        if case:
+            raise Difference("release", *case)
+        counts["sheets of release 2 written again in release 1"] += 1
 
 
 def check_replays(rng, counts):
@@ -598,6 +619,7 @@ def main(seed, count):
         counts["examples"] += len(EXAMPLES)
         check_refusals(seed, counts)
         check_kinds(random.Random("kinds %d" % seed), counts)
+        check_releases(random.Random("release %d" % seed), counts)
         check_replays(rng, counts)
         check_courses(rng, counts)
         check_games(random.Random("game %d" % seed), counts)
@@ -607,6 +629,7 @@ def main(seed, count):
         sheets = [(wanted.name, wanted.sheet) for wanted in EXAMPLES
                   if "letters" not in wanted.name]
         sheets += random_sheets(seed, count, 6) + division_sheets(seed, count, 6)
+        sheets += random_release_sheets(seed, count, 6)
         for number, (name, text) in enumerate(sheets):
             check_sheet(name, text, rng, counts)
             if number % 50 == 49:

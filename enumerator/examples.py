@@ -1,6 +1,6 @@
 """The sheets of document 01 with the answers that document 01 gives them, and
-sheets with divisions by zero (document 02, S-5) with answers worked out by
-hand."""
+sheets with divisions by zero (document 02, S-5) and of release 2 (S-11) with
+answers worked out by hand."""
 
 from collections import namedtuple
 
@@ -201,7 +201,72 @@ DIVISIONS = (
                       0, 0, 0, NO_ENTRY, NO_ENTRY, 0]]),
 )
 
-EXAMPLES = DOCUMENT_01 + DIVISIONS
+
+def divided(name, release, numbers, quotient, remainder):
+    """A sheet of a release with one letter, which has a quotient and a
+    remainder; numbers are the dividend and the divisor."""
+    dividend, divisor = numbers
+    return example(
+        "release-%s" % name, "release %d|x|%d|%d|x / %d == %d|x %% %d == %d" % (
+            release, dividend, dividend, divisor, quotient, divisor, remainder),
+        states=1, situations=2, entries=[[0]], finals=[1])
+
+
+DATUM_OUTPUT = b"""state final level mark next
+0 1 -4 -2 0
+0 1 -3 -2 0
+0 1 -2 -1 0
+0 1 -1 -1 0
+0 1 0 0 0
+0 1 1 0 0
+0 1 2 1 0
+0 1 3 1 0
+"""
+
+# Document 02, S-11: "quotients rounded down", "the remainder having the
+# divisor's sign".
+RELEASES = (
+    divided("down-7-by-2", 2, (-7, 2), -4, 1),
+    divided("up-7-by-2", 2, (7, 2), 3, 1),
+    divided("7-by-down-2", 2, (7, -2), -4, -1),
+    divided("down-7-by-down-2", 2, (-7, -2), 3, -1),
+    divided("down-8-by-2", 2, (-8, 2), -4, 0),
+    divided("8-by-down-2", 2, (8, -2), -4, 0),
+    divided("down-8-by-down-2", 2, (-8, -2), 4, 0),
+    divided("0-by-down-2", 2, (0, -2), 0, 0),
+    divided("down-1-by-2", 2, (-1, 2), -1, 1),
+    divided("1-by-down-9", 2, (1, -9), -1, -8),
+    divided("down-5-by-1", 2, (-5, 1), -5, 0),
+    divided("one-down-7-by-2", 1, (-7, 2), -3, -1),
+    divided("one-7-by-down-2", 1, (7, -2), -3, 1),
+    example("release-2-by-0", "release 2|x|0|1|x / 0 == 0", 9),
+    example("release-2-modulo-0", "release 2|x|-1|1|( x % 0 ) >= -9", 9),
+    example("release-2-cut", "release 2|x|-7|-7|x / 2 == -3", 9),
+    example("release-1-rounded", "release 1|x|-7|-7|x / 2 == -4", 9),
+    # docs/sheets.md, "Levels below datum"
+    example("release-2-datum", "release 2|level mark|-4 -2|3 1|"
+            "mark == level / 2", states=1, situations=2, output=DATUM_OUTPUT),
+    example("release-2-turning", "release 2|x|0|2|first x == 2|"
+            "next x == ( x - 1 ) % 3", states=3,
+            entries=[[NO_ENTRY, NO_ENTRY, 1], [NO_ENTRY, 2, NO_ENTRY],
+                     [0, NO_ENTRY, NO_ENTRY]]),
+    example("release-1-turning", "release 1|x|0|2|first x == 2|"
+            "next x == ( x - 1 ) % 3", 9),
+    example("release-2-guarded", "release 2|x y|-1 0|0 1|"
+            "( if y then ( x / ( 2 * y ) ) else x ) == x",
+            entries=[[0, 0, 0, 0]]),
+    example("release-2-fby", "release 2|x|-3|1|x == 1 fby ( ( x - 3 ) / 2 )",
+            states=4, entries=[
+                [NO_ENTRY, NO_ENTRY, NO_ENTRY, NO_ENTRY, 1],
+                [NO_ENTRY, NO_ENTRY, 2, NO_ENTRY, NO_ENTRY],
+                [NO_ENTRY, 3, NO_ENTRY, NO_ENTRY, NO_ENTRY],
+                [3, NO_ENTRY, NO_ENTRY, NO_ENTRY, NO_ENTRY]]),
+    example("release-2-until", "release 2|x|-1|0|1 until ( x / 2 )", states=2,
+            entries=[[1, 0], [1, 1]], finals=[0, 1]),
+    example("release-1-until", "release 1|x|-1|0|1 until ( x / 2 )", 9),
+)
+
+EXAMPLES = DOCUMENT_01 + DIVISIONS + RELEASES
 
 
 def example_faults():

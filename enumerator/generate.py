@@ -2,8 +2,8 @@
 
     python3 enumerator/generate.py SEED COUNT
 
-prints COUNT random sheets and COUNT with divisions, then the sheets at the
-bounds and those with many situations, one JSON object a line with its name and
+prints COUNT random sheets, COUNT with divisions and COUNT of release 2, then
+the sheets at the bounds and those with many situations, one JSON object a line with its name and
 the sheet as a latin-1 text.
 """
 
@@ -239,6 +239,25 @@ def random_kinds_sheets(seed, count, letter_limit=8):
              sheet_bytes(with_kinds(rng, random_lines(rng, letter_limit)),
                          rng.random() < 0.8))
             for number in range(count)]
+
+
+def with_release(release, lines):
+    """The lines of a sheet behind a line that says its release."""
+    return ["release %d" % release] + lines
+
+
+def random_release_sheets(seed, count, letter_limit=8):
+    """Named random sheets of release 2 with divisions, some with a line of
+    kinds."""
+    rng = random.Random("release %d" % seed)
+    sheets = []
+    for number in range(count):
+        lines = division_lines(rng, letter_limit)
+        if rng.random() < 0.2:
+            lines = with_kinds(rng, lines)
+        sheets.append(("random-release-%d-%d" % (seed, number),
+                       sheet_bytes(with_release(2, lines))))
+    return sheets
 
 
 def one_stream(*constraints, low=0, high=1):
@@ -550,13 +569,119 @@ def kinds_line_sheets():
     ]
 
 
+def release_line_sheets():
+    """The optional first line of document 02, S-11: known by `release` and one
+    integer alone, lines counted behind it, and intervals of release 2."""
+    def two(*constraints, low=0, high=1):
+        return with_release(2, one_stream(*constraints, low=low, high=high))
+
+    cases = (
+        ("2", 0, "release 2|x|0|1"),
+        ("1", 0, "release 1|x|0|1"),
+        ("spaces", 0, "  release   2  |x|0|1"),
+        ("kinds", 0, "release 2|x|0|1|read"),
+        ("kinds-and-rule", 0, "release 2|x y|0 0|1 1|read set|x -> y"),
+        ("kinds-fifth", 3, "release 2|x|0|1|x == x|read"),
+        ("7", 3, "release 7|x|0|1"),
+        ("0", 3, "release 0|x|0|1"),
+        ("-1", 3, "release -1|x|0|1"),
+        ("-2", 3, "release -2|x|0|1"),
+        ("3", 3, "release 3|x|0|1"),
+        ("12", 3, "release 12|x|0|1"),
+        ("20", 3, "release 20|x|0|1"),
+        ("4294967298", 3, "release 4294967298|x|0|1"),
+        ("18446744073709551618", 3, "release 18446744073709551618|x|0|1"),
+        ("long", 3, "release 1%s|x|0|1" % ("0" * 5000)),
+        ("7-nine-names", 2, "release 7|a b c d e f g h i|0|1"),
+        ("7-wrong-name", 3, "release 7|if|0|1"),
+        ("7-low-above-high", 3, "release 7|x|1|0"),
+        ("nine-names", 2, "release 2|a b c d e f g h i|0|1"),
+        ("02", 3, "release 02|x|0|1"),
+        ("02-as-names", 3, "release 02|0 0|1 1"),
+        ("-0", 3, "release -0|x|0|1"),
+        ("+2", 3, "release +2|x|0|1"),
+        ("brackets", 3, "release (2)|x|0|1"),
+        ("in-brackets", 3, "(release 2)|x|0|1"),
+        ("2-3", 3, "release 2 3|x|0|1"),
+        ("2-2-2-seven-more", 2, "release 2 2 2 2 2 2 2 2|x|0|1"),
+        ("twice", 3, "release 2|release 2|x|0|1"),
+        ("twice-other", 3, "release 1|release 2|x|0|1"),
+        ("behind", 3, "x|0|1|release 2"),
+        ("behind-names", 3, "x|release 2|0|1"),
+        ("blank-before", 3, "|release 2|x|0|1"),
+        ("blank-behind", 3, "release 2||x|0|1"),
+        ("alone", 3, "release 2"),
+        ("alone-ended", 3, "release 2|"),
+        ("no-highs", 3, "release 2|x|0"),
+        ("capital", 3, "Release 2|x|0|1"),
+        ("run-together", 3, "release2|x|0|1"),
+        ("other-word", 3, "releases 2|x|0|1"),
+        ("shorter-word", 3, "releas 2|x|0|1"),
+        ("integer-first", 3, "2 release|x|0|1"),
+        ("stream", 0, "release|0|1|release == 1"),
+        ("two-streams", 0, "release x|0 0|1 1|release == x"),
+        ("stream-behind", 0, "release 2|release|-1|1|release / 2 <= 0"),
+        ("two-streams-behind", 0, "release 2|release x|0 0|1 1|release == x"),
+        ("stream-twice", 4, "release release|0 0|1 1"),
+        ("in-rule", 4, "release 2|x|0|1|release == x"),
+        ("integer-in-rule", 3, "release 2|x|0|1|release 2"),
+        ("tabulator", 1, "release\t2|x|0|1"),
+        ("return", 1, "release 2\r|x|0|1"),
+        ("wrong-name", 4, "release 2|if|0|1"),
+        ("low-above-high", 5, "release 2|x|1|0"),
+        ("letters", 7, "release 2|x|0|1024"),
+        ("letters-1024", 0, "release 2|x|0|1023"),
+    )
+    sheets = [("release-line-" + name, refusal, text.split("|"))
+              for name, refusal, text in cases]
+    return sheets + [("release-" + name, refusal, lines)
+                     for name, refusal, lines in (
+        ("32-constraints", 0, two(*["x >= 0"] * 32)),
+        ("33-constraints", 2, two(*["x >= 0"] * 33)),
+        ("kinds-32-constraints", 0, two("read", *["x >= 0"] * 32)),
+        ("7-33-constraints", 2, with_release(7, one_stream(*["x >= 0"] * 33))),
+        ("7-32-constraints", 3, with_release(7, one_stream(*["x >= 0"] * 32))),
+        ("1024-tokens", 0, two(chain("not", 1021) + " == 0")),
+        ("1025-tokens", 2, two(chain("not", 1022) + " == 0")),
+        ("brackets-33", 2, two(nested(33) + " == 0")),
+        ("2000-tokens", 2, ["release" + " 2" * 2000, "x", "0", "1"]),
+        # "a remainder's is ±k with k the divisor's M less 1, not below 0"
+        ("interval-one", 0, with_release(1, one_stream(
+            "( x % 12 ) * 100000000 >= -1", high=5))),
+        ("interval-two", 6, two("( x % 12 ) * 100000000 >= -1", high=5)),
+        ("interval-top", 0, two("( x % 11 ) * 100000000 >= -1", high=5)),
+        ("interval-low-end", 6, two("( x % 4 ) - 999999998 <= 0", high=9)),
+        ("interval-low-end-top", 0, two("( x % 4 ) - 999999997 <= 0", high=9)),
+        ("interval-high-end", 6, two("( x % 4 ) + 999999998 >= 0", low=-9,
+                                     high=-1)),
+        ("interval-high-end-top", 0, two("( x % 4 ) + 999999997 >= 0",
+                                         low=-9, high=-1)),
+        ("interval-by-negative", 6, two("( x % -4 ) * 333333334 <= 1")),
+        ("interval-by-negative-top", 0, two("( x % -4 ) * 333333333 <= 1")),
+        ("interval-by-range", 6, two("( 1 % x ) * 250000001 <= 1", low=-5,
+                                     high=3)),
+        ("interval-by-range-top", 0, two("( 1 % x ) * 250000000 <= 1",
+                                         low=-5, high=3)),
+        ("interval-by-0", 0, two("( x % 0 ) * 1000000000 == 0", high=1000)),
+        ("interval-by-1", 0, two("( x % 1 ) * 1000000000 == 0", high=1000)),
+        ("interval-quotient", 6, two("( x / 2 ) - 999999996 <= 0", high=5)),
+        ("interval-quotient-top", 0, two("( x / 2 ) - 999999995 <= 0",
+                                         high=5)),
+        ("interval-added", 0, two("next ( x % 5 ) == 0 fby ( x / 3 )", low=-2,
+                                  high=2)),
+    )]
+
+
 def length_bound_sheets():
     """16,384 and 16,385 bytes; these are bytes already."""
     lines = one_stream("x == x")
     return [("bytes-16384", 0, padded(lines, 16384)),
             ("bytes-16385", 1, padded(lines, 16385)),
             ("bytes-16384-newlines", 2, b"\n" * 16384),
-            ("bytes-16385-newlines", 1, b"\n" * 16385)]
+            ("bytes-16385-newlines", 1, b"\n" * 16385),
+            # "Its bytes count for 1"
+            ("bytes-16384-release", 0, padded(with_release(2, lines), 16384)),
+            ("bytes-16385-release", 1, padded(with_release(2, lines), 16385))]
 
 
 def bound_sheets():
@@ -569,6 +694,13 @@ def bound_sheets():
     return [(name, refusal, sheet_bytes(lines))
             for group in groups for name, refusal, lines in group
             ] + length_bound_sheets()
+
+
+def release_sheets():
+    """The same of sheets about the release line and the intervals of release
+    2."""
+    return [(name, refusal, sheet_bytes(lines))
+            for name, refusal, lines in release_line_sheets()]
 
 
 def counted_sheets():
@@ -624,7 +756,9 @@ def large_table_sheets():
 
 def main(seed, count):
     sheets = (random_sheets(seed, count) + division_sheets(seed, count)
-              + [(name, sheet) for name, _, sheet in bound_sheets()]
+              + random_release_sheets(seed, count)
+              + [(name, sheet) for name, _, sheet
+                 in bound_sheets() + release_sheets()]
               + counted_sheets() + large_table_sheets())
     print_sheets(sheets)
 

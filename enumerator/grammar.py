@@ -30,6 +30,9 @@ COMPARISON_WORDS = ("lt", "le", "eq", "ge", "gt", "ne")
 OPERATOR_WORDS = COMPARISON_WORDS + ("and", "or", "fby")
 OPERATORS = ARITHMETIC + OPERATOR_WORDS
 PREFIXES = ("first", "next", "not")
+# What a sheet of release 2 means by `/` and `%` (document 02, S-11): two more
+# operators, which no token spells.
+ROUNDED_DOWN = {"/": "/ rounded down", "%": "% rounded down"}
 # "Reserved words: all operator words, `if then else first next not until`";
 # of `read` and `set` document 02 (S-6): "Both words are reserved now".
 CONSTRAINT_WORDS = (OPERATOR_WORDS + ("if", "then", "else") + PREFIXES
@@ -190,13 +193,35 @@ def all_subexpressions(constraints):
             for expression in subexpressions(side)]
 
 
+def rounded_down(expression):
+    """The expression with the quotient and the remainder rounded down wherever
+    it has those of release 1."""
+    kind = type(expression)
+    if kind is Unary:
+        return expression._replace(operand=rounded_down(expression.operand))
+    if kind is Binary:
+        return expression._replace(
+            word=ROUNDED_DOWN.get(expression.word, expression.word),
+            left=rounded_down(expression.left),
+            right=rounded_down(expression.right))
+    if kind is Conditional:
+        return Conditional(*map(rounded_down, expression))
+    return expression
+
+
 def is_word(expression, word):
     """Whether the expression is formed by the given operator word."""
     return type(expression) in (Unary, Binary) and expression.word == word
 
 
+def spelled(word):
+    """The token that stands for an operator in a sheet of its release."""
+    return {down: token for token, down in ROUNDED_DOWN.items()}.get(word, word)
+
+
 def expression_text(expression):
-    """A text that reads as the expression, with every compound bracketed."""
+    """A text that reads as the expression in a sheet of its release, with every
+    compound bracketed."""
     kind = type(expression)
     if kind is Integer:
         return str(expression.value)
@@ -206,7 +231,7 @@ def expression_text(expression):
     if kind is Unary:
         return "( %s %s )" % (expression.word, texts[0])
     if kind is Binary:
-        return "( %s %s %s )" % (texts[0], expression.word, texts[1])
+        return "( %s %s %s )" % (texts[0], spelled(expression.word), texts[1])
     return "( if %s then %s else %s )" % tuple(texts)
 
 

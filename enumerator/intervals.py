@@ -1,7 +1,7 @@
 """Intervals, reach and back: numbers that document 01 reads off a tree."""
 
-from grammar import (COMPARISON_WORDS, Conditional, Integer, Name,
-                     all_subexpressions, is_word, operands, sides)
+from grammar import (COMPARISON_WORDS, ROUNDED_DOWN, Conditional, Integer,
+                     Name, all_subexpressions, is_word, operands, sides)
 
 TRUTH_WORDS = COMPARISON_WORDS + ("and", "or", "not")
 
@@ -31,6 +31,13 @@ def remainder_interval(dividend, divisor):
     return (0 if low >= 0 else -bound), (0 if high <= 0 else bound)
 
 
+def remainder_down_interval(divisor):
+    """"a remainder's is ±k with k the divisor's M less 1, not below 0"
+    (document 02, S-11)"""
+    bound = max(largest_magnitude(divisor) - 1, 0)
+    return -bound, bound
+
+
 def largest_magnitude(ends):
     """"M the larger magnitude of the [..] ends" """
     return max(abs(end) for end in ends)
@@ -50,11 +57,14 @@ def interval(expression, ranges):
     if word in TRUTH_WORDS:
         return 0, 1
     inner = [interval(operand, ranges) for operand in operands(expression)]
-    if word == "/":
+    # In release 2 "A quotient's interval is as before".
+    if word in ("/", ROUNDED_DOWN["/"]):
         magnitude = largest_magnitude(inner[0])
         return -magnitude, magnitude
     if word == "%":
         return remainder_interval(*inner)
+    if word == ROUNDED_DOWN["%"]:
+        return remainder_down_interval(inner[1])
     if word in ("+", "-", "*"):
         return ends_interval(word, *inner)
     # What is left is `first`, `next` and `fby`.

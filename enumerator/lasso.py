@@ -9,7 +9,7 @@ there is none (document 02, S-5).
 from collections import namedtuple
 from math import lcm
 
-from grammar import Binary, Conditional, Integer, Name
+from grammar import ROUNDED_DOWN, Binary, Conditional, Integer, Name
 
 # A word of letter numbers, or a course of values: the prefix, then the loop
 # again and again.
@@ -33,13 +33,15 @@ def cut_quotient(a, b):
 
 def operated(word, a, b):
     """What an operator makes of two numbers."""
-    if word in ("/", "%") and b == 0:
+    if word in ("/", "%", *ROUNDED_DOWN.values()) and b == 0:
         return ()
     if word in WORD_SIGNS:
         return (int(HOLDS[WORD_SIGNS[word]](a, b)),)
     return {"+": lambda: (a + b,), "-": lambda: (a - b,),
             "*": lambda: (a * b,), "/": lambda: (cut_quotient(a, b),),
             "%": lambda: (a - b * cut_quotient(a, b),),
+            ROUNDED_DOWN["/"]: lambda: (a // b,),
+            ROUNDED_DOWN["%"]: lambda: (a % b,),
             "and": lambda: (int(0 not in (a, b)),),
             "or": lambda: (int((a, b) != (0, 0)),)}[word]()
 

@@ -1,5 +1,6 @@
 """Document 01, "Meaning at time i (from 0)", with document 02, S-5: a quotient
-or remainder with divisor 0 has no value.
+or remainder with divisor 0 has no value; and S-11: in release 2 a quotient is
+rounded down.
 
 A valuation is a function that gives the value of a named stream at a time.
 Python's None is document 02's "none".
@@ -7,7 +8,8 @@ Python's None is document 02's "none".
 
 import operator
 
-from grammar import COMPARISON_SIGNS, Conditional, Integer, Name
+from grammar import (COMPARISON_SIGNS, ROUNDED_DOWN, Conditional, Integer,
+                     Name)
 
 COMPARE = {"lt": operator.lt, "le": operator.le, "eq": operator.eq,
            "ge": operator.ge, "gt": operator.gt, "ne": operator.ne}
@@ -32,9 +34,27 @@ def remainder(dividend, divisor):
     return dividend - divisor * quotient(dividend, divisor)
 
 
+def quotient_down(dividend, divisor):
+    """"quotients rounded down": "−7 / 2 is −4".  It is the quotient cut toward
+    zero, less 1 where that lies above the exact quotient."""
+    if divisor == 0:
+        return None
+    cut = quotient(dividend, divisor)
+    beyond = cut * divisor - dividend
+    return cut - 1 if beyond * divisor > 0 else cut
+
+
+def remainder_down(dividend, divisor):
+    """"−7 % 2 is 1, the remainder having the divisor's sign"."""
+    if divisor == 0:
+        return None
+    return dividend - divisor * quotient_down(dividend, divisor)
+
+
 POINTWISE = {
     "+": operator.add, "-": operator.sub, "*": operator.mul,
     "/": quotient, "%": remainder,
+    ROUNDED_DOWN["/"]: quotient_down, ROUNDED_DOWN["%"]: remainder_down,
     "and": lambda a, b: int(a != 0 and b != 0),
     "or": lambda a, b: int(a != 0 or b != 0),
     **{word: (lambda a, b, holds=holds: int(holds(a, b)))

@@ -11,7 +11,7 @@ from grammar import (OPERATORS, Binary, Conditional, Constraint, Name, Unary,
                      constraint_text, expression_readings, is_word, operands,
                      outer_places, partner_of_first)
 from intervals import interval
-from reading import kinds_and_constraints, ranges
+from reading import kinds_and_constraints, ranges, release_and_rest
 
 SIGNS = ["<", "<=", "==", ">=", ">", "!=", "->", "until"]
 EQUAL = SIGNS.index("==")
@@ -36,7 +36,8 @@ def constraint_tokens(text):
     for line in text.split(b"\n"):
         lines.append(placed_tokens(text, start, start + len(line)))
         start += len(line) + 1
-    return [tokens for tokens in kinds_and_constraints(lines)[1] if tokens]
+    _, further = kinds_and_constraints(release_and_rest(lines)[1])
+    return [tokens for tokens in further if tokens]
 
 
 def part_tokens(expression, tokens):

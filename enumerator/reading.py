@@ -11,8 +11,8 @@ from math import prod
 import limits
 from grammar import (RESERVED, STREAM_KINDS, Integer, Name,
                      all_subexpressions, bracket_levels, constraint_readings,
-                     has_integer_form, has_name_form, split_lines,
-                     split_tokens)
+                     has_integer_form, has_name_form, rounded_down,
+                     split_lines, split_tokens)
 from intervals import deepest_back, deepest_reach, firsts, interval, untils
 
 Sheet = namedtuple("Sheet", "names lows highs kinds constraints")
@@ -23,6 +23,29 @@ def token_lines(text):
             for number, line in enumerate(split_lines(text))]
 
 
+def says_release(tokens):
+    """"Only a first line of `release` and one integer is such a line"
+    (document 02, S-11)."""
+    return (len(tokens) == 2 and tokens[0].text == "release"
+            and has_integer_form(tokens[1].text))
+
+
+def release_and_rest(lines):
+    """The release that the first line says, 1 without such a line, and the
+    lines "from the names as before"."""
+    if lines and says_release(lines[0]):
+        return int(lines[0][1].text), lines[1:]
+    return 1, lines
+
+
+def of_release(constraint, release):
+    """The constraint as a sheet of the release means it."""
+    if release == 1:
+        return constraint
+    return constraint._replace(left=rounded_down(constraint.left),
+                               right=rounded_down(constraint.right))
+
+
 def says_kinds(tokens):
     """Whether the line says which streams are read and which are set: it is
     "known by `read` or `set` as its first token" (document 02, S-6)."""
@@ -30,8 +53,9 @@ def says_kinds(tokens):
 
 
 def kinds_and_constraints(lines):
-    """The line of kinds, or None, and the constraint lines.  "An optional
-    line after the highest values"; "Every further line is one constraint"."""
+    """The line of kinds, or None, and the constraint lines, of the lines from
+    the names on.  "An optional line after the highest values"; "Every further
+    line is one constraint"."""
     further = lines[3:]
     if further and says_kinds(further[0]):
         return further[0], further[1:]
@@ -64,9 +88,11 @@ def integers_line(tokens, count):
 
 
 def form(text):
-    """The sheet that the text has the form of, or None."""
-    lines = token_lines(text)
-    if len(lines) < 3:
+    """The sheet that the text has the form of, or None.  "A sheet without the
+    line, or with `release 1`, reads as it always did [..] Any other number is
+    3." """
+    release, lines = release_and_rest(token_lines(text))
+    if release not in (1, 2) or len(lines) < 3:
         return None
     names = names_line(lines[0])
     if names is None:
@@ -79,7 +105,7 @@ def form(text):
     if None in (lows, highs, kinds) or not all(readings):
         return None
     return Sheet(names, lows, highs, kinds,
-                 [reading[0] for reading in readings])
+                 [of_release(reading[0], release) for reading in readings])
 
 
 def ranges(sheet):
@@ -103,8 +129,8 @@ def has_too_much_text(text):
     """Refusal 2: "over 8 tokens in line 1, 32 lines after line 3, 1,024
     tokens in them, or, up to some place in one of them, more than 32 more
     `(` than `)`."  It "does not count this line", that of kinds, "or its
-    tokens"."""
-    lines = token_lines(text)
+    tokens", and "lines are counted from the names"."""
+    _, lines = release_and_rest(token_lines(text))
     _, further = kinds_and_constraints(lines)
     return (len(lines) > 0 and len(lines[0]) > limits.STREAMS
             or len(further) > limits.CONSTRAINTS

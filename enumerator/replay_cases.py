@@ -8,6 +8,8 @@ from replay_check import drawn_case
 # "x until y" has two states: 0 before y, 1 from then on.
 UNTIL = b"x y\n0 0\n1 1\nx until y"
 KINDS = b"x y\n0 0\n1 1\nread set\nx until y"
+# Halved, rounded down, until it stays (document 02, S-11).
+HALVED = b"release 2\nlevel\n-5\n5\nnext level == level / 2\n1 until ( level eq -1 )"
 STEADY = b"a\n-3\n4\nnext a != a\n1 until ( a lt 0 )"
 THREE = b"p q r\n0 -1 5\n0 1 6\n( p + q ) <= r"
 # One letter a line; sheets of one stream and of eight.
@@ -71,6 +73,14 @@ def chosen_cases():
         (KINDS, lines(b"x y", b"1 0", b"0 1", b"0 0"), None), (KINDS, lines(b"x y", b"1 0", b"0 0"), None),
         (KINDS, lines(b"x y", b"read set", b"1 0"), None), (KINDS, lines(b"x y", b"0 0"), b"1"),
         (b"x\n0\n1\nread set", b"x\n0", None), (b"read\n0\n1", b"read\n0", None),
+        # so does the release (document 02, S-11)
+        (HALVED, lines(b"level", b"-5", b"-3", b"-2", b"-1", b"-1"), None),
+        (HALVED, lines(b"level", b"-5", b"-2"), None),
+        (HALVED, lines(b"release 2", b"level", b"-5"), None),
+        (HALVED, lines(b"level", b"-3"), b"1"),
+        (b"release 3\n" + UNTIL, lines(b"x y", b"0 1"), None),
+        (b"release 1\n" + UNTIL, lines(b"x y", b"1 0", b"0 1", b"0 0"), None),
+        (b"release x\n0 0\n1 1\nrelease until x", lines(b"release x", b"1 0", b"0 1"), None),
     ]
     return cases
 

@@ -2,7 +2,7 @@
 determines what is given."""
 
 from generate import random_kinds_sheets, random_sheets
-from replay_cases import EIGHT, LONG, ONE, STEADY, THREE, UNTIL
+from replay_cases import EIGHT, HALVED, LONG, ONE, STEADY, THREE, UNTIL
 from shortest import shortest
 
 # From state 0 two letters, by way of state 1 to state 2: in number order first
@@ -46,6 +46,11 @@ def kinds_cases():
             + [(GATES, start) for start in (None, b"1", b"2", b"3", b"4")])
 
 
+def release_cases():
+    """A sheet of release 2."""
+    return [(HALVED, start) for start in (None, b"1", b"2", b"3")]
+
+
 def is_long(case):
     """The course has letters."""
     return shortest(*case).count(b"\n") > 1
@@ -61,4 +66,5 @@ def drawn_cases(drawn, most):
 def shortest_cases(seed, sheets, most):
     return (chosen_cases() + drawn_cases(random_sheets(seed, sheets), most)
             + kinds_cases()
-            + drawn_cases(random_kinds_sheets(seed, sheets), most))
+            + drawn_cases(random_kinds_sheets(seed, sheets), most)
+            + release_cases())

@@ -27,6 +27,9 @@ MORE = (
     "|1 until ( x eq 4 )",
     # more situations than the rows that are lent
     countdown(1000), gauged_countdown(300), "r x|0 0|15 15|read set|next x == r",
+    # a sheet of release 2, and the same in release 1 (document 02, S-11)
+    "release 2|level mark|-4 -2|3 1|read set|mark == level / 2",
+    "level mark|-4 -2|3 1|read set|mark == level / 2",
     # the sheet's own numbers
     "", "x", "x|0|1|read read", "read|0|1", "x|0|1024|read", "x|1|0|read",
     "x|0|1|read|1 until 0",

@@ -20,8 +20,9 @@ class PrintedGame:
     values in order, its lines with the next states."""
 
     def __init__(self, sheet_text, table_text):
-        names, lows, highs, *more = (
-            line.split() for line in sheet_text.decode("latin-1").split("\n"))
+        lines = [line.split() for line in sheet_text.decode("latin-1").split("\n")]
+        behind = lines[0] in (["release", "1"], ["release", "2"])
+        names, lows, highs, *more = lines[behind:]
         said = bool(more) and more[0][:1] in (["read"], ["set"])
         kinds = more[0] if said else ["set"] * len(names)
         self.table, self.kinds = Printed(table_text), kinds

@@ -21,7 +21,8 @@ from examples import EXAMPLES
 from game import choices, game_analysed, kept_rows, letter_choices, play_table
 from game_cases import game_cases
 from generate import (bound_sheets, counted_sheets, division_sheets,
-                      large_table_sheets, random_kinds_sheets, random_sheets)
+                      large_table_sheets, random_kinds_sheets,
+                      random_release_sheets, random_sheets, release_sheets)
 from grammar import constraint_text
 from histogram import histogram
 from histogram_cases import histogram_cases
@@ -48,6 +49,7 @@ SEED = 1
 RANDOM_SHEETS = 400
 DIVISION_SHEETS = 100
 RANDOM_KINDS_SHEETS = 40
+RANDOM_RELEASE_SHEETS = 60
 # Of the drawn sheets, one in so many has normal forms.
 NORMAL_STRIDE = 3
 DAMAGED_EACH = 16
@@ -85,7 +87,9 @@ def drawn_sheets():
             + [(name, text) for name, _, text in spelling_sheets()]
             + damaged_sheets(SEED, DAMAGED_EACH)
             + division_sheets(SEED, DIVISION_SHEETS)
-            + random_kinds_sheets(SEED, RANDOM_KINDS_SHEETS))
+            + random_kinds_sheets(SEED, RANDOM_KINDS_SHEETS)
+            + [(name, text) for name, _, text in release_sheets()]
+            + random_release_sheets(SEED, RANDOM_RELEASE_SHEETS))
 
 
 def is_small(analysis):

@@ -12,8 +12,11 @@
  * and the records behind them are zero. With a refusal 1 to 7, or 10 where the list is shorter than the entries, the other
  * numbers are 0 and the whole list is zero, byte for byte: a record has no bytes between its fields.
  *
- * A record's fields, by its kind. Streams are numbered from 0, the sheet's own first, in the order of line 1. A span is a
+ * A record's fields, by its kind. Streams are numbered from 0, the sheet's own first, in the order of the names. A span is a
  * pair of places in the sheet's bytes, from 0: an expression's text from `begin` to before `end`, without brackets around it.
+ * The bytes are counted from the sheet's first one, also where its first line says its release. The text of a span is read
+ * as the sheet is: in a sheet of release 2 a `/` there is a quotient rounded down and a `%` a remainder with the divisor's
+ * sign, else a quotient cut toward zero and a remainder with the dividend's sign.
  *   kind 1  a rewritten constraint: `left_begin` to `left_end`, the sign, `right_begin` to `right_end`.
  *           `relation` is the sign's place among < <= == >= > != ->, from 0.
  *   kind 2  stream `left` until stream `right`; `relation` is 7.

@@ -1,6 +1,6 @@
 /* streams.h: streams as calls from C describe them.
  *
- * The first `count` places of each list are used, one a stream, in the order of the sheet's line 1. Stream k has the name in the
+ * The first `count` places of each list are used, one a stream, in the order of the sheet's names. Stream k has the name in the
  * first `lengths[k]` bytes from `names + STREAMS_NAME * k` on, without a byte behind them that ends it, the lowest value `lows[k]`,
  * the highest `highs[k]`, and the kind `kinds[k]`. What a call gives back is zero behind what is used; a call that
  * is given streams does not look there.

@@ -17,6 +17,8 @@ enum { KEY = 16, KEY_LETTERS = 1, KEY_FIRSTS = 7, KEY_MARKS = 15, ROWS = 4096 };
 // What an expression is evaluated in: the letters that are known, one after the other, and, in a record that was cut, the firsts.
 typedef struct { const sheet *s; const int64_t *window, *firsts; int whole; } view;
 
+static int is_opposite(int64_t a, int64_t b) { return a && (a < 0) != (b < 0); }
+
 static int64_t applied(uint8_t kind, int64_t a, int64_t b) {
     if (a == ABSENT || b == ABSENT) return ABSENT;
     switch (kind) {
@@ -32,7 +34,9 @@ static int64_t applied(uint8_t kind, int64_t a, int64_t b) {
     case GT: return a > b;
     case NE: return a != b;
     case AND: return a && b;
-    default: return a || b;
+    case OR: return a || b;
+    case FLOORED_DIVIDE: return b ? a / b - is_opposite(a % b, b) : ABSENT;
+    default: return b ? a % b + (is_opposite(a % b, b) ? b : 0) : ABSENT;
     }
 }
 

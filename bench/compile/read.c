@@ -66,6 +66,7 @@ static uint64_t word(span token) {
 #define W3(a, b, c) (W2(b, c) * 256 + (a))
 #define W4(a, b, c, d) (W3(b, c, d) * 256 + (a))
 #define W5(a, b, c, d, e) (W4(b, c, d, e) * 256 + (a))
+#define W7(a, b, c, d, e, f, g) ((W5(c, d, e, f, g) * 256 + (b)) * 256 + (a))
 
 static uint8_t operator_of(span token) {
     switch (word(token)) {
@@ -277,6 +278,24 @@ static int read_streams(sheet *s, span names, span lows, span highs, int *faulty
     }
 }
 
+// The release that a line says, or 0 where it says none; a number that is no release's is given as 3.
+static int release_of(span line) {
+    int64_t number;
+    int beyond = 0;
+    span first = next_token(&line), second = next_token(&line);
+    if (word(first) != W7('r', 'e', 'l', 'e', 'a', 's', 'e') || !is_empty(next_token(&line))) return 0;
+    if (!read_integer(second, &number, &beyond)) return 0;
+    return !beyond && (number == 1 || number == 2) ? (int)number : 3;
+}
+
+// The quotients and remainders of release 2 in the place of those that were read.
+static void round_down(sheet *s) {
+    for (size_t i = 0; i < s->nodes; i++) {
+        if (s->kinds[i] == DIVIDE) s->kinds[i] = FLOORED_DIVIDE;
+        else if (s->kinds[i] == REMAINDER) s->kinds[i] = FLOORED_REMAINDER;
+    }
+}
+
 // The kind of a stream that a token says: 0 for set, 1 for read.
 static uint8_t stream_kind_of(span token) {
     switch (word(token)) {
@@ -341,12 +360,13 @@ static summary operated(uint8_t kind, summary a, summary b) {
     summary x = joined(a, b);
     if (!x.ok) return x;
     int64_t most = magnitude(a);
-    int64_t left = least(most, greatest(magnitude(b) - 1, 0));
+    int64_t divisor = greatest(magnitude(b) - 1, 0), left = least(most, divisor);
     switch (kind) {
     case ADD: return within(x, a.low + b.low, a.high + b.high);
     case SUBTRACT: return within(x, a.low - b.high, a.high - b.low);
     case MULTIPLY: return over_ends(x, a.low * b.low, a.low * b.high, a.high * b.low, a.high * b.high);
-    case DIVIDE: return within(x, -most, most);
+    case DIVIDE: case FLOORED_DIVIDE: return within(x, -most, most);
+    case FLOORED_REMAINDER: return within(x, -divisor, divisor);
     case REMAINDER: return within(x, a.low >= 0 ? 0 : -left, a.high <= 0 ? 0 : left);
     default: return within(x, 0, 1);
     }
@@ -413,16 +433,20 @@ uint32_t read_sheet(const uint8_t *text, size_t length, sheet *s) {
     s->streams = s->constraints = s->nodes = s->untils = s->firsts = 0;
     for (size_t k = 0; k < STREAMS; k++) s->stream_kinds[k] = 0;
     if (bytes_refused(all)) return 1;
+    span behind = rest;
+    int release = release_of(next_line(&behind));
+    if (release) rest = behind;
     span names = next_line(&rest), lows = next_line(&rest);
     int whole = !is_empty(rest);
     span highs = next_line(&rest), after = rest, fourth = next_line(&after), first = fourth;
     int said = stream_kind_of(next_token(&first)) != NO_WORD;
     if (said) rest = after;
     if (lines_refused(names, rest)) return 2;
-    if (!whole || !read_streams(s, names, lows, highs, &faulty)) return 3;
+    if (release > 2 || !whole || !read_streams(s, names, lows, highs, &faulty)) return 3;
     if (said && !read_kinds(s, fourth)) return 3;
     reader r = { names, s, 0 };
     while (!is_empty(rest)) if (!constraint(&r, next_line(&rest))) return 3;
+    if (release == 2) round_down(s);
     if (names_refused(names) || some_unknown(s)) return 4;
     if (faulty || r.beyond) return 5;
     if (!find_extent(s)) return 6;

@@ -125,7 +125,7 @@ def read_back(line, own):
 
 def printed_difference(text, wanted):
     printed = subprocess.run([str(PROGRAM)], input=text, check=True, stdout=subprocess.PIPE).stdout.splitlines()
-    own = len(text.split(b"\n")[0].split())
+    own = len(read(text)[1].names)
     if [read_back(line, own) for line in printed] != wanted["entries"]:
         return "what the example prints"
     ranges = {(int(stream) - own, int(low), int(high))

@@ -47,7 +47,7 @@ decodes-evaluated (number z) = decodes-bounded z
 
 pub decodes-applied : (k : ℕ) (a b : ℤ) → Decodes (appliedByKind k a b)
 decodes-applied k a b =
-    decodes-cond (leb 7 k && ltb k 20) (decodes-cond (inBound a && inBound b) (decodes-evaluated (applyNumbers (operatorAt k) a b)) decodes-none) decodes-none
+    decodes-cond (leb 7 k && ltb k 22) (decodes-cond (inBound a && inBound b) (decodes-evaluated (applyNumbers (operatorAt k) a b)) decodes-none) decodes-none
 
 -- ---- results that need no test
 

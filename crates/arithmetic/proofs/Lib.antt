@@ -1,3 +1,4 @@
 pub mod Machine
 pub mod Operators
+pub mod Floored
 pub mod Coded

@@ -10,7 +10,7 @@ use borrow.Author.Tests.{leb-true, le-leb, lt-leb, lt-ltb, le-ltb}
 use mir.Syntax.{w64}
 use mir.Val.{SFits}
 use mir.ValLaws.{toZ-ofZ}
-use Rattle.meaning.specs.Arithmetic.{Operator, or, applyNumbers}
+use Rattle.meaning.specs.Arithmetic.{Operator, flooredRemainder, applyNumbers}
 use Rattle.nodes.specs.Bounded.{inBound, Small, noValue, bounded, evaluated, operatorsByKind, operatorAt, appliedByKind}
 use Rattle.arithmetic.specs.Coded.{coded}
 use Rattle.arithmetic.proofs.Machine.{held, held-both}
@@ -28,16 +28,16 @@ applied-kind {k} {a} {b} {r} fa fb fr n e h =
 pub later : {n k : ℕ} → n ≤ k → (k ≡ n → ⊥) → suc n ≤ k
 later h e = omega arith
 
-pub operatorAt-last : (k : ℕ) → 19 ≤ k → operatorAt k ≡ or
-operatorAt-last k h = by (ℕ-discrete (k - 7) 12)
+pub operatorAt-last : (k : ℕ) → 21 ≤ k → operatorAt k ≡ flooredRemainder
+operatorAt-last k h = by (ℕ-discrete (k - 7) 14)
   where
-    by : Dec (k - 7 ≡ 12) → operatorAt k ≡ or
-    by (yes e) = ap (λ i. getD operatorsByKind i or) e
-    by (no e) = List·getD-eq-default operatorsByKind or {n = k - 7} (omega arith)
+    by : Dec (k - 7 ≡ 14) → operatorAt k ≡ flooredRemainder
+    by (yes e) = ap (λ i. getD operatorsByKind i flooredRemainder) e
+    by (no e) = List·getD-eq-default operatorsByKind flooredRemainder {n = k - 7} (omega arith)
 
-pub applied-last : {k : ℕ} {a b r : ℤ} → SFits w64 a → SFits w64 b → SFits w64 r → 19 ≤ k → r ≡ codedApply or (held a) (held b) → held r ≡ codedApply (operatorAt k) a b
+pub applied-last : {k : ℕ} {a b r : ℤ} → SFits w64 a → SFits w64 b → SFits w64 r → 21 ≤ k → r ≡ codedApply flooredRemainder (held a) (held b) → held r ≡ codedApply (operatorAt k) a b
 applied-last {k} {a} {b} {r} fa fb fr l h =
-    toZ-ofZ w64 r fr ∙ h ∙ held-both (codedApply or) a b fa fb ∙ ap (λ o. codedApply o a b) (sym (operatorAt-last k l))
+    toZ-ofZ w64 r fr ∙ h ∙ held-both (codedApply flooredRemainder) a b fa fb ∙ ap (λ o. codedApply o a b) (sym (operatorAt-last k l))
 
 -- ---- operands within the bound
 
@@ -63,17 +63,17 @@ module _ (k : ℕ) (a b : ℤ) where
   pub byKind-low : k < 7 → noValue ≡ appliedByKind k a b
   byKind-low h = simp (lt-leb 7 k h)
 
-  pub byKind-high : 7 ≤ k → 19 < k → noValue ≡ appliedByKind k a b
-  byKind-high l h = simp (le-leb 7 k l, le-ltb k 20 h)
+  pub byKind-high : 7 ≤ k → 21 < k → noValue ≡ appliedByKind k a b
+  byKind-high l h = simp (le-leb 7 k l, le-ltb k 22 h)
 
-  module _ (l : 7 ≤ k) (h : k ≤ 19) where
+  module _ (l : 7 ≤ k) (h : k ≤ 21) where
     pub byKind-bounded : SFits w64 a → SFits w64 b → inBound a ≡ true → inBound b ≡ true
         → evaluated (applyNumbers (operatorAt k) (held a) (held b)) ≡ appliedByKind k a b
     byKind-bounded fa fb p q =
-        held-both (λ x y. evaluated (applyNumbers (operatorAt k) x y)) a b fa fb ∙ sym (simp (le-leb 7 k l, lt-ltb k 20 (omega arith), p, q))
+        held-both (λ x y. evaluated (applyNumbers (operatorAt k) x y)) a b fa fb ∙ sym (simp (le-leb 7 k l, lt-ltb k 22 (omega arith), p, q))
 
     pub byKind-left : inBound a ≡ false → noValue ≡ appliedByKind k a b
-    byKind-left p = simp (le-leb 7 k l, lt-ltb k 20 (omega arith), p)
+    byKind-left p = simp (le-leb 7 k l, lt-ltb k 22 (omega arith), p)
 
     pub byKind-right : inBound a ≡ true → inBound b ≡ false → noValue ≡ appliedByKind k a b
-    byKind-right p q = simp (le-leb 7 k l, lt-ltb k 20 (omega arith), p, q)
+    byKind-right p q = simp (le-leb 7 k l, lt-ltb k 22 (omega arith), p, q)

@@ -6,7 +6,7 @@ ghost use Prim.Native.Nat.{_≤_};
 ghost use lib.IntN.{_+ℤ_, _-ℤ_, _*ℤ_};
 ghost use lib.Signed.{ltZ, leZ};
 ghost use Rattle.meaning.specs.Value.{nonzero, bit, compares, equal};
-ghost use Rattle.meaning.specs.Arithmetic.{divide, remainder, applyNumbers};
+ghost use Rattle.meaning.specs.Arithmetic.{divide, remainder, flooredDivide, flooredRemainder, areOpposite, applyNumbers};
 ghost use Rattle.arithmetic.specs.Coded.{coded};
 ghost use Rattle.nodes.specs.Bounded.{inBound, Small, noValue, bounded, evaluated, operatorAt, appliedByKind};
 
@@ -105,6 +105,47 @@ fn remainder(a: i64, b: i64) -> i64
     if b == 0 { no_value_coded() } else { a % b }
 }
 
+// One number is below 0 and the other above it.
+fn are_opposite(a: i64, b: i64) -> bool
+    ensures { λ r. ⌜ r ≡ areOpposite a b ⌝ }
+{
+    if a < 0 {
+        return 0 < b;
+    }
+    if b < 0 {
+        return 0 < a;
+    }
+    false
+}
+
+// "quotients rounded down": −7 / 2 is −4. By 0 there is none.
+fn floored_quotient(a: i64, b: i64) -> i64
+    requires { ⌜ Small a × Small b ⌝ }
+    ensures { λ r. ⌜ r ≡ coded (evaluated (applyNumbers flooredDivide a b)) ⌝ }
+{
+    if b == 0 {
+        return no_value_coded();
+    }
+    if are_opposite(a % b, b) {
+        return a / b - 1;
+    }
+    a / b
+}
+
+// "the remainder having the divisor's sign": −7 % 2 is 1. By 0 there is none.
+fn floored_remainder(a: i64, b: i64) -> i64
+    requires { ⌜ Small a × Small b ⌝ }
+    ensures { λ r. ⌜ r ≡ coded (evaluated (applyNumbers flooredRemainder a b)) ⌝ }
+{
+    if b == 0 {
+        return no_value_coded();
+    }
+    if are_opposite(a % b, b) {
+        return a % b + b;
+    }
+    a % b
+}
+
 pub fn less(a: i64, b: i64) -> bool
     ensures { λ r. ⌜ r ≡ ltZ a b ⌝ }
 {
@@ -123,8 +164,8 @@ pub fn same(a: i64, b: i64) -> bool
     a == b
 }
 
-// The operators by a node's kind, from 7 on in the order of document 01; every later kind is taken as the last. Only the results of
-// `+ - *` are tested, since the others are none or within the bound where the operands are.
+// The operators by a node's kind, from 7 on in the order of document 01, then those of release 2; every later kind is taken as the last. Only the
+// results of `+ - *` are tested, since the others are none or within the bound where the operands are.
 fn applied(kind: u8, a: i64, b: i64) -> i64
     requires { ⌜ (7 ≤ kind) × Small a × Small b ⌝ }
     ensures { λ r. ⌜ r ≡ coded (evaluated (applyNumbers (operatorAt kind) a b)) ⌝ }
@@ -142,7 +183,9 @@ fn applied(kind: u8, a: i64, b: i64) -> i64
         nodes::GREATER_NODE => bit(less(b, a)),
         nodes::DIFFERENT_NODE => bit(!same(a, b)),
         nodes::AND_NODE => bit(both(nonzero(a), nonzero(b))),
-        _ => bit(either(nonzero(a), nonzero(b))),
+        nodes::OR_NODE => bit(either(nonzero(a), nonzero(b))),
+        nodes::FLOORED_DIVIDE_NODE => floored_quotient(a, b),
+        _ => floored_remainder(a, b),
     }
 }
 
@@ -153,7 +196,7 @@ pub fn apply_coded(kind: u8, a: i64, b: i64) -> i64
     if kind < nodes::ADD_NODE {
         return no_value_coded();
     }
-    if nodes::OR_NODE < kind {
+    if nodes::FLOORED_REMAINDER_NODE < kind {
         return no_value_coded();
     }
     if in_bound(a) {

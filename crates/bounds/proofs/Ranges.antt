@@ -175,11 +175,11 @@ spanValues-cong a b c d = λ i. spanValues (a i) (b i) (c i) (d i)
 
 module _ (a b : Range) (ua : usable a ≡ true) (ub : usable b ≡ true) where
   -- The operator of kind k gives the number that f gives.
-  module _ (k : ℕ) (l : 7 ≤ k) (h : k < 20) (f : ℤ → ℤ → ℤ) (gives : (x y : ℤ) → applyNumbers (operatorAt k) x y ≡ number (f x y)) where
+  module _ (k : ℕ) (l : 7 ≤ k) (h : k < 22) (f : ℤ → ℤ → ℤ) (gives : (x y : ℤ) → applyNumbers (operatorAt k) x y ≡ number (f x y)) where
     end : (x y : ℤ) → inBound x ≡ true → inBound y ≡ true → {p : Evaluated} → p ≡ appliedByKind k (held x) (held y) → p ≡ bounded (f x y)
     end x y ix iy e =
         e ∙ held-both (appliedByKind k) x y (inBound-fits x ix) (inBound-fits y iy)
-        ∙ simp (le-leb 7 k l, lt-ltb k 20 h, ix, iy) (ap evaluated (gives x y))
+        ∙ simp (le-leb 7 k l, lt-ltb k 22 h, ix, iy) (ap evaluated (gives x y))
 
     ends-span : {p q r s : Evaluated} → p ≡ appliedByKind k (held (a .low)) (held (b .low)) → q ≡ appliedByKind k (held (a .low)) (held (b .high))
         → r ≡ appliedByKind k (held (a .high)) (held (b .low)) → s ≡ appliedByKind k (held (a .high)) (held (b .high)) → spanValues p q r s ≡ rangeWithin (overEnds f (intervalOf a) (intervalOf b))
@@ -271,36 +271,45 @@ less-one : (n : ℕ) → 0 < n → pos n -ℤ pos 1 ≡ pos (n - 1)
 less-one zero h = absurd (omega arith)
 less-one (suc n) h = simp (lt-leb (suc (suc n)) 1 (omega arith))
 
--- ---- the bound of a remainder, from the magnitudes that were handed on
+-- ---- the divisor's magnitude less 1, and the bound of a remainder, from the magnitudes that were handed on
+
+module _ (b : Range) (v : usable b ≡ true) where
+  abbrev less : ℕ
+  less = magnitude (intervalOf b) - 1
+
+  pub less-inBound : {m : ℤ} → m ≡ pos less → inBound m ≡ true
+  less-inBound {m} e =
+      let s = inBound-Small (pos (magnitude (intervalOf b))) (most-inBound b v refl) in
+      ap inBound e ∙ le-leb less magnitudeBound (omega arith)
+
+  -- Where the magnitude is 0.
+  pub less-none : {m : ℤ} → m ≡ pos (magnitude (intervalOf b)) → ofZ w64 m ≡ 0 → pos 0 ≡ pos less
+  less-none e z = let n : magnitude (intervalOf b) ≡ 0 = ap (ofZ w64) (sym e) ∙ z in ap pos (omega arith)
+
+  -- Where it is not.
+  module _ {m : ℤ} (e : m ≡ pos (magnitude (intervalOf b))) (z : ofZ w64 m ≡ 0 → ⊥) where
+    magnitude-less : held m -ℤ pos 1 ≡ pos less
+    magnitude-less =
+        let n : (magnitude (intervalOf b) ≡ 0 → ⊥) = λ q. z (ap (ofZ w64) (e ∙ ap pos q)) in
+        ap (λ x. x -ℤ pos 1) (toZ-ofZ w64 m (inBound-fits m (most-inBound b v e)) ∙ e) ∙ less-one (magnitude (intervalOf b)) (omega arith)
+
+    pub less-fits : SFits w64 (held m -ℤ pos 1)
+    less-fits = subst (SFits w64) (sym magnitude-less) (inBound-fits (pos less) (less-inBound refl))
+
+    pub less-is : held (held m -ℤ pos 1) ≡ pos less
+    less-is = toZ-ofZ w64 (held m -ℤ pos 1) less-fits ∙ magnitude-less
+
+  pub floored-is : {m : ℤ} → m ≡ pos less → rangeWithin (between (held (pos 0 -ℤ held m)) (held m)) ≡ rangeWithin (around less)
+  floored-is {m} e = ap₂ (λ x y. rangeWithin (between x y)) (minus-exact m (less-inBound e) ∙ ap negℤ e) (toZ-ofZ w64 m (inBound-fits m (less-inBound e)) ∙ e)
 
 module _ (a b : Range) (u : usable a ≡ true) (v : usable b ≡ true) where
   abbrev k : ℕ
   k = remainderBound (intervalOf a) (intervalOf b)
 
-  -- Where the divisor's magnitude is 0.
-  pub bound-none : {m : ℤ} → m ≡ pos (magnitude (intervalOf b)) → ofZ w64 m ≡ 0 → pos 0 ≡ pos k
-  bound-none e z = let n : magnitude (intervalOf b) ≡ 0 = ap (ofZ w64) (sym e) ∙ z in ap pos (omega arith)
-
-  -- Where it is not.
-  module _ {m : ℤ} (e : m ≡ pos (magnitude (intervalOf b))) (z : ofZ w64 m ≡ 0 → ⊥) where
-    magnitude-less : held m -ℤ pos 1 ≡ pos (magnitude (intervalOf b) - 1)
-    magnitude-less =
-        let n : (magnitude (intervalOf b) ≡ 0 → ⊥) = λ q. z (ap (ofZ w64) (e ∙ ap pos q)) in
-        ap (λ x. x -ℤ pos 1) (toZ-ofZ w64 m (inBound-fits m (most-inBound b v e)) ∙ e) ∙ less-one (magnitude (intervalOf b)) (omega arith)
-
-    less-inBound : inBound (pos (magnitude (intervalOf b) - 1)) ≡ true
-    less-inBound =
-        let s = inBound-Small (pos (magnitude (intervalOf b))) (most-inBound b v refl) in
-        le-leb (magnitude (intervalOf b) - 1) magnitudeBound (omega arith)
-
-    pub less-fits : SFits w64 (held m -ℤ pos 1)
-    less-fits = subst (SFits w64) (sym magnitude-less) (inBound-fits (pos (magnitude (intervalOf b) - 1)) less-inBound)
-
-    pub bound-is : {n r : ℤ} → n ≡ pos (magnitude (intervalOf a)) → SFits w64 r → r ≡ least (held n) (held (held m -ℤ pos 1)) → held r ≡ pos k
-    bound-is {n} {r} d f q =
-        toZ-ofZ w64 r f ∙ q
-        ∙ ap₂ least (toZ-ofZ w64 n (inBound-fits n (most-inBound a u d)) ∙ d) (toZ-ofZ w64 (held m -ℤ pos 1) less-fits ∙ magnitude-less)
-        ∙ least-pos (magnitude (intervalOf a)) (magnitude (intervalOf b) - 1)
+  pub bound-is : {n m r : ℤ} → n ≡ pos (magnitude (intervalOf a)) → m ≡ pos (magnitude (intervalOf b) - 1) → SFits w64 r → r ≡ least (held n) (held m) → held r ≡ pos k
+  bound-is {n} {m} {r} d e f q =
+      toZ-ofZ w64 r f ∙ q ∙ ap₂ least (toZ-ofZ w64 n (inBound-fits n (most-inBound a u d)) ∙ d) (toZ-ofZ w64 m (inBound-fits m (less-inBound b v e)) ∙ e)
+      ∙ least-pos (magnitude (intervalOf a)) (magnitude (intervalOf b) - 1)
 
   pub bound-inBound : {r : ℤ} → r ≡ pos k → inBound r ≡ true
   bound-inBound {r} e =
@@ -340,16 +349,24 @@ module _ (I J : Interval) where
       from P 12 (λ h. refl) (from P 13 (λ h. refl) (from P 14 (λ h. refl) (from P 15 (λ h. refl) (from P 16 (λ h. refl) (from P 17 (λ h. refl) (from P 18 (λ h. refl)
       (from P 19 (λ h. refl) (λ k l h. absurd (omega arith)))))))))
 
+-- The two that are rounded down.
+module _ (a b : Range) (k : ℕ) where
+  pub floored-around : k ≡ 20 → rangeWithin (around (magnitude (intervalOf a))) ≡ rangeWithin (operatorInterval (operatorAt k) (intervalOf a) (intervalOf b))
+  floored-around e = ap (λ j. rangeWithin (operatorInterval (operatorAt j) (intervalOf a) (intervalOf b))) (sym e)
+
+  pub floored-remainder : k ≡ 21 → rangeWithin (around (magnitude (intervalOf b) - 1)) ≡ rangeWithin (operatorInterval (operatorAt k) (intervalOf a) (intervalOf b))
+  floored-remainder e = ap (λ j. rangeWithin (operatorInterval (operatorAt j) (intervalOf a) (intervalOf b))) (sym e)
+
 module _ (k : ℕ) (a b : Range) where
   pub kind-low : k < 7 → noRange ≡ operatorRange k a b
   kind-low h = sym (simp (lt-leb 7 k h))
 
-  pub kind-high : 7 ≤ k → 19 < k → noRange ≡ operatorRange k a b
-  kind-high l h = sym (simp (le-leb 7 k l, le-ltb k 20 h))
+  pub kind-high : 7 ≤ k → 21 < k → noRange ≡ operatorRange k a b
+  kind-high l h = sym (simp (le-leb 7 k l, le-ltb k 22 h))
 
-  module _ (l : 7 ≤ k) (h : k ≤ 19) where
+  module _ (l : 7 ≤ k) (h : k ≤ 21) where
     of-joined : {r : Range} → r ≡ combined (operatorInterval (operatorAt k)) a b → r ≡ operatorRange k a b
-    of-joined e = e ∙ sym (simp (le-leb 7 k l, lt-ltb k 20 (omega arith)))
+    of-joined e = e ∙ sym (simp (le-leb 7 k l, lt-ltb k 22 (omega arith)))
 
     pub kind-left : usable a ≡ false → noRange ≡ operatorRange k a b
     kind-left p = of-joined (joined-left (operatorInterval (operatorAt k)) a b p)
@@ -370,8 +387,8 @@ module _ (k : ℕ) (a b : Range) where
       pub kind-remainder : k ≡ 11 → rangeWithin (remainderInterval (intervalOf a) (intervalOf b)) ≡ operatorRange k a b
       kind-remainder e = of-interval (remainder-interval (intervalOf a) (intervalOf b) k e)
 
-      pub kind-truth : 12 ≤ k → rangeWithin truthInterval ≡ operatorRange k a b
-      kind-truth s = of-interval (truth-interval (intervalOf a) (intervalOf b) k s h)
+      pub kind-truth : 12 ≤ k → k ≤ 19 → rangeWithin truthInterval ≡ operatorRange k a b
+      kind-truth s t = of-interval (truth-interval (intervalOf a) (intervalOf b) k s t)
 
 -- ---- the range of a stream
 

@@ -167,16 +167,24 @@ fn around(a: Range) -> Range
     range_within(0 - most, most)
 }
 
-// "k the smaller of the dividend's M and the divisor's M less 1 (not below 0)"
-fn remainder_bound(a: Range, b: Range) -> i64
-    requires { ⌜ (usable a ≡ true) × (usable b ≡ true) ⌝ }
-    ensures { λ r. ⌜ r ≡ pos (remainderBound (intervalOf a) (intervalOf b)) ⌝ }
+// "the divisor's M less 1 (not below 0)"
+fn magnitude_less_one(b: Range) -> i64
+    requires { ⌜ usable b ≡ true ⌝ }
+    ensures { λ r. ⌜ r ≡ pos (magnitude (intervalOf b) - 1) ⌝ }
 {
     let divisor = magnitude(b);
     if divisor == 0 {
         return 0;
     }
-    least(magnitude(a), divisor - 1)
+    divisor - 1
+}
+
+// "k the smaller of the dividend's M and the divisor's M less 1 (not below 0)"
+fn remainder_bound(a: Range, b: Range) -> i64
+    requires { ⌜ (usable a ≡ true) × (usable b ≡ true) ⌝ }
+    ensures { λ r. ⌜ r ≡ pos (remainderBound (intervalOf a) (intervalOf b)) ⌝ }
+{
+    least(magnitude(a), magnitude_less_one(b))
 }
 
 // "Its low end is 0 if the dividend's is at least 0; its high end is 0 if the dividend's is at most 0."
@@ -188,6 +196,26 @@ fn remainder_range(a: Range, b: Range) -> Range
     let low = if at_most(0, a.low) { 0 } else { 0 - bound };
     let high = if at_most(a.high, 0) { 0 } else { bound };
     range_within(low, high)
+}
+
+// "a remainder's is ±k with k the divisor's M less 1, not below 0", where it is rounded down.
+fn floored_remainder_range(b: Range) -> Range
+    requires { ⌜ usable b ≡ true ⌝ }
+    ensures { λ r. ⌜ r ≡ rangeWithin (around (magnitude (intervalOf b) - 1)) ⌝ }
+{
+    let bound = magnitude_less_one(b);
+    range_within(0 - bound, bound)
+}
+
+// The interval of a quotient or a remainder that is rounded down, by the kind of its node.
+fn floored_range(kind: u8, a: Range, b: Range) -> Range
+    requires { ⌜ (19 < kind) × (kind < 22) × (usable a ≡ true) × (usable b ≡ true) ⌝ }
+    ensures { λ r. ⌜ r ≡ rangeWithin (operatorInterval (operatorAt kind) (intervalOf a) (intervalOf b)) ⌝ }
+{
+    if kind == nodes::FLOORED_DIVIDE_NODE {
+        return around(a);
+    }
+    floored_remainder_range(b)
 }
 
 // "0 to 1 for truth values"
@@ -204,7 +232,7 @@ fn operator_range(kind: u8, a: Range, b: Range) -> Range
     if kind < nodes::ADD_NODE {
         return no_range();
     }
-    if nodes::OR_NODE < kind {
+    if nodes::FLOORED_REMAINDER_NODE < kind {
         return no_range();
     }
     if !usable(a) {
@@ -221,6 +249,9 @@ fn operator_range(kind: u8, a: Range, b: Range) -> Range
     }
     if kind == nodes::REMAINDER_NODE {
         return remainder_range(a, b);
+    }
+    if nodes::OR_NODE < kind {
+        return floored_range(kind, a, b);
     }
     range_within(0, 1)
 }

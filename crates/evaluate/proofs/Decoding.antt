@@ -89,5 +89,5 @@ applied-coded k x y = by (x .ok) (y .ok)
     by : (s t : Bool)
         → appliedByKind k (cond s (x .value) (pos 2000000000)) (cond t (y .value) (pos 2000000000)) ≡ cond (s && t) (appliedByKind k (x .value) (y .value)) noValue
     by true true = refl
-    by true false = missing-operand (leb 7 k && ltb k 20) (inBound (x .value)) _
-    by false t = missing-operand (leb 7 k && ltb k 20) false noValue
+    by true false = missing-operand (leb 7 k && ltb k 22) (inBound (x .value)) _
+    by false t = missing-operand (leb 7 k && ltb k 22) false noValue

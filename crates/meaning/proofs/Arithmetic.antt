@@ -1,16 +1,17 @@
 -- What an operator gives, where it gives a number, lies in the operator's interval, and an operator's interval is not empty. From the order of
 -- the integers (Order).
-use Prim.Native.Nat.{ℕ, zero, suc, _/_, _%_, _≤_, _<_, max, zero-le}
+use Prim.Native.Nat.{ℕ, zero, suc, _-_, _*_, _/_, _%_, _≤_, _<_, max, zero-le}
 use native.Mathlib.Omega.{arith}
-use native.Mathlib.Nat.{le-trans, div-le-self, mod-le, mod-lt, le-of-suc-le-suc, not-suc-le-zero}
+use native.Mathlib.Nat.{le-trans, div-le-self, div-add-mod', mod-le, mod-lt, mul-le-mul-left, le-of-suc-le-suc, not-suc-le-zero}
 use mathlib.Core.Path.{_≡_, refl, sym, _∙_, ap, subst, subst₂}
-use mathlib.Core.Bool.{Bool, true, false, not, cond, _&&_, _||_}
-use lib.Dec.{T, leb→le, le→leb}
+use mathlib.Core.Bool.{Bool, true, false, not, cond, _&&_, _||_, true≢false}
+use lib.Dec.{T, ltb, leb→le, le→leb}
 use lib.IntN.{ℤ, pos, negsuc, negℤ, natAbs, sucℤ, predℤ, _+ℤ_, _-ℤ_, _*ℤ_, sucℤ-+ℤ, +ℤ-sucℤ, +ℤ-predℤ, +ℤ-idr, sucℤ-*ℤ, *ℤ-comm, negℤ-sucℤ}
+use borrow.Author.Tests.{lt-ltb, le-ltb}
 use lib.Signed.{leZ, quotZ, remZ, _≤ℤ_, ≤ℤ-refl, leZ-yes}
 use Rattle.meaning.specs.Value.{Value, absent, number, nonzero, bit, compares}
 use Rattle.meaning.specs.Expression.{negated, chosen}
-use Rattle.meaning.specs.Arithmetic.{Operator, add, subtract, multiply, divide, remainder, compare, and, or, Interval, Within, AnyWithin, least, greatest, hull, overEnds, magnitude, around, remainderBound, remainderInterval, truthInterval, applyNumbers, apply, operatorInterval}
+use Rattle.meaning.specs.Arithmetic.{Operator, add, subtract, multiply, divide, remainder, compare, and, or, flooredDivide, flooredRemainder, Interval, Within, AnyWithin, least, greatest, hull, overEnds, magnitude, around, remainderBound, remainderInterval, areOpposite, floorQuotZ, floorRemZ, truthInterval, applyNumbers, apply, operatorInterval}
 use Rattle.meaning.proofs.Order.{≤ℤ-trans, least-≤-left, least-≤-right, least-cases, greatest-≥-left, greatest-≥-right, greatest-cases, ≤-sucℤ, predℤ-≤, Rising, Falling, rising-≤, falling-≤, ≤-+ℤ-pos}
 
 -- ---- intervals
@@ -228,6 +229,77 @@ remainder-within I J a b h k t =
     let m : natAbs (remZ a b) ≤ natAbs a = rw natAbs-remZ (mod-le (natAbs a) (natAbs b)) in
     sided-within I (remainderBound I J) a (remZ a b) h (omega (arith, magnitude-bounds I a h, magnitude-bounds J b k)) (remZ-above a b) (remZ-below a b)
 
+-- ---- `/` and `%` of release 2: rounded down, the divisor's sign, and a magnitude below the divisor's
+
+natAbs-less : (z : ℤ) → natAbs (z -ℤ pos 1) ≤ suc (natAbs z)
+natAbs-less (pos n) = by (ltb n 1)
+  where
+    by : (t : Bool) → natAbs (cond t (negsuc (1 - suc n)) (pos (n - 1))) ≤ suc n
+    by true = omega arith
+    by false = omega arith
+natAbs-less (negsuc n) = omega arith
+
+-- What is opposite to another number is not 0.
+opposite-some : (r b : ℤ) → areOpposite r b ≡ true → 0 < natAbs r
+opposite-some (pos zero) (pos b) e = absurd (true≢false (sym e))
+opposite-some (pos zero) (negsuc b) e = absurd (true≢false (sym e))
+opposite-some (pos (suc n)) b e = omega arith
+opposite-some (negsuc n) b e = omega arith
+
+-- Where there is a remainder, the divisor is at least 2, so that the quotient's magnitude is below the dividend's.
+quotient-below : (a b : ℕ) → 0 < a % b → 0 < b → suc (a / b) ≤ a
+quotient-below a b r h =
+    let whole = div-add-mod' a b in
+    let least : a / b * 1 ≤ a / b * b = mul-le-mul-left (a / b) h in
+    omega arith
+
+pub floorQuotZ-small : (a b : ℤ) → T (nonzero b) → natAbs (floorQuotZ a b) ≤ natAbs a
+floorQuotZ-small a b t = by (areOpposite (remZ a b) b) refl
+  where
+    by : (o : Bool) → areOpposite (remZ a b) b ≡ o → natAbs (cond o (quotZ a b -ℤ pos 1) (quotZ a b)) ≤ natAbs a
+    by true e =
+        let s = remainder-small a b t in
+        let some : 0 < natAbs a % natAbs b = omega (arith, opposite-some (remZ a b) b e, natAbs-remZ a b) in
+        omega (arith, natAbs-less (quotZ a b), natAbs-quotZ a b, quotient-below (natAbs a) (natAbs b) some (omega arith))
+    by false e = rw natAbs-quotZ (div-le-self (natAbs a) (natAbs b))
+
+-- What is added to a smaller number of the other sign leaves a number of its own sign, and smaller.
+record Moved (b z : ℤ) : Type 0 where
+  small : natAbs z < natAbs b
+  above : pos 0 ≤ℤ b → pos 0 ≤ℤ z
+  below : b ≤ℤ pos 0 → z ≤ℤ pos 0
+
+moved : (r b : ℤ) → natAbs r < natAbs b → Moved b (cond (areOpposite r b) (r +ℤ b) r)
+moved (pos r) (pos b) h = record { small = h; above = λ k. leZ-yes (le→leb 0 r zero-le); below = λ k. let z = leb→le b 0 (k .le) in absurd (omega arith) }
+moved (pos zero) (negsuc b) h = record { small = h; above = λ k. absurd (k .le); below = λ k. leZ-yes tt }
+moved (pos (suc r)) (negsuc b) h =
+    subst (Moved (negsuc b)) (sym (ap (λ t. cond t (negsuc (suc b - suc (suc r))) (pos (suc r - suc b))) (lt-ltb (suc r) (suc b) h)))
+    (record { small = omega arith; above = λ k. absurd (k .le); below = λ k. leZ-yes tt })
+moved (negsuc r) (pos zero) h = absurd (omega arith)
+moved (negsuc r) (pos (suc b)) h =
+    subst (Moved (pos (suc b))) (sym (ap (λ t. cond t (negsuc (suc r - suc (suc b))) (pos (suc b - suc r))) (le-ltb (suc b) (suc r) (omega arith))))
+    (record { small = omega arith; above = λ k. leZ-yes (le→leb 0 (suc b - suc r) zero-le); below = λ k. let z = leb→le (suc b) 0 (k .le) in absurd (omega arith) })
+moved (negsuc r) (negsuc b) h = record { small = h; above = λ k. absurd (k .le); below = λ k. leZ-yes tt }
+
+floorRemZ-moved : (a b : ℤ) → T (nonzero b) → Moved b (floorRemZ a b)
+floorRemZ-moved a b t = moved (remZ a b) b (remainder-small a b t)
+
+pub floorRemZ-small : (a b : ℤ) → T (nonzero b) → natAbs (floorRemZ a b) < natAbs b
+floorRemZ-small a b t = floorRemZ-moved a b t .small
+
+-- "the remainder having the divisor's sign"
+pub floorRemZ-above : (a b : ℤ) → T (nonzero b) → pos 0 ≤ℤ b → pos 0 ≤ℤ floorRemZ a b
+floorRemZ-above a b t = floorRemZ-moved a b t .above
+
+pub floorRemZ-below : (a b : ℤ) → T (nonzero b) → b ≤ℤ pos 0 → floorRemZ a b ≤ℤ pos 0
+floorRemZ-below a b t = floorRemZ-moved a b t .below
+
+floorQuotZ-within : (I : Interval) (a b : ℤ) → Within I a → T (nonzero b) → Within (around (magnitude I)) (floorQuotZ a b)
+floorQuotZ-within I a b h t = around-within (magnitude I) (floorQuotZ a b) (le-trans (floorQuotZ-small a b t) (magnitude-bounds I a h))
+
+floorRemZ-within : (J : Interval) (a b : ℤ) → Within J b → T (nonzero b) → Within (around (magnitude J - 1)) (floorRemZ a b)
+floorRemZ-within J a b k t = around-within (magnitude J - 1) (floorRemZ a b) (omega (arith, floorRemZ-small a b t, magnitude-bounds J b k))
+
 -- ---- every operator
 
 -- With divisor 0 there is no value.
@@ -244,6 +316,8 @@ numbers-within remainder I J {x} {y} h k = divided-within (remainderInterval I J
 numbers-within (compare c) I J {x} {y} h k = bit-within (compares c x y)
 numbers-within and I J {x} {y} h k = bit-within (nonzero x && nonzero y)
 numbers-within or I J {x} {y} h k = bit-within (nonzero x || nonzero y)
+numbers-within flooredDivide I J {x} {y} h k = divided-within (around (magnitude I)) (nonzero y) (floorQuotZ x y) (floorQuotZ-within I x y h)
+numbers-within flooredRemainder I J {x} {y} h k = divided-within (around (magnitude J - 1)) (nonzero y) (floorRemZ x y) (floorRemZ-within J x y k)
 
 pub operator-within : (o : Operator) (I J : Interval) (x y : Value) → AnyWithin I x → AnyWithin J y → AnyWithin (operatorInterval o I J) (apply o x y)
 operator-within o I J absent y h k = tt
@@ -279,6 +353,8 @@ operator-ordered remainder I J = remainder-ordered I J
 operator-ordered (compare c) I J = leZ-yes tt
 operator-ordered and I J = leZ-yes tt
 operator-ordered or I J = leZ-yes tt
+operator-ordered flooredDivide I J = around-ordered (magnitude I)
+operator-ordered flooredRemainder I J = around-ordered (magnitude J - 1)
 
 pub hull-ordered : (I J : Interval) → I .low ≤ℤ I .high → hull I J .low ≤ℤ hull I J .high
 hull-ordered I J h = ≤ℤ-trans (least-≤-left (I .low) (J .low)) (≤ℤ-trans h (greatest-≥-left (I .high) (J .high)))

@@ -3,12 +3,12 @@
 use Prim.Native.Nat.{ℕ, zero, suc, _+_, _-_, _≤_, _<_}
 use native.Mathlib.Omega.{arith}
 use native.Mathlib.Nat.{le-trans, le-antisymm, le-of-lt}
-use mathlib.Core.Path.{_≡_, sym, _∙_, ap, subst}
+use mathlib.Core.Path.{_≡_, sym, _∙_, ap, subst, subst₂}
 use mathlib.Core.Bool.{not}
 use lib.Dec.{T, ltb, leb→le, le→leb, nleb→lt, ltb→lt, lt→ltb}
 use lib.Arith.{le→nltb, lt-of-le-ne}
-use lib.IntN.{ℤ, pos, negsuc, natAbs, sucℤ, predℤ, _+ℤ_, _-ℤ_, +ℤ-sucℤ, +ℤ-idr, +ℤ-comm, +ℤ-negℤ-cancel, +ℤ-assoc}
-use lib.Signed.{leZ, ltZ, _≤ℤ_, _<ℤ_, ≤ℤ-refl, leZ-yes, <ℤ-irrefl}
+use lib.IntN.{ℤ, pos, negsuc, natAbs, sucℤ, predℤ, _+ℤ_, _-ℤ_, +ℤ-sucℤ, +ℤ-idr, +ℤ-comm, +ℤ-negℤ-cancel, -ℤ-+ℤ-cancel, +ℤ-assoc}
+use lib.Signed.{leZ, ltZ, _≤ℤ_, _<ℤ_, ≤ℤ-refl, leZ-yes, ltZ-yes, <ℤ-≤ℤ-trans, <ℤ-irrefl}
 use Rattle.basics.proofs.Tests.{cond-cases, cond-true, cond-false}
 use Rattle.meaning.specs.Arithmetic.{least, greatest}
 
@@ -143,3 +143,25 @@ pub distance-< : {a b c : ℤ} → a ≤ℤ b → b <ℤ c → natAbs (b -ℤ a)
 distance-< {a} {b} {c} h k =
     let l = <ℤ-≤ℤ k in
     lt-of-le-ne (distance-≤ h l) (λ e. <ℤ-irrefl (subst (λ z. z <ℤ c) (sym (+ℤ-pos-distance h) ∙ ap (λ n. a +ℤ pos n) e ∙ +ℤ-pos-distance (≤ℤ-trans h l)) k))
+
+-- ---- strictly
+
+pub <-sucℤ : (a : ℤ) → a <ℤ sucℤ a
+<-sucℤ (pos n) = ltZ-yes (lt→ltb n (suc n) (omega arith))
+<-sucℤ (negsuc zero) = ltZ-yes tt
+<-sucℤ (negsuc (suc n)) = ltZ-yes (lt→ltb n (suc n) (omega arith))
+
+pub +ℤ-pos-< : (a : ℤ) {m n : ℕ} → m < n → (a +ℤ pos m) <ℤ (a +ℤ pos n)
++ℤ-pos-< a {m} {n} h = <ℤ-≤ℤ-trans (subst (λ z. (a +ℤ pos m) <ℤ z) (sym (+ℤ-sucℤ a (pos m))) (<-sucℤ (a +ℤ pos m))) (+ℤ-pos-≤ a {m = suc m} {n = n} (omega arith))
+
+pub -ℤ-pos-≤ : (a : ℤ) (n : ℕ) → (a -ℤ pos n) ≤ℤ a
+-ℤ-pos-≤ a n = subst (λ z. (a -ℤ pos n) ≤ℤ z) (-ℤ-+ℤ-cancel a (pos n)) (≤-+ℤ-pos (a -ℤ pos n) n)
+
+pub -ℤ-pos-< : (a : ℤ) {m n : ℕ} → m < n → (a -ℤ pos n) <ℤ (a -ℤ pos m)
+-ℤ-pos-< a {m} {n} h =
+    let c = a -ℤ pos n in
+    let d : n - m + m ≡ n = omega arith in
+    let e : c +ℤ pos (n - m) ≡ a -ℤ pos m =
+    sym (+ℤ-negℤ-cancel (c +ℤ pos (n - m)) (pos m))
+    ∙ ap (λ z. z -ℤ pos m) (+ℤ-assoc c (pos (n - m)) (pos m) ∙ ap (λ k. c +ℤ pos k) d ∙ -ℤ-+ℤ-cancel a (pos n)) in
+    subst₂ (λ y z. y <ℤ z) (+ℤ-idr c) e (+ℤ-pos-< c {m = 0} {n = n - m} (omega arith))

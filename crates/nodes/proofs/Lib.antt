@@ -2,6 +2,7 @@ pub mod SignCodes
 pub mod Parts
 pub mod Evaluate
 pub mod Postfix
+pub mod Floored
 pub mod FirstPlaces
 pub mod Meaning
 pub mod Accepted

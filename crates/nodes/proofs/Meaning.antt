@@ -12,7 +12,7 @@ use lib.ListN.{length, getD, length-append, length-map}
 use borrow.Author.Tests.{lt-ltb, le-leb}
 use Rattle.basics.proofs.Lists.{getD-map}
 use Rattle.meaning.specs.Value.{Value, absent, number, nonzero, bit, less, atMost, equal, atLeast, greater, different, Streams}
-use Rattle.meaning.specs.Arithmetic.{Operator, add, subtract, multiply, divide, remainder, compare, and, or, apply}
+use Rattle.meaning.specs.Arithmetic.{Operator, add, subtract, multiply, divide, remainder, compare, and, or, flooredDivide, flooredRemainder, apply}
 use Rattle.meaning.specs.Expression.{Expression, integer, name, first, next, negation, binary, conditional, fby, negated, chosen, valueFrom, value}
 use Rattle.meaning.specs.Window.{reach, firsts}
 use Rattle.meaning.specs.Interval.{NamesBelow}
@@ -31,10 +31,10 @@ use Rattle.nodes.proofs.Postfix.{NodeAt, StoredAt, storedInteger, store
 -- The number of an operator is an operator's kind, and names that operator.
 pub record Coded (o : Operator) (k : ℕ) : Type 0 where
   pub kind : kindOf k ≡ operatorNode
-  pub range : (leb 7 k && ltb k 20) ≡ true
+  pub range : (leb 7 k && ltb k 22) ≡ true
   pub names : operatorAt k ≡ o
 
-abbrev coded : {o : Operator} {k : ℕ} → kindOf k ≡ operatorNode → (leb 7 k && ltb k 20) ≡ true → operatorAt k ≡ o → Coded o k
+abbrev coded : {o : Operator} {k : ℕ} → kindOf k ≡ operatorNode → (leb 7 k && ltb k 22) ≡ true → operatorAt k ≡ o → Coded o k
 coded p q r = record { kind = p; range = q; names = r }
 
 pub operatorCode-coded : (o : Operator) → Coded o (operatorCode o)
@@ -51,6 +51,8 @@ operatorCode-coded (compare greater) = coded refl refl refl
 operatorCode-coded (compare different) = coded refl refl refl
 operatorCode-coded and = coded refl refl refl
 operatorCode-coded or = coded refl refl refl
+operatorCode-coded flooredDivide = coded refl refl refl
+operatorCode-coded flooredRemainder = coded refl refl refl
 
 small-inBound : (z : ℤ) → Small z → inBound z ≡ true
 small-inBound z h = le-leb (natAbs z) magnitudeBound h

@@ -7,7 +7,7 @@ use lib.Dec.{leb, ltb}
 use lib.IntN.{ℤ, pos, natAbs}
 use lib.ListN.{getD}
 use Rattle.meaning.specs.Value.{Value, absent, number, less, atMost, equal, atLeast, greater, different}
-use Rattle.meaning.specs.Arithmetic.{Operator, add, subtract, multiply, divide, remainder, compare, and, or, applyNumbers}
+use Rattle.meaning.specs.Arithmetic.{Operator, add, subtract, multiply, divide, remainder, compare, and, or, flooredDivide, flooredRemainder, applyNumbers}
 use Rattle.sheet.specs.Refusal.{magnitudeBound}
 use Rattle.nodes.specs.declared.Evaluated.{Evaluated}
 
@@ -49,17 +49,18 @@ SmallValue (number z) = Small z
 abbrev pub boundedApply : Operator → ℤ → ℤ → Evaluated
 boundedApply o a b = cond (inBound a && inBound b) (evaluated (applyNumbers o a b)) noValue
 
--- "Operators: `+ - * / % lt le eq ge gt ne and or fby`", but for `fby`, in the order of their numbers (Code).
+-- "Operators: `+ - * / % lt le eq ge gt ne and or fby`", but for `fby`, and those of release 2, in the order of their numbers (Code).
 abbrev pub operatorsByKind : List Operator
 operatorsByKind =
     add ∷ subtract ∷ multiply ∷ divide ∷ remainder
     ∷ compare less ∷ compare atMost ∷ compare equal ∷ compare atLeast ∷ compare greater ∷ compare different
-    ∷ and ∷ or ∷ []
+    ∷ and ∷ or
+    ∷ flooredDivide ∷ flooredRemainder ∷ []
 
 -- The operator with a node's kind; what a kind that is no operator's is given plays no part.
 abbrev pub operatorAt : ℕ → Operator
-operatorAt k = getD operatorsByKind (k - 7) or
+operatorAt k = getD operatorsByKind (k - 7) flooredRemainder
 
 -- What the operator with a node's kind gives; no value where the kind is no operator's.
 abbrev pub appliedByKind : ℕ → ℤ → ℤ → Evaluated
-appliedByKind k a b = cond (leb 7 k && ltb k 20) (boundedApply (operatorAt k) a b) noValue
+appliedByKind k a b = cond (leb 7 k && ltb k 22) (boundedApply (operatorAt k) a b) noValue

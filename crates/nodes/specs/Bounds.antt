@@ -42,7 +42,7 @@ truthRange a = cond (a .ok) (rangeWithin truthInterval) noRange
 
 -- The interval of what the operator with a node's kind gives.
 abbrev pub operatorRange : ℕ → Range → Range → Range
-operatorRange k a b = cond (leb 7 k && ltb k 20) (combined (operatorInterval (operatorAt k)) a b) noRange
+operatorRange k a b = cond (leb 7 k && ltb k 22) (combined (operatorInterval (operatorAt k)) a b) noRange
 
 -- "the hull of both sides for `fby` and of both branches for `if`"; a condition without an interval leaves none.
 abbrev pub branchRange : Range → Range → Range → Range

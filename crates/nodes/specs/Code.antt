@@ -1,9 +1,11 @@
 -- The numbers by which stored nodes, constraints and streams name what they are.
 use Prim.Native.Nat.{ℕ, _+_}
-use mathlib.Core.List.{List, [], _∷_}
+use mathlib.Core.Bool.{Bool, true, false, cond}
+use mathlib.Core.List.{List, [], _∷_, map}
+use lib.Dec.{eqb}
 use lib.ListN.{getD}
 use Rattle.meaning.specs.Value.{Comparison, less, atMost, equal, atLeast, greater, different}
-use Rattle.meaning.specs.Arithmetic.{Operator, add, subtract, multiply, divide, remainder, compare, and, or}
+use Rattle.meaning.specs.Arithmetic.{Operator, add, subtract, multiply, divide, remainder, compare, and, or, flooredDivide, flooredRemainder}
 use Rattle.meaning.specs.Expression.{Sign, comparison, implies, Constraint, always, until, StreamKind, readKind, setKind}
 
 abbrev pub comparisonCode : Comparison → ℕ
@@ -14,7 +16,8 @@ comparisonCode atLeast = 3
 comparisonCode greater = 4
 comparisonCode different = 5
 
--- A node's kind: 0 integer, 1 name, 2 first, 3 next, 4 not, 5 if, 6 fby, and from 7 on the operators in the order in which document 01 lists them.
+-- A node's kind: 0 integer, 1 name, 2 first, 3 next, 4 not, 5 if, 6 fby, and from 7 on the operators in the order in which document 01 lists them,
+-- behind them those that are rounded down (document 02, S-11).
 abbrev pub operatorCode : Operator → ℕ
 operatorCode add = 7
 operatorCode subtract = 8
@@ -24,6 +27,17 @@ operatorCode remainder = 11
 operatorCode (compare c) = 12 + comparisonCode c
 operatorCode and = 18
 operatorCode or = 19
+operatorCode flooredDivide = 20
+operatorCode flooredRemainder = 21
+
+-- What the kind of a node becomes where the sheet's quotients are rounded down.
+abbrev pub flooredKind : ℕ → ℕ
+flooredKind k = cond (eqb k 10) 20 (cond (eqb k 11) 21 k)
+
+-- The kinds of nodes as a sheet means them, where `floors` says whether its quotients are rounded down.
+abbrev pub meantKinds : Bool → List ℕ → List ℕ
+meantKinds true ks = map flooredKind ks
+meantKinds false ks = ks
 
 -- A constraint's relation: 0 to 5 the comparison signs, 6 `->`, 7 `until`.
 abbrev pub signCode : Sign → ℕ

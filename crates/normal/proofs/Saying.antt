@@ -12,7 +12,8 @@ use Rattle.meaning.specs.Expression.{Expression, integer, Constraint, always, S
 use Rattle.meaning.specs.NormalForm.{rewritten, equation, normalForm}
 use Rattle.nodes.specs.Code.{signAt}
 use Rattle.nodes.specs.Postfix.{allNodes}
-use Rattle.sheet.specs.Form.{lineTokens, layoutIn}
+use Rattle.sheet.specs.Release.{floorsQuotients, meant}
+use Rattle.sheet.specs.Form.{releaseIn, lineTokens, layoutIn}
 use Rattle.sheet.specs.Refusal.{sheet, AnswerTo}
 use Rattle.sheet.proofs.Accepted.{accepted-facts}
 use Rattle.sheet.proofs.Parser.{reads-unambiguous}
@@ -30,13 +31,13 @@ use Rattle.normal.proofs.Decoding.{decoded, rows-decoded}
 use Rattle.normal.proofs.TextSpans.{text-spans, nodes-spanned}
 use Rattle.normal.proofs.Sources.{RowForm, isConstraint, isUntil, isEquation, isNext, isFirst, sheet-sound}
 
-module _ (text : List ℕ) (s : Sheet) (spans : EachReads (lineTokens text (layoutIn text .namesLine)) text (spansIn text) (nodeExpressions (s .constraints))) where
+module _ (text : List ℕ) (s : Sheet) (spans : EachReads (floorsQuotients (releaseIn text)) (lineTokens text (layoutIn text .namesLine)) text (spansIn text) (nodeExpressions (s .constraints))) where
   abbrev spanOf : ℕ → Span
   spanOf i = getD (spansIn text) i (span 0 0)
 
   -- The text of a node's span is read as the node's expression.
-  node-reads : (i : ℕ) → i < length (allNodes 0 0 (s .constraints)) → SpanReads (lineTokens text (layoutIn text .namesLine)) text (span (spanOf i .start) (spanOf i .end)) (expressionAt s i)
-  node-reads i h = each-at (lineTokens text (layoutIn text .namesLine)) text spans i (span 0 0) (integer (pos 0)) (omega (arith, nodes-spanned s))
+  node-reads : (i : ℕ) → i < length (allNodes 0 0 (s .constraints)) → SpanReads (floorsQuotients (releaseIn text)) (lineTokens text (layoutIn text .namesLine)) text (span (spanOf i .start) (spanOf i .end)) (expressionAt s i)
+  node-reads i h = each-at (floorsQuotients (releaseIn text)) (lineTokens text (layoutIn text .namesLine)) text spans i (span 0 0) (integer (pos 0)) (omega (arith, nodes-spanned s))
 
   row-says : {r : Row} → RowForm (length (allNodes 0 0 (s .constraints))) r → EntrySays text (entryRecord text s r) (decoded s r)
   unfolding decoded
@@ -61,7 +62,8 @@ entries-say {text} {s} r = subst (EachSays text (normalEntries text s)) (rows-de
 -- ---- a text and a record say at most one constraint
 
 side-unique : {text : List ℕ} {b e n : ℕ} {x y : Expression} → SideSays text b e n x → SideSays text b e n y → x ≡ y
-side-unique {n = n} (side h) (side k) = ap (rewritten n) (reads-unambiguous _ (h .reads) (k .reads))
+side-unique {text} {n = n} (side h) (side k) =
+    ap (rewritten n) (sym (h .meaning) ∙ ap (meant (floorsQuotients (releaseIn text))) (reads-unambiguous _ (h .reads) (k .reads)) ∙ k .meaning)
 
 apart : {m n k : ℕ} → k ≡ m → k ≡ n → (m ≡ n → ⊥) → ⊥
 apart p q d = d (sym p ∙ q)

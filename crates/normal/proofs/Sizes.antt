@@ -152,7 +152,7 @@ pub record PlacesFit (n : ℕ) (e : Entry) : Type 0 where
   pub left : (e .«left_begin» ≤ e .«left_end») × (e .«left_end» ≤ n)
   pub right : (e .«right_begin» ≤ e .«right_end») × (e .«right_end» ≤ n)
 
-each-within : {names : List Token} {text : List ℕ} {ss : List Span} {es : List Expression} → EachReads names text ss es → (e : ℕ) → (spanBefore ss e .start ≤ spanBefore ss e .end) × (spanBefore ss e .end ≤ length text)
+each-within : {floors : Bool} {names : List Token} {text : List ℕ} {ss : List Span} {es : List Expression} → EachReads floors names text ss es → (e : ℕ) → (spanBefore ss e .start ≤ spanBefore ss e .end) × (spanBefore ss e .end ≤ length text)
 each-within h zero = (omega arith, omega arith)
 each-within EachReads.none (suc i) = (omega arith, omega arith)
 each-within (EachReads.more r h) (suc zero) = (omega (arith, r .ordered), r .within)

@@ -11,7 +11,8 @@ use lib.ListN.{length}
 use Rattle.basics.specs.Lists.{All}
 use Rattle.meaning.specs.Expression.{Expression, integer, Sheet}
 use Rattle.nodes.specs.Postfix.{allNodes}
-use Rattle.sheet.specs.Form.{lineTokens, layoutIn}
+use Rattle.sheet.specs.Release.{floorsQuotients}
+use Rattle.sheet.specs.Form.{releaseIn, lineTokens, layoutIn}
 use Rattle.sheet.specs.Refusal.{sheet, AnswerTo}
 use Rattle.sheet.proofs.Accepted.{accepted-facts}
 use Rattle.scan.specs.declared.Span.{Span}
@@ -28,15 +29,15 @@ use Rattle.normal.proofs.TextSpans.{text-spans, nodes-spanned}
 use Rattle.normal.proofs.Sources.{Sound, sheet-sound}
 use Rattle.normal.proofs.Ranges.{stream-left, rows-stand}
 
-module _ (text : List ℕ) (s : Sheet) (spans : EachReads (lineTokens text (layoutIn text .namesLine)) text (spansIn text) (nodeExpressions (s .constraints))) where
+module _ (text : List ℕ) (s : Sheet) (spans : EachReads (floorsQuotients (releaseIn text)) (lineTokens text (layoutIn text .namesLine)) text (spansIn text) (nodeExpressions (s .constraints))) where
   abbrev Reads : Span → Expression → Type 0
-  Reads x e = SpanReads (lineTokens text (layoutIn text .namesLine)) text x e
+  Reads x e = SpanReads (floorsQuotients (releaseIn text)) (lineTokens text (layoutIn text .namesLine)) text x e
 
   source-reads : (e : ℕ) → 0 < e → e ≤ length (allNodes 0 0 (s .constraints)) → Reads (spanBefore (spansIn text) e) (expressionAt s (e - 1))
   source-reads zero h l = absurd (omega arith)
   source-reads (suc i) h l =
       let q : i ≡ suc i - 1 = omega arith in
-      subst (λ k. Reads (spanBefore (spansIn text) (suc i)) (expressionAt s k)) q (each-at (lineTokens text (layoutIn text .namesLine)) text spans i (span 0 0) (integer (pos 0)) (omega (arith, nodes-spanned s)))
+      subst (λ k. Reads (spanBefore (spansIn text) (suc i)) (expressionAt s k)) q (each-at (floorsQuotients (releaseIn text)) (lineTokens text (layoutIn text .namesLine)) text spans i (span 0 0) (integer (pos 0)) (omega (arith, nodes-spanned s)))
 
   row-stands : (r : Row) → Sound s r → (2 ≤ r .kind → (0 < r .source) × (expressionAt s (r .source - 1) ≡ standsFor s (r .left))) → LeftStands text s (entryRecord text s r)
   row-stands r g h =

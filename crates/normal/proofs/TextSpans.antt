@@ -7,7 +7,8 @@ use mathlib.Core.Path.{_≡_, refl, sym, _∙_, subst}
 use mathlib.Core.List.{List, [], _∷_, _++_}
 use lib.ListN.{length, length-append}
 use Rattle.meaning.specs.Expression.{Constraint, leftSide, rightSide, Sheet}
-use Rattle.sheet.specs.Form.{lineTokens, layoutIn}
+use Rattle.sheet.specs.Release.{floorsQuotients}
+use Rattle.sheet.specs.Form.{releaseIn, lineTokens, layoutIn}
 use Rattle.sheet.specs.Refusal.{Refusal1, tooManyBytes, sheet, AnswerTo, accepted}
 use Rattle.sheet.specs.Reading.{allExpressions}
 use Rattle.sheet.proofs.Accepted.{accepted-facts}
@@ -35,11 +36,11 @@ short-text {text} h = by (decLe (length text) 16384)
 
 module _ {text : List ℕ} {s : Sheet} where
   -- The texts of the spans are read, by the names of line 1, as the expressions of the sheet's nodes.
-  pub text-spans : AnswerTo text (sheet s) → EachReads (lineTokens text (layoutIn text .namesLine)) text (spansIn text) (nodeExpressions (s .constraints))
-  text-spans (accepted r1 r2 r3 r4 r5 r6 r7 f) = subst (λ names. EachReads names text (spansIn text) (nodeExpressions (s .constraints))) (sym (f .names)) (spans-read f (short-text r1))
+  pub text-spans : AnswerTo text (sheet s) → EachReads (floorsQuotients (releaseIn text)) (lineTokens text (layoutIn text .namesLine)) text (spansIn text) (nodeExpressions (s .constraints))
+  text-spans (accepted r1 r2 r3 r4 r5 r6 r7 f) = subst (λ names. EachReads (floorsQuotients (releaseIn text)) names text (spansIn text) (nodeExpressions (s .constraints))) (sym (f .names)) (spans-read f (short-text r1))
 
   pub spans-few : AnswerTo text (sheet s) → length (spansIn text) ≤ spanBound
-  spans-few r = omega (arith, each-length _ text (text-spans r), expressions-total (s .constraints), accepted-facts r .expressionCount)
+  spans-few r = omega (arith, each-length _ _ text (text-spans r), expressions-total (s .constraints), accepted-facts r .expressionCount)
 
 pub nodes-spanned : (s : Sheet) → length (allNodes 0 0 (s .constraints)) ≡ length (nodeExpressions (s .constraints))
 nodes-spanned s = nodes-total 0 0 (s .constraints) ∙ sym (expressions-total (s .constraints))

@@ -10,15 +10,17 @@ use Rattle.meaning.specs.Value.{equal}
 use Rattle.meaning.specs.Expression.{Expression, integer, name, first, next, negation, binary, conditional, fby, comparison, Constraint, always, until, Sheet}
 use Rattle.meaning.specs.NormalForm.{rewritten, equation, allAdded}
 use Rattle.nodes.specs.Code.{signAt}
-use Rattle.sheet.specs.Form.{lineTokens, layoutIn}
+use Rattle.sheet.specs.Release.{floorsQuotients}
+use Rattle.sheet.specs.Form.{releaseIn, lineTokens, layoutIn}
 use Rattle.scan.specs.declared.Span.{Span}
 use Rattle.spans.specs.Token.{span}
 use Rattle.spans.specs.Reading.{SpanReads}
 use Rattle.normal_entries.specs.declared.Entry.{Entry}
 
--- The text from `begin` to before `end` is read as an expression, by the names of line 1; rewritten, with added streams numbered from n on, it is this one.
+-- The text from `begin` to before `end` is read as an expression, by the names of line 1, and means what the text's release makes of it; rewritten, with
+-- added streams numbered from n on, it is this one.
 pub data SideSays (text : List ℕ) (begin end n : ℕ) : Expression → Type 0 where
-  side : {e : Expression} → SpanReads (lineTokens text (layoutIn text .namesLine)) text (span begin end) e → SideSays text begin end n (rewritten n e)
+  side : {e : Expression} → SpanReads (floorsQuotients (releaseIn text)) (lineTokens text (layoutIn text .namesLine)) text (span begin end) e → SideSays text begin end n (rewritten n e)
 
 pub data EntrySays (text : List ℕ) (r : Entry) : Constraint → Type 0 where
   -- a rewritten constraint
@@ -44,7 +46,7 @@ standsFor s k = getD (allAdded (s .constraints)) (k - length (s .streams)) (inte
 
 -- The span at the left of a record that names a stream is the text of the expression that the stream stands for.
 pub record LeftStands (text : List ℕ) (s : Sheet) (r : Entry) : Type 0 where
-  pub reads : 2 ≤ r .kind → SpanReads (lineTokens text (layoutIn text .namesLine)) text (span (r .«left_begin») (r .«left_end»)) (standsFor s (r .left))
+  pub reads : 2 ≤ r .kind → SpanReads (floorsQuotients (releaseIn text)) (lineTokens text (layoutIn text .namesLine)) text (span (r .«left_begin») (r .«left_end»)) (standsFor s (r .left))
 
 -- A whole `next` or `fby`.
 abbrev pub isReplaced : Expression → Bool

@@ -8,11 +8,14 @@ use native.Mathlib.Omega.{arith}
 use lib.IntN.{pos}
 use lib.ListN.{length, length-map}
 use Rattle.nodes.proofs.Postfix.{stored-length}
+use Rattle.nodes.specs.Code.{meantKinds}
 use Rattle.nodes.specs.Evaluate.{stored}
+use Rattle.sheet.proofs.Release.{meant-length}
 use Rattle.text.specs.Bytes.{Token, lines, tokens}
 use Rattle.meaning.specs.Expression.{Constraint, Sheet}
 use Rattle.meaning.specs.Window.{allFirsts, allUntils}
 use Rattle.nodes.specs.Postfix.{Node, StoredConstraint, allNodes, storedConstraints, kindsOf, valuesOf, startsOf}
+use Rattle.sheet.specs.Release.{meantConstraints}
 use Rattle.sheet.specs.Form.{namesOf}
 use Rattle.sheet.specs.Refusal.{Answer, refused, sheet}
 use Rattle.sheet.specs.Reading.{anyOf, isIntegerBeyond, allExpressions, sidesBelow, refuses4, refuses5, refuses6, refuses7, formOfLines, answerToSheet, answerToForm}
@@ -30,6 +33,7 @@ use Rattle.reader.specs.declared.Reading.{Reading}
 use Rattle.reader.proofs.Stored.{withAll, withAll-nodes, withAll-relations, withAll-lefts, withAll-rights}
 use Rattle.reader.proofs.Room.{sets-padded}
 use Rattle.reader.proofs.Counts.{withAll-counts, constraints-few}
+use Rattle.reader.proofs.Floored.{withNodeKinds, restated-tables, kinds-room, meant-nodes}
 use Rattle.reader.proofs.Form.{StreamsFound, streams-found, streams-names, found-count, noConstraints, ConstraintsFound, constraints-found, form-no-streams, form-empty, form-no-kinds, HeaderFound, header-found, form-no-constraints, form-sheet}
 
 -- ---- refusal 3
@@ -37,9 +41,9 @@ use Rattle.reader.proofs.Form.{StreamsFound, streams-found, streams-nam
 formless : {o : Option Sheet} → o ≡ none → refusedReading 3 ≡ readingOf (answerToForm o)
 formless e = sym (ap (λ o. readingOf (answerToForm o)) e)
 
-pub no-streams-reading : {names lows highs : List Token} {r : StreamsRead} {tables : StreamTables} (said : Option (List Token)) (ls : List (List ℕ)) → StreamsOutcome names lows highs r tables → r .ok ≡ false
-    → refusedReading 3 ≡ readingOf (answerToForm (formOfLines names lows highs said ls))
-no-streams-reading said ls o h = formless (form-no-streams said ls o h)
+pub no-streams-reading : {names lows highs : List Token} {r : StreamsRead} {tables : StreamTables} (floors : Bool) (said : Option (List Token)) (ls : List (List ℕ)) → StreamsOutcome names lows highs r tables → r .ok ≡ false
+    → refusedReading 3 ≡ readingOf (answerToForm (formOfLines floors names lows highs said ls))
+no-streams-reading floors said ls o h = formless (form-no-streams floors said ls o h)
 
 -- There are at most as many streams as line 1 has tokens.
 pub streams-few : {names lows highs : List Token} {r : StreamsRead} {tables : StreamTables} → StreamsOutcome names lows highs r tables → r .ok ≡ true → length names ≤ 8 → r .count ≤ 8
@@ -49,9 +53,9 @@ streams-few {names} {lows} {highs} o h few =
     let n = ap length (streams-names names lows highs (f .form)) in
     omega (arith, length-map (f .all) (λ x. x .name))
 
-pub no-stream-reading : {names lows highs : List Token} {r : StreamsRead} {tables : StreamTables} → StreamsOutcome names lows highs r tables → r .ok ≡ true → (said : Option (List Token)) (ls : List (List ℕ)) → r .count ≡ 0
-    → refusedReading 3 ≡ readingOf (answerToForm (formOfLines names lows highs said ls))
-no-stream-reading o h said ls e = formless (form-empty (streams-found o h) said ls e)
+pub no-stream-reading : {names lows highs : List Token} {r : StreamsRead} {tables : StreamTables} → StreamsOutcome names lows highs r tables → r .ok ≡ true → (floors : Bool) (said : Option (List Token)) (ls : List (List ℕ)) → r .count ≡ 0
+    → refusedReading 3 ≡ readingOf (answerToForm (formOfLines floors names lows highs said ls))
+no-stream-reading o h floors said ls e = formless (form-empty (streams-found o h) floors said ls e)
 
 -- ---- lines of the form
 
@@ -98,38 +102,48 @@ record FormFound (namesLine lowsLine highsLine kindsLine text : List ℕ) (r : S
   someStream : r .count ≡ 0 → ⊥
   constraints : ConstraintsFound (tokens namesLine) (lines text) noConstraints new
 
-abbrev linesAnswer : List ℕ → List ℕ → List ℕ → List ℕ → List ℕ → Answer
-linesAnswer namesLine lowsLine highsLine kindsLine text = answerToForm (formOfLines (tokens namesLine) (tokens lowsLine) (tokens highsLine) (saidTokens (tokens kindsLine)) (lines text))
+abbrev linesAnswer : Bool → List ℕ → List ℕ → List ℕ → List ℕ → List ℕ → Answer
+linesAnswer floors namesLine lowsLine highsLine kindsLine text = answerToForm (formOfLines floors (tokens namesLine) (tokens lowsLine) (tokens highsLine) (saidTokens (tokens kindsLine)) (lines text))
 
-module _ {namesLine lowsLine highsLine kindsLine text : List ℕ} {r : StreamsRead} {tables : StreamTables} {kinds : List ℕ} {new : State} (F : FormFound namesLine lowsLine highsLine kindsLine text r tables kinds new) where
+module _ {namesLine lowsLine highsLine kindsLine text : List ℕ} {r : StreamsRead} {tables : StreamTables} {kinds : List ℕ} {new : State} (F : FormFound namesLine lowsLine highsLine kindsLine text r tables kinds new) (floors : Bool) where
   abbrev found : Sheet
-  found = record { streams = F .streams .all; constraints = F .constraints .all }
+  found = record { streams = F .streams .all; constraints = meantConstraints floors (F .constraints .all) }
 
-  answer-is : linesAnswer namesLine lowsLine highsLine kindsLine text ≡ answerToSheet found
-  answer-is = ap (answerToForm) (form-sheet (F .streams) (F .someStream) (F .constraints))
+  answer-is : linesAnswer floors namesLine lowsLine highsLine kindsLine text ≡ answerToSheet found
+  answer-is = ap (answerToForm) (form-sheet (F .streams) (F .someStream) floors (F .constraints))
 
   names-are : namesOf (found .streams) ≡ tokens namesLine
   names-are = F .streams .namesAre
 
-  names-reading : namesRefused (tokens namesLine) ≡ true → refusedReading 4 ≡ readingOf (linesAnswer namesLine lowsLine highsLine kindsLine text)
+  names-reading : namesRefused (tokens namesLine) ≡ true → refusedReading 4 ≡ readingOf (linesAnswer floors namesLine lowsLine highsLine kindsLine text)
   unfolding namesRefused refuses4 answerToSheet
   names-reading h =
       let named : namesRefused (namesOf (found .streams)) ≡ true = ap namesRefused names-are ∙ h in
       sym (ap readingOf (answer-is ∙ ap (λ b. cond b (refused 4) (cond (refuses5 found) (refused 5) (cond (refuses6 found) (refused 6) (cond (refuses7 found) (refused 7) (sheet found))))) (ap (λ b. b || anyOf (λ c. not (sidesBelow (length (found .streams)) c)) (found .constraints)) named)))
 
-  found-held : namesRefused (tokens namesLine) ≡ false → Held found r tables kinds new
-  found-held h =
+  found-room : length (new .nodes .kinds) ≤ 1024
+  found-room =
       let few = constraints-few namesLine (lines text) 0 0 (F .constraints .form) in
-      let few-nodes : length (allNodes 0 0 (map boundedConstraint (found .constraints))) ≤ 1024 = let a = few .nodes in let b = F .fewLines .tokens in omega arith in
-      let few-constraints : length (found .constraints) ≤ 32 = let a = few .count in let b = F .fewLines .count in omega arith in
+      let few-nodes : length (allNodes 0 0 (map boundedConstraint (F .constraints .all))) ≤ 1024 = let a = few .nodes in let b = F .fewLines .tokens in omega arith in
+      let few-constraints : length (F .constraints .all) ≤ 32 = let a = few .count in let b = F .fewLines .count in omega arith in
+      omega (arith, ap (λ x. length (x .nodes .kinds)) (F .constraints .stored ∙ stored-all (F .constraints .all) few-nodes few-constraints), kinds-room (F .constraints .all) few-nodes)
+
+  -- What is held once the nodes' kinds are those that the sheet means.
+  found-held : namesRefused (tokens namesLine) ≡ false → {ks : List ℕ} → ks ≡ meantKinds floors (new .nodes .kinds) → Held found r tables kinds (withNodeKinds ks new)
+  found-held h {ks} restated =
+      let cs = F .constraints .all in
+      let few = constraints-few namesLine (lines text) 0 0 (F .constraints .form) in
+      let few-nodes : length (allNodes 0 0 (map boundedConstraint cs)) ≤ 1024 = let a = few .nodes in let b = F .fewLines .tokens in omega arith in
+      let few-constraints : length cs ≤ 32 = let a = few .count in let b = F .fewLines .count in omega arith in
+      let read : new ≡ constraintTables cs = F .constraints .stored ∙ stored-all cs few-nodes few-constraints in
       record {
         streams = F .streams .gives;
         streamTables = F .streams .stored;
         streamKinds = F .streams .kindsStored;
-        constraints = F .constraints .stored ∙ stored-all (found .constraints) few-nodes few-constraints;
+        constraints = ap (λ l. withNodeKinds l new) restated ∙ ap (λ x. withNodeKinds (meantKinds floors (x .nodes .kinds)) x) read ∙ restated-tables floors cs;
         fewStreams = let n = F .fewNames in let e = ap length names-are in omega (arith, length-map (found .streams) (λ x. x .name));
-        fewConstraints = few-constraints;
-        fewNodes = few-nodes;
+        fewConstraints = omega (arith, few-constraints, meant-length floors cs);
+        fewNodes = omega (arith, few-nodes, meant-nodes floors cs);
         names = ap namesRefused names-are ∙ h;
       }
 
@@ -145,7 +159,7 @@ pub record LinesRead (namesLine lowsLine highsLine kindsLine text : List ℕ) (r
   pub constraints : ConstraintsOutcome (tokens namesLine) (lines text) noConstraints new
   pub judged : refusal ≡ formRefusal (not (said && new .counts .ok)) (namesRefused (tokens namesLine))
 
-module _ {namesLine lowsLine highsLine kindsLine text : List ℕ} {r : StreamsRead} {tables : StreamTables} {said : Bool} {kinds : List ℕ} {new : State} {refusal : ℕ} (R : LinesRead namesLine lowsLine highsLine kindsLine text r tables said kinds new refusal) where
+module _ {namesLine lowsLine highsLine kindsLine text : List ℕ} {r : StreamsRead} {tables : StreamTables} {said : Bool} {kinds : List ℕ} {new : State} {refusal : ℕ} (R : LinesRead namesLine lowsLine highsLine kindsLine text r tables said kinds new refusal) (floors : Bool) where
   streams-read : StreamsFound (tokens namesLine) (tokens lowsLine) (tokens highsLine) r tables
   streams-read = streams-found (R .streams) (R .ok)
 
@@ -156,19 +170,19 @@ module _ {namesLine lowsLine highsLine kindsLine text : List ℕ} {r : StreamsRe
   refusal-is k e d = R .judged ∙ ap₂ (λ a b. formRefusal (not a) b) (ap₂ _&&_ k e) d
 
   -- Where the kinds or the constraint lines have not the form, the sheet is 3.
-  no-kinds-reading : said ≡ false → refusedReading 3 ≡ readingOf (linesAnswer namesLine lowsLine highsLine kindsLine text)
-  no-kinds-reading k = formless (form-no-kinds streams-read (lines text) (R .streamKinds) k)
+  no-kinds-reading : said ≡ false → refusedReading 3 ≡ readingOf (linesAnswer floors namesLine lowsLine highsLine kindsLine text)
+  no-kinds-reading k = formless (form-no-kinds streams-read floors (lines text) (R .streamKinds) k)
 
-  no-constraints-reading : said ≡ true → new .counts .ok ≡ false → refusedReading 3 ≡ readingOf (linesAnswer namesLine lowsLine highsLine kindsLine text)
-  no-constraints-reading k e = formless (form-no-constraints (header-found streams-read (R .streamKinds) k) (R .someStream) (R .constraints) refl e)
+  no-constraints-reading : said ≡ true → new .counts .ok ≡ false → refusedReading 3 ≡ readingOf (linesAnswer floors namesLine lowsLine highsLine kindsLine text)
+  no-constraints-reading k e = formless (form-no-constraints (header-found streams-read (R .streamKinds) k) (R .someStream) floors (R .constraints) refl e)
 
-  pub form-refused : (refusal ≡ 0 → ⊥) → refusedReading refusal ≡ readingOf (linesAnswer namesLine lowsLine highsLine kindsLine text)
+  pub form-refused : (refusal ≡ 0 → ⊥) → refusedReading refusal ≡ readingOf (linesAnswer floors namesLine lowsLine highsLine kindsLine text)
   form-refused n = by said refl (new .counts .ok) refl (namesRefused (tokens namesLine)) refl
     where
-      by : (a : Bool) → said ≡ a → (ok : Bool) → new .counts .ok ≡ ok → (named : Bool) → namesRefused (tokens namesLine) ≡ named → refusedReading refusal ≡ readingOf (linesAnswer namesLine lowsLine highsLine kindsLine text)
+      by : (a : Bool) → said ≡ a → (ok : Bool) → new .counts .ok ≡ ok → (named : Bool) → namesRefused (tokens namesLine) ≡ named → refusedReading refusal ≡ readingOf (linesAnswer floors namesLine lowsLine highsLine kindsLine text)
       by false k ok e named d = ap refusedReading (refusal-is k e d) ∙ no-kinds-reading k
       by true k false e named d = ap refusedReading (refusal-is k e d) ∙ no-constraints-reading k e
-      by true k true e true d = ap refusedReading (refusal-is k e d) ∙ names-reading (form-found k e) d
+      by true k true e true d = ap refusedReading (refusal-is k e d) ∙ names-reading (form-found k e) floors d
       by true k true e false d = absurd (n (refusal-is k e d))
 
   -- Where neither refusal is given, the lines are of the form and no name of line 1 is refused.
@@ -181,8 +195,13 @@ module _ {namesLine lowsLine highsLine kindsLine text : List ℕ} {r : StreamsRe
       by true k true e true d = let y = refusal-is k e d in absurd (omega arith)
       by true k true e false d = (form-found k e, d)
 
-  pub held-sheet : refusal ≡ 0 → HeldSheet r tables kinds new
-  held-sheet z = let (F, h) = form-taken z in record { sheet = found F; held = found-held F h }
+  -- The kinds of the nodes, which are restated, fill their room.
+  pub kinds-fill : refusal ≡ 0 → length (new .nodes .kinds) ≤ 1024
+  kinds-fill z = found-room (form-taken z .0) floors
 
-  pub held-reading : refusal ≡ 0 → {reading : Reading} → HeldReading r tables kinds new reading → reading ≡ readingOf (linesAnswer namesLine lowsLine highsLine kindsLine text)
-  held-reading z g = let (F, h) = form-taken z in g .gives (found F) (found-held F h) ∙ sym (ap readingOf (answer-is F))
+  module _ (z : refusal ≡ 0) {ks : List ℕ} (restated : ks ≡ meantKinds floors (new .nodes .kinds)) where
+    pub held-sheet : HeldSheet r tables kinds (withNodeKinds ks new)
+    held-sheet = let (F, h) = form-taken z in record { sheet = found F floors; held = found-held F floors h restated }
+
+    pub held-reading : {reading : Reading} → HeldReading r tables kinds (withNodeKinds ks new) reading → reading ≡ readingOf (linesAnswer floors namesLine lowsLine highsLine kindsLine text)
+    held-reading g = let (F, h) = form-taken z in g .gives (found F floors) (found-held F floors h restated) ∙ sym (ap readingOf (answer-is F floors))

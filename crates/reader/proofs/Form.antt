@@ -12,6 +12,7 @@ use Rattle.nodes.specs.Evaluate.{stored}
 use Rattle.text.specs.Bytes.{Token}
 use Rattle.text.specs.Token.{isName, isInteger}
 use Rattle.meaning.specs.Expression.{Constraint, StreamKind, Stream, Sheet}
+use Rattle.sheet.specs.Release.{meantConstraints}
 use Rattle.sheet.specs.Form.{namesOf}
 use Rattle.sheet.specs.Parser.{andThen}
 use Rattle.sheet.specs.Reading.{streamFrom, streamsFrom, kindsOfStreams, withKinds, constraintsOf, sheetFrom, formOfLines}
@@ -96,44 +97,44 @@ constraints-missing {names} {ls} {old} {new} (constraints.areRead p) o h =
 -- ---- the sheet
 
 -- What is made of the streams of the three header lines: their kinds, and the sheet.
-abbrev withRest : Option (List Token) → List (List ℕ) → List Stream → Option Sheet
-withRest said ls ss = andThen (kindsOfStreams said (length ss)) (λ ks. sheetFrom ls (withKinds ks ss))
+abbrev withRest : Bool → Option (List Token) → List (List ℕ) → List Stream → Option Sheet
+withRest floors said ls ss = andThen (kindsOfStreams said (length ss)) (λ ks. sheetFrom floors ls (withKinds ks ss))
 
-pub form-no-streams : {names lows highs : List Token} {r : StreamsRead} {tables : StreamTables} (said : Option (List Token)) (ls : List (List ℕ)) → StreamsOutcome names lows highs r tables → r .ok ≡ false
-    → formOfLines names lows highs said ls ≡ none
-form-no-streams said ls o h = ap (λ x. andThen x (withRest said ls)) (streams-missing o h)
+pub form-no-streams : {names lows highs : List Token} {r : StreamsRead} {tables : StreamTables} (floors : Bool) (said : Option (List Token)) (ls : List (List ℕ)) → StreamsOutcome names lows highs r tables → r .ok ≡ false
+    → formOfLines floors names lows highs said ls ≡ none
+form-no-streams floors said ls o h = ap (λ x. andThen x (withRest floors said ls)) (streams-missing o h)
 
-sheet-empty : (said : Option (List Token)) (ls : List (List ℕ)) (ss : List Stream) → length ss ≡ 0 → withRest said ls ss ≡ none
-sheet-empty said ls [] h = by (kindsOfStreams said 0)
+sheet-empty : (floors : Bool) (said : Option (List Token)) (ls : List (List ℕ)) (ss : List Stream) → length ss ≡ 0 → withRest floors said ls ss ≡ none
+sheet-empty floors said ls [] h = by (kindsOfStreams said 0)
   where
-    by : (o : Option (List StreamKind)) → andThen o (λ ks. sheetFrom ls (withKinds ks [])) ≡ none
+    by : (o : Option (List StreamKind)) → andThen o (λ ks. sheetFrom floors ls (withKinds ks [])) ≡ none
     by none = refl
     by (some []) = refl
     by (some (k ∷ ks)) = refl
-sheet-empty said ls (s ∷ ss) h = absurd (omega arith)
+sheet-empty floors said ls (s ∷ ss) h = absurd (omega arith)
 
-sheet-from : (ls : List (List ℕ)) (ss : List Stream) → (length ss ≡ 0 → ⊥) → sheetFrom ls ss ≡ andThen (constraintsOf (namesOf ss) ls) (λ cs. some (record { streams = ss; constraints = cs }))
-sheet-from ls [] h = absurd (h refl)
-sheet-from ls (s ∷ ss) h = refl
+sheet-from : (floors : Bool) (ls : List (List ℕ)) (ss : List Stream) → (length ss ≡ 0 → ⊥) → sheetFrom floors ls ss ≡ andThen (constraintsOf (namesOf ss) ls) (λ cs. some (record { streams = ss; constraints = meantConstraints floors cs }))
+sheet-from floors ls [] h = absurd (h refl)
+sheet-from floors ls (s ∷ ss) h = refl
 
 module _ {names lows highs : List Token} {r : StreamsRead} {tables : StreamTables} (f : StreamsFound names lows highs r tables) where
   pub found-count : r .count ≡ length (f .all)
   found-count = ap (λ x. x .count) (f .gives)
 
-  pub form-empty : (said : Option (List Token)) (ls : List (List ℕ)) → r .count ≡ 0 → formOfLines names lows highs said ls ≡ none
-  form-empty said ls h = ap (λ o. andThen o (withRest said ls)) (f .form) ∙ sheet-empty said ls (f .all) (sym found-count ∙ h)
+  pub form-empty : (floors : Bool) (said : Option (List Token)) (ls : List (List ℕ)) → r .count ≡ 0 → formOfLines floors names lows highs said ls ≡ none
+  form-empty floors said ls h = ap (λ o. andThen o (withRest floors said ls)) (f .form) ∙ sheet-empty floors said ls (f .all) (sym found-count ∙ h)
 
-  pub form-no-kinds : {kinds : List Token} {ok : Bool} {table : List ℕ} (ls : List (List ℕ)) → KindsOutcome kinds (r .count) ok table → ok ≡ false → formOfLines names lows highs (saidTokens kinds) ls ≡ none
-  form-no-kinds {kinds} ls (noKinds p e) h =
-      ap (λ o. andThen o (withRest (saidTokens kinds) ls)) (f .form)
-      ∙ ap (λ n. andThen (kindsOfStreams (saidTokens kinds) n) (λ ks. sheetFrom ls (withKinds ks (f .all)))) (sym found-count)
-      ∙ ap (λ o. andThen o (λ ks. sheetFrom ls (withKinds ks (f .all)))) p
-  form-no-kinds {kinds} ls (kindsRead ks p e t) h = absurd (subst T (sym e ∙ h) tt)
+  pub form-no-kinds : {kinds : List Token} {ok : Bool} {table : List ℕ} (floors : Bool) (ls : List (List ℕ)) → KindsOutcome kinds (r .count) ok table → ok ≡ false → formOfLines floors names lows highs (saidTokens kinds) ls ≡ none
+  form-no-kinds {kinds} floors ls (noKinds p e) h =
+      ap (λ o. andThen o (withRest floors (saidTokens kinds) ls)) (f .form)
+      ∙ ap (λ n. andThen (kindsOfStreams (saidTokens kinds) n) (λ ks. sheetFrom floors ls (withKinds ks (f .all)))) (sym found-count)
+      ∙ ap (λ o. andThen o (λ ks. sheetFrom floors ls (withKinds ks (f .all)))) p
+  form-no-kinds {kinds} floors ls (kindsRead ks p e t) h = absurd (subst T (sym e ∙ h) tt)
 
 -- The streams with their kinds, and that the tables hold them.
 pub record HeaderFound (names lows highs kinds : List Token) (r : StreamsRead) (tables : StreamTables) (kindTable : List ℕ) : Type 0 where
   pub all : List Stream
-  pub form : (ls : List (List ℕ)) → formOfLines names lows highs (saidTokens kinds) ls ≡ sheetFrom ls all
+  pub form : (floors : Bool) (ls : List (List ℕ)) → formOfLines floors names lows highs (saidTokens kinds) ls ≡ sheetFrom floors ls all
   pub namesAre : namesOf all ≡ names
   pub gives : r ≡ streamsRead all
   pub stored : tables ≡ streamTablesOf all
@@ -148,21 +149,21 @@ header-found {names} {lows} {highs} {kinds} f (kindsRead ks p e t) h =
     let each : length ks ≡ length ss = kindsOfStreams-sound (saidTokens kinds) (length ss) ks said .1 in
     record {
       all = withKinds ks ss;
-      form = λ ls. ap (λ o. andThen o (withRest (saidTokens kinds) ls)) (f .form) ∙ ap (λ o. andThen o (λ js. sheetFrom ls (withKinds js ss))) said;
+      form = λ floors ls. ap (λ o. andThen o (withRest floors (saidTokens kinds) ls)) (f .form) ∙ ap (λ o. andThen o (λ js. sheetFrom floors ls (withKinds js ss))) said;
       namesAre = withKinds-map (λ x. x .name) (λ k s. refl) ks ss ∙ streams-names names lows highs (f .form);
       gives = f .gives ∙ kinds-streamsRead ks ss;
       stored = f .stored ∙ kinds-tables ks ss;
       kindsStored = t ∙ ap (padded 8 0) (kinds-codes ks ss each);
     }
 
-module _ {names lows highs kinds : List Token} {r : StreamsRead} {tables : StreamTables} {kindTable : List ℕ} (f : HeaderFound names lows highs kinds r tables kindTable) (some-stream : r .count ≡ 0 → ⊥) where
-  form-streams : (ls : List (List ℕ)) → formOfLines names lows highs (saidTokens kinds) ls ≡ andThen (constraintsOf names ls) (λ cs. some (record { streams = f .all; constraints = cs }))
+module _ {names lows highs kinds : List Token} {r : StreamsRead} {tables : StreamTables} {kindTable : List ℕ} (f : HeaderFound names lows highs kinds r tables kindTable) (some-stream : r .count ≡ 0 → ⊥) (floors : Bool) where
+  form-streams : (ls : List (List ℕ)) → formOfLines floors names lows highs (saidTokens kinds) ls ≡ andThen (constraintsOf names ls) (λ cs. some (record { streams = f .all; constraints = meantConstraints floors cs }))
   form-streams ls =
-      f .form ls ∙ sheet-from ls (f .all) (λ e. some-stream (ap (λ x. x .count) (f .gives) ∙ e))
-      ∙ ap (λ n. andThen (constraintsOf n ls) (λ cs. some (record { streams = f .all; constraints = cs }))) (f .namesAre)
+      f .form floors ls ∙ sheet-from floors ls (f .all) (λ e. some-stream (ap (λ x. x .count) (f .gives) ∙ e))
+      ∙ ap (λ n. andThen (constraintsOf n ls) (λ cs. some (record { streams = f .all; constraints = meantConstraints floors cs }))) (f .namesAre)
 
-  pub form-no-constraints : {ls : List (List ℕ)} {old new : State} → ConstraintsOutcome names ls old new → old .counts .ok ≡ true → new .counts .ok ≡ false → formOfLines names lows highs (saidTokens kinds) ls ≡ none
-  form-no-constraints {ls} o h k = form-streams ls ∙ ap (λ x. andThen x (λ cs. some (record { streams = f .all; constraints = cs }))) (constraints-missing o h k)
+  pub form-no-constraints : {ls : List (List ℕ)} {old new : State} → ConstraintsOutcome names ls old new → old .counts .ok ≡ true → new .counts .ok ≡ false → formOfLines floors names lows highs (saidTokens kinds) ls ≡ none
+  form-no-constraints {ls} o h k = form-streams ls ∙ ap (λ x. andThen x (λ cs. some (record { streams = f .all; constraints = meantConstraints floors cs }))) (constraints-missing o h k)
 
-  pub form-sheet : {ls : List (List ℕ)} {old new : State} (k : ConstraintsFound names ls old new) → formOfLines names lows highs (saidTokens kinds) ls ≡ some (record { streams = f .all; constraints = k .all })
-  form-sheet {ls} k = form-streams ls ∙ ap (λ x. andThen x (λ cs. some (record { streams = f .all; constraints = cs }))) (k .form)
+  pub form-sheet : {ls : List (List ℕ)} {old new : State} (k : ConstraintsFound names ls old new) → formOfLines floors names lows highs (saidTokens kinds) ls ≡ some (record { streams = f .all; constraints = meantConstraints floors (k .all) })
+  form-sheet {ls} k = form-streams ls ∙ ap (λ x. andThen x (λ cs. some (record { streams = f .all; constraints = meantConstraints floors cs }))) (k .form)

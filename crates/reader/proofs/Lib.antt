@@ -7,6 +7,7 @@ pub mod FirstNodes
 pub mod SheetExtent
 pub mod Counts
 pub mod Form
+pub mod Floored
 pub mod Tests
 pub mod Answers
 pub mod Held

@@ -57,12 +57,12 @@ module _ {text : List ℕ} {h : Header} (K : HeaderKnown text h) where
 
   -- The sheet of the lines found, where there are three header lines.
   abbrev read : Option Sheet
-  read = formOfLines (tokens (place.between text 0 (h .«names_end»))) (tokens (place.between text (h .«lows_start») (h .«lows_end»))) (tokens (place.between text (h .«highs_start») (h .«highs_end»))) (saidTokens (tokens (place.between text (h .«kinds_start») (h .«kinds_end»)))) (lines rest)
+  read = formOfLines (h .floors) (tokens (place.between text (h .«names_start») (h .«names_end»))) (tokens (place.between text (h .«lows_start») (h .«lows_end»))) (tokens (place.between text (h .«highs_start») (h .«highs_end»))) (saidTokens (tokens (place.between text (h .«kinds_start») (h .«kinds_end»)))) (lines rest)
 
   form-is : form text ≡ cond (h .whole) read none
   unfolding formOf
   form-is =
-      sym (λ i. cond (places .whole i) (formOfLines (tokens (places .names i)) (tokens (places .lows i)) (tokens (places .highs i)) (sym (places .kinds) i) (rest-lines i)) none)
+      sym (λ i. cond (places .whole i) (formOfLines (places .floors i) (tokens (places .names i)) (tokens (places .lows i)) (tokens (places .highs i)) (sym (places .kinds) i) (rest-lines i)) none)
 
   form-reading : {o : Option Sheet} → form text ≡ o → readingOf (answerToForm o) ≡ textReading text
   form-reading e = ap (λ o. readingOf (answerToForm o)) (sym e) ∙ tested-reading text (K .bytes) (K .counted)
@@ -74,7 +74,7 @@ module _ {text : List ℕ} {h : Header} (K : HeaderKnown text h) where
   whole-reading k = form-reading (form-is ∙ ap (λ b. cond b read none) k)
 
   -- What refusal 2 leaves.
-  pub lines-few : (length (tokens (place.between text 0 (h .«names_end»))) ≤ 8) × LinesFit (lines rest)
+  pub lines-few : (length (tokens (place.between text (h .«names_start») (h .«names_end»))) ≤ 8) × LinesFit (lines rest)
   unfolding refuses2
   lines-few =
       let names = ltb 8 (length (lineTokens text 0)) in

@@ -15,7 +15,7 @@ use borrow.Author.Tests.{eq-eqb, ne-eqb, lt-ltb, le-ltb, le-leb, lt-leb}
 use mir.Syntax.{w64}
 use mir.Val.{SFits, toZ}
 use mir.ValLaws.{toZ-ofZ}
-use Rattle.meaning.specs.Arithmetic.{Operator, add, subtract, multiply, divide, remainder, compare, and, or}
+use Rattle.meaning.specs.Arithmetic.{Operator, add, subtract, multiply, divide, remainder, compare, and, or, flooredDivide, flooredRemainder}
 use Rattle.meaning.specs.Expression.{Expression, integer, name, first, next, negation, binary, conditional, fby, Constraint, always, until, leftSide, rightSide}
 use Rattle.meaning.specs.Window.{firsts, sideFirsts}
 use Rattle.sheet.specs.Reading.{anyOf, namesBelow, sidesBelow}
@@ -70,6 +70,8 @@ operator-beyond remainder = omega arith
 operator-beyond (compare c) = omega arith
 operator-beyond and = omega arith
 operator-beyond or = omega arith
+operator-beyond flooredDivide = omega arith
+operator-beyond flooredRemainder = omega arith
 
 not-both : (a b : Bool) → not a || not b ≡ not (a && b)
 not-both true b = refl

@@ -15,6 +15,7 @@ ghost use Rattle.header.specs.Streams.{streamTables};
 ghost use Rattle.reader.specs.Unknown.{isUnknown, someUnknown};
 ghost use Rattle.reader.specs.Extent.{noExtent, withSummary, extentFrom};
 ghost use Rattle.reader.specs.FirstNodes.{withFirsts, FewFirsts};
+ghost use Rattle.nodes.specs.Code.{flooredKind, meantKinds};
 ghost use Rattle.nodes.specs.Evaluate.{stored};
 ghost use Rattle.sheet.specs.Reading.{formOfLines, answerTo, answerToForm};
 ghost use Rattle.refusals.specs.Places.{saidTokens};
@@ -125,6 +126,34 @@ fn refused(number: u32) -> Reading
     Reading {
         refusal: number,
         sheet: sheet,
+    }
+}
+
+// What the kind of a node becomes where quotients are rounded down.
+fn floored_kind(kind: u8) -> u8
+    ensures { λ r. ⌜ r ≡ flooredKind kind ⌝ }
+{
+    if kind == nodes::DIVIDE_NODE {
+        return nodes::FLOORED_DIVIDE_NODE;
+    }
+    if kind == nodes::REMAINDER_NODE {
+        return nodes::FLOORED_REMAINDER_NODE;
+    }
+    kind
+}
+
+// Turns the kinds of nodes that were read into those that a sheet of the release means.
+fn restate(kinds: &mut [u8; 1024], floors: bool)
+    requires { ⌜ length (now kinds) ≤ 1024 ⌝ }
+    ensures { λ r. ⌜ now (kinds .exit) ≡ meantKinds floors (now (kinds .entry)) ⌝ }
+{
+    if !floors {
+        return;
+    }
+    let mut i = 0;
+    while i < 1024 {
+        kinds[i] = floored_kind(kinds[i]);
+        i += 1;
     }
 }
 
@@ -422,16 +451,17 @@ fn store_sheet(
     }
 }
 
-// The answer to a sheet whose header lines and constraint lines are these, where refusals 1 and 2 do not apply.
+// The answer to a sheet whose header lines and constraint lines are these, where refusals 1 and 2 do not apply; `floors` tells the release.
 fn read_lines(
     names_line: &[u8],
     lows_line: &[u8],
     highs_line: &[u8],
     kinds_line: &[u8],
     text: &[u8],
+    floors: bool,
 ) -> Reading
     requires { ⌜ (length (tokens (now «names_line»)) ≤ 8) × LinesFit (lines (now text)) ⌝ }
-    ensures { λ r. ⌜ r ≡ readingOf (answerToForm (formOfLines (tokens (now («names_line» .entry))) (tokens (now («lows_line» .entry))) (tokens (now («highs_line» .entry))) (saidTokens (tokens (now («kinds_line» .entry)))) (lines (now (text .entry))))) ⌝ }
+    ensures { λ r. ⌜ r ≡ readingOf (answerToForm (formOfLines floors (tokens (now («names_line» .entry))) (tokens (now («lows_line» .entry))) (tokens (now («highs_line» .entry))) (saidTokens (tokens (now («kinds_line» .entry)))) (lines (now (text .entry))))) ⌝ }
 {
     let header = header::read_header(names_line, lows_line, highs_line, kinds_line);
     let streams = header.streams;
@@ -466,6 +496,7 @@ fn read_lines(
     if refusal != 0 {
         return refused(refusal);
     }
+    restate(&mut kinds, floors);
     store_sheet(
         streams,
         header.arrays,
@@ -495,6 +526,7 @@ pub fn read(text: &[u8]) -> Reading
     if !header.whole {
         return refused(3);
     }
+    let names_start = header.names_start;
     let names_end = header.names_end;
     let lows_start = header.lows_start;
     let lows_end = header.lows_end;
@@ -504,10 +536,11 @@ pub fn read(text: &[u8]) -> Reading
     let kinds_end = header.kinds_end;
     let from = header.constraints;
     read_lines(
-        &text[0..names_end],
+        &text[names_start..names_end],
         &text[lows_start..lows_end],
         &text[highs_start..highs_end],
         &text[kinds_start..kinds_end],
         &text[from..],
+        header.floors,
     )
 }

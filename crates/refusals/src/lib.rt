@@ -1,17 +1,21 @@
 // The tests behind refusals 1 to 4 that need no stored sheet: of bytes, lines and names.
+use basics::both;
+use basics::either;
 ghost use mathlib.Core.Path.{_≡_};
 ghost use Prim.Native.Nat.{_≤_};
 ghost use lib.ListN.{length};
 ghost use Rattle.text.specs.Bytes.{lines, tokens};
 ghost use Rattle.text.specs.Token.{isOneOf};
-ghost use Rattle.sheet.specs.Form.{saysKinds};
+ghost use Rattle.sheet.specs.Form.{saysKinds, layoutIn};
 ghost use Rattle.sheet.specs.Refusal.{isAllowed};
 ghost use Rattle.sheet.specs.Reading.{refuses1, refuses2};
 ghost use Rattle.refusals.specs.Names.{namesRefused};
-ghost use Rattle.refusals.specs.Places.{KindsLineAt, HeaderOf, constraintLinesRefused};
+ghost use Rattle.refusals.specs.Places.{releaseRead, ReleaseOf, KindsLineAt, HeaderOf, constraintLinesRefused};
 
-// Where the three header lines and the line of kinds stand and the constraint lines begin, and whether there are three header lines.
+// Where the three header lines and the line of kinds stand and the constraint lines begin, whether quotients are rounded down, and whether the
+// release is known and there are three header lines.
 pub struct Header {
+    pub names_start: usize,
     pub names_end: usize,
     pub lows_start: usize,
     pub lows_end: usize,
@@ -20,7 +24,15 @@ pub struct Header {
     pub kinds_start: usize,
     pub kinds_end: usize,
     pub constraints: usize,
+    pub floors: bool,
     pub whole: bool,
+}
+
+// Whether the release is one that is known, whether it is the one whose quotients are rounded down, and where the names line begins.
+struct Release {
+    known: bool,
+    floors: bool,
+    names_start: usize,
 }
 
 // "10 and 32 to 126"
@@ -53,6 +65,53 @@ pub fn bytes_refused(text: &[u8]) -> bool
     false
 }
 
+// The number of the release that a line says: "Only a first line of `release` and one integer is such a line".
+fn release_number(line: &[u8]) -> scan::IntegerRead
+    ensures { λ r. ⌜ r ≡ releaseRead (tokens (now (line .entry))) ⌝ }
+{
+    let nothing = scan::IntegerRead {
+        ok: false,
+        beyond: false,
+        value: 0,
+    };
+    let word = scan::next_token(line, 0);
+    let start = word.start;
+    let end = word.end;
+    if !vocabulary::is_release(&line[start..end]) {
+        return nothing;
+    }
+    if scan::token_count(line) != 2 {
+        return nothing;
+    }
+    let number = scan::next_token(line, end);
+    let number_start = number.start;
+    let number_end = number.end;
+    scan::read_integer(&line[number_start..number_end])
+}
+
+// The release of a text, by its first line.
+fn release_of(text: &[u8]) -> Release
+    ensures { λ r. ⌜ ReleaseOf (now (text .entry)) r ⌝ }
+{
+    let line = scan::next_line(text, 0);
+    let end = line.end;
+    let said = release_number(&text[0..end]);
+    if said.ok {
+        let number = said.value;
+        let floors = arithmetic::same(number, 2);
+        return Release {
+            known: either(arithmetic::same(number, 1), floors),
+            floors: floors,
+            names_start: line.next,
+        };
+    }
+    Release {
+        known: true,
+        floors: false,
+        names_start: 0,
+    }
+}
+
 // "known by `read` or `set` as its first token"
 fn says_kinds(line: &[u8]) -> bool
     ensures { λ r. ⌜ r ≡ saysKinds (tokens (now (line .entry))) ⌝ }
@@ -80,7 +139,9 @@ fn kinds_line(text: &[u8], at: usize) -> scan::LineSpan
 pub fn header_of(text: &[u8]) -> Header
     ensures { λ r. ⌜ HeaderOf (now (text .entry)) r ⌝ }
 {
-    let names = scan::next_line(text, 0);
+    let release = release_of(text);
+    let names_start = release.names_start;
+    let names = scan::next_line(text, names_start);
     let lows_start = names.next;
     let lows = scan::next_line(text, lows_start);
     let highs_start = lows.next;
@@ -88,6 +149,7 @@ pub fn header_of(text: &[u8]) -> Header
     let kinds_start = highs.next;
     let kinds = kinds_line(text, kinds_start);
     Header {
+        names_start: names_start,
         names_end: names.end,
         lows_start: lows_start,
         lows_end: lows.end,
@@ -96,7 +158,8 @@ pub fn header_of(text: &[u8]) -> Header
         kinds_start: kinds_start,
         kinds_end: kinds.end,
         constraints: kinds.next,
-        whole: highs_start < text.len(),
+        floors: release.floors,
+        whole: both(release.known, highs_start < text.len()),
     }
 }
 
@@ -129,8 +192,9 @@ pub fn lines_refused(text: &[u8]) -> bool
     ensures { λ r. ⌜ r ≡ refuses2 (now (text .entry)) ⌝ }
 {
     let header = header_of(text);
+    let names_start = header.names_start;
     let names_end = header.names_end;
-    if 8 < scan::token_count(&text[0..names_end]) {
+    if 8 < scan::token_count(&text[names_start..names_end]) {
         return true;
     }
     let from = header.constraints;

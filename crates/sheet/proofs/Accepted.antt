@@ -1,6 +1,6 @@
 -- What is known of an accepted sheet. From the refusals that do not apply to it and from its form.
 use Prim.Native.Nat.{ℕ, zero, suc, _+_, _≤_, _<_}
-use mathlib.Core.Path.{_≡_, refl, ap, _∙_}
+use mathlib.Core.Path.{_≡_, refl, sym, ap, _∙_}
 use mathlib.Core.List.{List, [], _∷_, _++_, List·Memᴰ, List·Memᴰ·head, List·Memᴰ·tail}
 use native.Mathlib.Nat.{mul-pos}
 use native.Mathlib.Omega.{arith}
@@ -17,11 +17,13 @@ use Rattle.meaning.specs.Interval.{interval, subexpressions}
 use Rattle.meaning.specs.Letter.{size, letterCount}
 use Rattle.sheet.specs.Vocabulary.{Relation, sign, untilSign, related}
 use Rattle.sheet.specs.Grammar.{ReadsConstraint, isConstraint}
-use Rattle.sheet.specs.Form.{lineTokens, constraintLines, Constraints, namesOf, HasForm, layoutIn}
+use Rattle.sheet.specs.Release.{floorsQuotients}
+use Rattle.sheet.specs.Form.{releaseIn, lineTokens, constraintLines, Constraints, namesOf, HasForm, layoutIn}
 use Rattle.sheet.specs.Refusal.{streamBound, constraintBound, tokenBound, magnitudeBound, tokenCount, tooManyStreams, tooManyConstraints, tooManyTokens, givenTwice, reservedName, unknownName, Refusal5, lowBeyond, highBeyond, lowAboveHigh, leavesBounds, tooManyLetters, tooManyUntils, tooManyFirsts, tooWide, sheet, AnswerTo, accepted}
 use Rattle.sheet.specs.Reading.{allExpressions}
 use Rattle.sheet.specs.Accepted.{Accepted}
 use Rattle.sheet.proofs.Grammar.{reads-count}
+use Rattle.sheet.proofs.Release.{meant-length, meant-expressions}
 use Rattle.sheet.proofs.Refusal.{areDistinct-reflects, sidesBelow-reflects, inBounds-reflects}
 
 -- A number of at most a magnitude lies between that magnitude's ends.
@@ -77,8 +79,9 @@ not-over {m} {n} h = let k : ¬ (m < n) = h in omega arith
 pub accepted-facts : {text : List ℕ} {s : Sheet} → AnswerTo text (sheet s) → Accepted s
 accepted-facts {text} (accepted {s} n₁ n₂ n₃ n₄ n₅ n₆ n₇ f) =
     let streams : length (lineTokens text (layoutIn text .namesLine)) ≡ length (s .streams) = ap length (f .names) ∙ length-map (s .streams) (λ x. x .name) in
-    let lines = constraints-length (f .constraints) in
-    let nodes = constraints-count (f .constraints) in
+    let lines : length (constraintLines text) ≡ length (s .constraints) = constraints-length (f .constraints) ∙ sym (meant-length (floorsQuotients (releaseIn text)) (f .written)) ∙ ap length (f .meaning) in
+    let nodes : length (allExpressions (s .constraints)) + length (s .constraints) ≤ tokenCount (constraintLines text) =
+    omega (arith, constraints-count (f .constraints), meant-length (floorsQuotients (releaseIn text)) (f .written), meant-expressions (floorsQuotients (releaseIn text)) (f .written), ap length (f .meaning), ap (λ cs. length (allExpressions cs)) (f .meaning)) in
     let few : length (lineTokens text (layoutIn text .namesLine)) ≤ streamBound = not-over (λ l. n₂ (tooManyStreams l)) in
     let short : length (constraintLines text) ≤ constraintBound = not-over (λ l. n₂ (tooManyConstraints l)) in
     let sparse : tokenCount (constraintLines text) ≤ tokenBound = not-over (λ l. n₂ (tooManyTokens l)) in

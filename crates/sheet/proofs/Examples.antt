@@ -7,19 +7,20 @@ use lib.IntN.{pos, negsuc}
 use Rattle.text.specs.Bytes.{bytesOf, lines, tokens}
 use Rattle.text.specs.Token.{isName, isNatural, isInteger, naturalFrom, integerValue, reservedWords, isReserved}
 use Rattle.meaning.specs.Value.{less, atMost, equal, atLeast, greater, different}
-use Rattle.meaning.specs.Arithmetic.{add, subtract, multiply, divide, remainder, compare, and, or}
+use Rattle.meaning.specs.Arithmetic.{add, subtract, multiply, divide, remainder, compare, and, or, flooredDivide, flooredRemainder}
 use Rattle.meaning.specs.Expression.{integer, name, first, next, negation, binary, conditional, fby, comparison, implies, always, until, readKind, setKind}
 use Rattle.meaning.specs.Interval.{interval, subexpressions}
 use Rattle.meaning.specs.Letter.{letterCount}
 use Rattle.meaning.specs.Window.{reach, back, firsts, B, D}
 use Rattle.sheet.specs.Vocabulary.{pointwise, followedBy, operatorTokens, operatorOf, sign, untilSign, relationTokens, relationOf, prefixTokens, prefixOf, streamKindTokens, streamKindOf, namePlace}
+use Rattle.sheet.specs.Release.{saysRelease, saidRelease}
 use Rattle.sheet.specs.Form.{saysKinds}
 use Rattle.sheet.specs.Refusal.{Answer, refused, sheet}
 use Rattle.sheet.specs.Parser.{expressionBy, openingOf, partTo, parseConstraint}
 use Rattle.sheet.specs.Reading.{refuses1, tooDeepFrom, refuses2, streamsFrom, kindsFrom, constraintsOf, formOf, refuses4, refuses5, refuses6, refuses7, answerToSheet, answerTo}
 
 answer : List ℕ → Answer
-unfolding lines tokens isName isNatural isInteger naturalFrom integerValue reservedWords isReserved interval subexpressions letterCount reach back firsts B D operatorTokens operatorOf relationTokens relationOf prefixTokens prefixOf streamKindTokens streamKindOf saysKinds namePlace expressionBy openingOf partTo parseConstraint refuses1 tooDeepFrom refuses2 streamsFrom kindsFrom constraintsOf formOf refuses4 refuses5 refuses6 refuses7 answerToSheet answerTo
+unfolding lines tokens isName isNatural isInteger naturalFrom integerValue reservedWords isReserved interval subexpressions letterCount reach back firsts B D operatorTokens operatorOf relationTokens relationOf prefixTokens prefixOf streamKindTokens streamKindOf saysRelease saidRelease saysKinds namePlace expressionBy openingOf partTo parseConstraint refuses1 tooDeepFrom refuses2 streamsFrom kindsFrom constraintsOf formOf refuses4 refuses5 refuses6 refuses7 answerToSheet answerTo
 answer text = answerTo text
 
 -- P1, and that `ge` is read as `atLeast`.
@@ -44,6 +45,21 @@ kinds : answer (bytesOf "level gate\n0 0\n2 1\nread set\n( level ge 2 ) -> gate"
 })
 unfolding answer
 kinds = refl
+
+-- What a sheet of release 2 means by `/` and `%`, also inside other expressions; and one of release 1.
+release-two : answer (bytesOf "release 2\nx\n-7\n0\nnext ( x / 2 ) == first not ( 1 % x )") ≡ sheet (record {
+  streams = record { name = bytesOf "x"; kind = setKind; range = record { low = negsuc 6; high = pos 0 } } ∷ [];
+  constraints = always (comparison equal) (next (binary flooredDivide (name 0) (integer (pos 2)))) (first (negation (binary flooredRemainder (integer (pos 1)) (name 0)))) ∷ [];
+})
+unfolding answer
+release-two = refl
+
+release-one : answer (bytesOf "release 1\nx\n-7\n0\nx / 2 == 1 % x") ≡ sheet (record {
+  streams = record { name = bytesOf "x"; kind = setKind; range = record { low = negsuc 6; high = pos 0 } } ∷ [];
+  constraints = always (comparison equal) (binary divide (name 0) (integer (pos 2))) (binary remainder (integer (pos 1)) (name 0)) ∷ [];
+})
+unfolding answer
+release-one = refl
 
 -- Every form whose parts could be taken in another order, a negative integer, and tokens without spaces beside brackets.
 shapes : answer (bytesOf "x y\n-1 0\n1 12\nif x then -5 else y -> x fby (not first y)\n(next x) until y") ≡ sheet (record {
@@ -158,6 +174,31 @@ rows =
     ∷ (bytesOf "read x\n0 0\n1 1", 4)
     ∷ (bytesOf "x\n0\n1\nx == read", 3)
     ∷ (bytesOf "x set\n0 0\n1 1\nx == 1\nset == 1", 3)
+    -- The release line: `release` and one integer, 1 or 2, before the names and nowhere else; lines are counted behind it, also where the number is
+    -- another; `release` may still name a stream.
+    ∷ (bytesOf "release 2\nx\n0\n1\nread", 0)
+    ∷ (bytesOf "release 1\nx\n0\n1", 0)
+    ∷ (bytesOf "release 7\nx\n0\n1", 3)
+    ∷ (bytesOf "release 12\nx\n0\n1", 3)
+    ∷ (bytesOf "release -2\nx\n0\n1", 3)
+    ∷ (bytesOf "release 7\na b c d e f g h i\n0\n1", 2)
+    ∷ (bytesOf "release 2\na b c d e f g h i\n0\n1", 2)
+    ∷ (bytesOf "release 02\nx\n0\n1", 3)
+    ∷ (bytesOf "release (2)\nx\n0\n1", 3)
+    ∷ (bytesOf "release 2 3\nx\n0\n1", 3)
+    ∷ (bytesOf "release 2\nrelease 2\nx\n0\n1", 3)
+    ∷ (bytesOf "x\n0\n1\nrelease 2", 3)
+    ∷ (bytesOf "release 2", 3)
+    ∷ (bytesOf "release\n0\n1\nrelease == 1", 0)
+    ∷ (bytesOf "release x\n0 0\n1 1\nrelease == x", 0)
+    ∷ (bytesOf "release 2\nrelease\n0\n1", 0)
+    ∷ (bytesOf "release 2\t\nx\n0\n1", 1)
+    ∷ (bytesOf "release 2\n" ++ (header ++ repeated 32 (bytesOf "x == x\n")), 0)
+    ∷ (bytesOf "release 2\n" ++ (header ++ repeated 33 (bytesOf "x == x\n")), 2)
+    -- A remainder's interval in release 2 and in release 1, at its bound and beyond.
+    ∷ (bytesOf "release 2\nx\n0\n5\n( x % 12 ) * 100000000 >= -1", 6)
+    ∷ (bytesOf "release 2\nx\n0\n5\n( x % 11 ) * 100000000 >= -1", 0)
+    ∷ (bytesOf "x\n0\n5\n( x % 12 ) * 100000000 >= -1", 0)
     -- There is no precedence, and `if` takes parts.
     ∷ (bytesOf "x\n0\n1\nx + x + x == 0", 3)
     ∷ (bytesOf "x\n0\n1\n( x + x ) + x == 0", 0)

@@ -9,17 +9,19 @@ use native.Mathlib.Omega.{arith}
 use lib.Dec.{T, leb, eqb}
 use lib.IntN.{ℤ}
 use lib.ListN.{length, replicate, length-map, length-replicate}
+use Rattle.basics.proofs.Tests.{T-of-true, true-of-T}
 use borrow.Author.Tests.{leb-true, le-leb, eqb-true, eq-eqb}
 use Rattle.basics.proofs.Tests.{and-left, and-right, and-both}
 use Rattle.basics.proofs.Reflects.{Reflects, holds, T-reflects, to-true}
-use Rattle.text.specs.Bytes.{Token, lines, tokens}
+use Rattle.text.specs.Bytes.{Token, tokens}
 use Rattle.text.specs.Token.{isName, isInteger, integerValue}
 use Rattle.meaning.specs.Expression.{Constraint, StreamKind, setKind, Stream, Sheet}
 use Rattle.meaning.specs.StreamKinds.{ofKind, withoutKinds}
 use Rattle.sheet.specs.Vocabulary.{streamKindOf}
-use Rattle.sheet.specs.Form.{lineTokens, kindTokens, constraintLines, Integers, StreamKinds, SaidKinds, Constraints, namesOf, streamKindsOf, HasForm, layoutIn}
+use Rattle.sheet.specs.Release.{isKnownRelease, floorsQuotients, meantConstraints}
+use Rattle.sheet.specs.Form.{releaseIn, linesFromNames, lineTokens, kindTokens, constraintLines, Integers, StreamKinds, SaidKinds, Constraints, namesOf, streamKindsOf, HasForm, layoutIn}
 use Rattle.sheet.specs.Parser.{andThen, parseConstraint}
-use Rattle.sheet.specs.Reading.{streamFrom, streamsFrom, kindsFrom, kindsOfStreams, withKinds, constraintsOf, sheetFrom, formOfLines, formOf}
+use Rattle.sheet.specs.Reading.{streamFrom, streamsFrom, kindsFrom, kindsOfStreams, withKinds, constraintsOf, sheetFrom, formOfLines, hasHeader, formOf}
 use Rattle.sheet.proofs.Parser.{andThen-some, parseConstraint-sound, parseConstraint-complete}
 
 abbrev lowsOf : List Stream → List ℤ
@@ -176,14 +178,15 @@ streamsRead-kinds {ls = ls} {hs = hs} {ss = ss} ks r =
       highs = subst (Integers hs) (sym (withKinds-map (λ x. x .range .high) (λ k s. refl) ks ss)) (r .highs);
     }
 
-sheetFrom-sound : (text : List ℕ) (ss : List Stream) (s : Sheet) → layoutIn text .constraintsFrom ≤ length (lines text)
+sheetFrom-sound : (text : List ℕ) (ss : List Stream) (s : Sheet) → T (isKnownRelease (releaseIn text)) → layoutIn text .constraintsFrom ≤ length (linesFromNames text)
     → StreamsRead (lineTokens text (layoutIn text .namesLine)) (lineTokens text (layoutIn text .lowsLine)) (lineTokens text (layoutIn text .highsLine)) ss → SaidKinds (kindTokens text) (streamKindsOf ss)
-    → sheetFrom (constraintLines text) ss ≡ some s → HasForm text s
-sheetFrom-sound text [] s l r k q = absurd (Option·none-ne-some s q)
-sheetFrom-sound text (x ∷ ss) s l r k q =
+    → sheetFrom (floorsQuotients (releaseIn text)) (constraintLines text) ss ≡ some s → HasForm text s
+sheetFrom-sound text [] s t l r k q = absurd (Option·none-ne-some s q)
+sheetFrom-sound text (x ∷ ss) s t l r k q =
     let (cs, read, done) = andThen-some (constraintsOf (namesOf (x ∷ ss)) (constraintLines text)) _ q in
-    subst (HasForm text) (Option·some-injective (record { streams = x ∷ ss; constraints = cs }) s done)
+    subst (HasForm text) (Option·some-injective (record { streams = x ∷ ss; constraints = meantConstraints (floorsQuotients (releaseIn text)) cs }) s done)
     (record {
+      release = t;
       headerLines = l;
       someStream = omega arith;
       names = r .names;
@@ -191,17 +194,19 @@ sheetFrom-sound text (x ∷ ss) s l r k q =
       lows = r .lows;
       highs = r .highs;
       kinds = k;
+      written = cs;
       constraints = constraintsOf-sound (namesOf (x ∷ ss)) (constraintLines text) cs read;
+      meaning = refl;
     })
 
-sheetFrom-complete : (ls : List (List ℕ)) (ss : List Stream) (cs : List Constraint) → 0 < length ss → Constraints (namesOf ss) ls cs → sheetFrom ls ss ≡ some (record { streams = ss; constraints = cs })
-sheetFrom-complete ls [] cs l r = absurd (omega arith)
-sheetFrom-complete ls (x ∷ ss) cs l r = ap (λ o. andThen o (λ cs′. some (record { streams = x ∷ ss; constraints = cs′ }))) (constraintsOf-complete (namesOf (x ∷ ss)) r)
+sheetFrom-complete : (floors : Bool) (ls : List (List ℕ)) (ss : List Stream) (cs : List Constraint) → 0 < length ss → Constraints (namesOf ss) ls cs → sheetFrom floors ls ss ≡ some (record { streams = ss; constraints = meantConstraints floors cs })
+sheetFrom-complete floors ls [] cs l r = absurd (omega arith)
+sheetFrom-complete floors ls (x ∷ ss) cs l r = ap (λ o. andThen o (λ cs′. some (record { streams = x ∷ ss; constraints = meantConstraints floors cs′ }))) (constraintsOf-complete (namesOf (x ∷ ss)) r)
 
 -- `formOf` gives exactly the sheets that the text has the form of.
 pub formOf-sound : (text : List ℕ) (s : Sheet) → formOf text ≡ some s → HasForm text s
 unfolding formOf
-formOf-sound text s q = by (leb (layoutIn text .constraintsFrom) (length (lines text))) refl q
+formOf-sound text s q = by (hasHeader text) refl q
   where
     ns : List Token
     ns = lineTokens text (layoutIn text .namesLine)
@@ -212,12 +217,18 @@ formOf-sound text s q = by (leb (layoutIn text .constraintsFrom) (length (lines 
     hs : List Token
     hs = lineTokens text (layoutIn text .highsLine)
 
-    by : (m : Bool) → leb (layoutIn text .constraintsFrom) (length (lines text)) ≡ m → cond m (formOfLines ns ls hs (kindTokens text) (constraintLines text)) none ≡ some s → HasForm text s
+    floors : Bool
+    floors = floorsQuotients (releaseIn text)
+
+    by : (m : Bool) → hasHeader text ≡ m → cond m (formOfLines floors ns ls hs (kindTokens text) (constraintLines text)) none ≡ some s → HasForm text s
     by true e h =
         let (ss, read, rest) = andThen-some (streamsFrom ns ls hs) _ h in
         let (ks, said, done) = andThen-some (kindsOfStreams (kindTokens text) (length ss)) _ rest in
         let (kinds, each) = kindsOfStreams-sound (kindTokens text) (length ss) ks said in
-        sheetFrom-sound text (withKinds ks ss) s (leb-true (layoutIn text .constraintsFrom) (length (lines text)) e) (streamsRead-kinds ks (streamsFrom-sound ns ls hs ss read))
+        let both = T-of-true (hasHeader text) e in
+        let known = and-left (isKnownRelease (releaseIn text)) (leb (layoutIn text .constraintsFrom) (length (linesFromNames text))) both in
+        let there = and-right (isKnownRelease (releaseIn text)) (leb (layoutIn text .constraintsFrom) (length (linesFromNames text))) both in
+        sheetFrom-sound text (withKinds ks ss) s known (leb-true (layoutIn text .constraintsFrom) (length (linesFromNames text)) (true-of-T _ there)) (streamsRead-kinds ks (streamsFrom-sound ns ls hs ss read))
         (subst (SaidKinds (kindTokens text)) (sym (withKinds-kinds ks ss each)) kinds) done
     by false e h = absurd (Option·none-ne-some s h)
 
@@ -226,14 +237,18 @@ unfolding formOf
 formOf-complete {text} {s} f =
     let ls : List Token = lineTokens text (layoutIn text .lowsLine) in
     let hs : List Token = lineTokens text (layoutIn text .highsLine) in
-    let rest : List Stream → Option Sheet = λ ss. andThen (kindsOfStreams (kindTokens text) (length ss)) (λ ks. sheetFrom (constraintLines text) (withKinds ks ss)) in
-    ap (λ m. cond m (andThen (streamsFrom (lineTokens text (layoutIn text .namesLine)) ls hs) rest) none) (le-leb (layoutIn text .constraintsFrom) (length (lines text)) (f .headerLines))
+    let floors = floorsQuotients (releaseIn text) in
+    let rest : List Stream → Option Sheet = λ ss. andThen (kindsOfStreams (kindTokens text) (length ss)) (λ ks. sheetFrom floors (constraintLines text) (withKinds ks ss)) in
+    let there = T-of-true _ (le-leb (layoutIn text .constraintsFrom) (length (linesFromNames text)) (f .headerLines)) in
+    let header : hasHeader text ≡ true = true-of-T (hasHeader text) (and-both (isKnownRelease (releaseIn text)) (leb (layoutIn text .constraintsFrom) (length (linesFromNames text))) (f .release) there) in
+    ap (λ m. cond m (andThen (streamsFrom (lineTokens text (layoutIn text .namesLine)) ls hs) rest) none) header
     ∙ ap (λ ns. andThen (streamsFrom ns ls hs) rest) (f .names)
     ∙ ap (λ o. andThen o rest) (streamsFrom-complete (s .streams) (f .lows) (f .highs) refl refl (f .areNames))
-    ∙ ap (λ o. andThen o (λ ks. sheetFrom (constraintLines text) (withKinds ks (withoutKinds (s .streams)))))
+    ∙ ap (λ o. andThen o (λ ks. sheetFrom floors (constraintLines text) (withKinds ks (withoutKinds (s .streams)))))
     (kindsOfStreams-complete (kindTokens text) (length (withoutKinds (s .streams))) (streamKindsOf (s .streams)) (f .kinds) (length-map (s .streams) (λ x. x .kind) ∙ sym (length-map (s .streams) (ofKind setKind))))
-    ∙ ap (sheetFrom (constraintLines text)) (kinds-back (s .streams))
-    ∙ sheetFrom-complete (constraintLines text) (s .streams) (s .constraints) (f .someStream) (f .constraints)
+    ∙ ap (sheetFrom floors (constraintLines text)) (kinds-back (s .streams))
+    ∙ sheetFrom-complete floors (constraintLines text) (s .streams) (f .written) (f .someStream) (f .constraints)
+    ∙ ap (λ cs. some (record { streams = s .streams; constraints = cs })) (f .meaning)
 
 -- A text has the form of at most one sheet.
 pub form-unique : {text : List ℕ} {s s′ : Sheet} → HasForm text s → HasForm text s′ → s ≡ s′

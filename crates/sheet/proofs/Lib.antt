@@ -4,6 +4,7 @@ pub mod Parser
 pub mod Balance
 pub mod BracketBytes
 pub mod Form
+pub mod Release
 pub mod Refusal
 pub mod Reading
 pub mod Accepted

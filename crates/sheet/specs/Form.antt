@@ -1,4 +1,4 @@
--- The form of a sheet: which bytes are a sheet, and which sheet they are (document 01, "The sheet").
+-- The form of a sheet: which bytes are a sheet, and which sheet they are (document 01, "The sheet"; document 02, S-6, S-11).
 use Prim.Native.Nat.{ℕ, _≤_, _<_}
 use mathlib.Core.Path.{_≡_}
 use mathlib.Core.Bool.{Bool, true, false, cond}
@@ -12,8 +12,24 @@ use Rattle.text.specs.Token.{isName, isInteger, integerValue}
 use Rattle.meaning.specs.Expression.{Constraint, StreamKind, setKind, Stream, Sheet}
 use Rattle.sheet.specs.Grammar.{ReadsConstraint}
 use Rattle.sheet.specs.Vocabulary.{streamKindOf}
+use Rattle.sheet.specs.Release.{saysRelease, saidRelease, isKnownRelease, floorsQuotients, meantConstraints}
 
--- The places of the header lines, counted from 0, and of the first constraint line. A text need not have a line of kinds.
+-- The tokens of the first line, which may say the sheet's release (document 02, S-11).
+abbrev pub firstTokens : List ℕ → List Token
+firstTokens text = tokens (getD (lines text) 0 [])
+
+abbrev pub releaseIn : List ℕ → ℤ
+releaseIn text = saidRelease (firstTokens text)
+
+-- How many lines stand before that of the names: one that says the release, or none.
+abbrev pub releaseLines : List ℕ → ℕ
+releaseLines text = cond (saysRelease (firstTokens text)) 1 0
+
+-- "lines are counted from the names as before" (document 02, S-11)
+abbrev pub linesFromNames : List ℕ → List (List ℕ)
+linesFromNames text = drop (releaseLines text) (lines text)
+
+-- The places of the header lines, counted from 0 from the names on, and of the first constraint line. A text need not have a line of kinds.
 pub record Layout : Type 0 where
   pub namesLine : ℕ
   pub lowsLine : ℕ
@@ -23,7 +39,7 @@ pub record Layout : Type 0 where
 
 -- The tokens of the line with this place.
 abbrev pub lineTokens : List ℕ → ℕ → List Token
-lineTokens text k = tokens (getD (lines text) k [])
+lineTokens text k = tokens (getD (linesFromNames text) k [])
 
 abbrev pub isSomeKind : Option StreamKind → Bool
 isSomeKind Option.none = false
@@ -50,7 +66,7 @@ abbrev pub kindTokens : List ℕ → Option (List Token)
 kindTokens text = tokensAt text (layoutIn text .kindsLine)
 
 abbrev pub constraintLines : List ℕ → List (List ℕ)
-constraintLines text = drop (layoutIn text .constraintsFrom) (lines text)
+constraintLines text = drop (layoutIn text .constraintsFrom) (linesFromNames text)
 
 -- The tokens are integers with these values.
 pub data Integers : List Token → List ℤ → Type 0 where
@@ -78,13 +94,17 @@ namesOf ss = map (λ s. s .name) ss
 abbrev pub streamKindsOf : List Stream → List StreamKind
 streamKindsOf ss = map (λ s. s .kind) ss
 
--- The bytes have the form of a sheet, and s is that sheet. "A line without tokens is a fault of form." "there may be none" of the constraints.
+-- The bytes have the form of a sheet, and s is that sheet. "A line without tokens is a fault of form." "there may be none" of the constraints. They
+-- are read as in release 1, and mean what the sheet's release makes of them.
 pub record HasForm (text : List ℕ) (s : Sheet) : Type 0 where
-  pub headerLines : layoutIn text .constraintsFrom ≤ length (lines text)
+  pub release : T (isKnownRelease (releaseIn text))
+  pub headerLines : layoutIn text .constraintsFrom ≤ length (linesFromNames text)
   pub someStream : 0 < length (s .streams)
   pub names : lineTokens text (layoutIn text .namesLine) ≡ namesOf (s .streams)
   pub areNames : (t : Token) → List·Memᴰ t (namesOf (s .streams)) → T (isName t)
   pub lows : Integers (lineTokens text (layoutIn text .lowsLine)) (map (λ x. x .range .low) (s .streams))
   pub highs : Integers (lineTokens text (layoutIn text .highsLine)) (map (λ x. x .range .high) (s .streams))
   pub kinds : SaidKinds (kindTokens text) (streamKindsOf (s .streams))
-  pub constraints : Constraints (namesOf (s .streams)) (constraintLines text) (s .constraints)
+  pub written : List Constraint
+  pub constraints : Constraints (namesOf (s .streams)) (constraintLines text) written
+  pub meaning : meantConstraints (floorsQuotients (releaseIn text)) written ≡ s .constraints

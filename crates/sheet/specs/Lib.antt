@@ -1,5 +1,6 @@
 pub mod Vocabulary
 pub mod Grammar
+pub mod Release
 pub mod Form
 pub mod Refusal
 pub mod Brackets

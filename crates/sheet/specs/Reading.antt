@@ -8,7 +8,7 @@ use lib.Dec.{leb, ltb, eqb}
 use lib.IntN.{ℤ, pos, negℤ, natAbs}
 use lib.ListN.{length, replicate}
 use lib.Signed.{leZ, ltZ}
-use Rattle.text.specs.Bytes.{Token, lines, tokens}
+use Rattle.text.specs.Bytes.{Token, tokens}
 use Rattle.text.specs.Token.{isOneOf, isName, isInteger, integerValue, isReserved}
 use Rattle.meaning.specs.Arithmetic.{Interval}
 use Rattle.meaning.specs.Expression.{Expression, integer, name, first, next, negation, binary, conditional, fby, Constraint, leftSide, rightSide, StreamKind, setKind, Stream, Sheet}
@@ -17,7 +17,8 @@ use Rattle.meaning.specs.Interval.{interval, subexpressions}
 use Rattle.meaning.specs.Letter.{letterCount}
 use Rattle.meaning.specs.Window.{joinOver, allFirsts, allUntils, B, D}
 use Rattle.sheet.specs.Vocabulary.{streamKindOf}
-use Rattle.sheet.specs.Form.{lineTokens, constraintLines, kindTokens, namesOf, layoutIn}
+use Rattle.sheet.specs.Release.{isKnownRelease, floorsQuotients, meantConstraints}
+use Rattle.sheet.specs.Form.{releaseIn, linesFromNames, lineTokens, constraintLines, kindTokens, namesOf, layoutIn}
 use Rattle.sheet.specs.Refusal.{byteBound, streamBound, constraintBound, tokenBound, bracketBound, magnitudeBound, letterBound, untilBound, firstBound, windowBound, isAllowed, tokenCount, Answer, refused, sheet}
 use Rattle.sheet.specs.Parser.{andThen, parseConstraint}
 
@@ -78,20 +79,24 @@ unfoldable pub constraintsOf : List Token → List (List ℕ) → Option (List C
 constraintsOf names [] = some []
 constraintsOf names (l ∷ ls) = andThen (parseConstraint names (tokens l)) (λ c. andThen (constraintsOf names ls) (λ cs. some (c ∷ cs)))
 
--- The sheet of these streams, at least one, and of the constraints that the lines give.
-abbrev pub sheetFrom : List (List ℕ) → List Stream → Option Sheet
-sheetFrom ls [] = none
-sheetFrom ls (s ∷ ss) = andThen (constraintsOf (namesOf (s ∷ ss)) ls) (λ cs. some (record { streams = s ∷ ss; constraints = cs }))
+-- The sheet of these streams, at least one, and of what the constraints that the lines give mean; `floors` says whether quotients are rounded down.
+abbrev pub sheetFrom : Bool → List (List ℕ) → List Stream → Option Sheet
+sheetFrom floors ls [] = none
+sheetFrom floors ls (s ∷ ss) = andThen (constraintsOf (namesOf (s ∷ ss)) ls) (λ cs. some (record { streams = s ∷ ss; constraints = meantConstraints floors cs }))
 
 -- The sheet of the streams of header lines, the kinds that are said of them, and constraint lines.
-abbrev pub formOfLines : List Token → List Token → List Token → Option (List Token) → List (List ℕ) → Option Sheet
-formOfLines names lows highs said ls = andThen (streamsFrom names lows highs) (λ ss. andThen (kindsOfStreams said (length ss)) (λ ks. sheetFrom ls (withKinds ks ss)))
+abbrev pub formOfLines : Bool → List Token → List Token → List Token → Option (List Token) → List (List ℕ) → Option Sheet
+formOfLines floors names lows highs said ls = andThen (streamsFrom names lows highs) (λ ss. andThen (kindsOfStreams said (length ss)) (λ ks. sheetFrom floors ls (withKinds ks ss)))
+
+-- The release is known, and all header lines are there.
+abbrev pub hasHeader : List ℕ → Bool
+hasHeader text = isKnownRelease (releaseIn text) && leb (layoutIn text .constraintsFrom) (length (linesFromNames text))
 
 -- The sheet that the text has the form of.
 unfoldable pub formOf : List ℕ → Option Sheet
 formOf text =
-    let read : Option Sheet = formOfLines (lineTokens text (layoutIn text .namesLine)) (lineTokens text (layoutIn text .lowsLine)) (lineTokens text (layoutIn text .highsLine)) (kindTokens text) (constraintLines text) in
-    cond (leb (layoutIn text .constraintsFrom) (length (lines text))) read none
+    let read : Option Sheet = formOfLines (floorsQuotients (releaseIn text)) (lineTokens text (layoutIn text .namesLine)) (lineTokens text (layoutIn text .lowsLine)) (lineTokens text (layoutIn text .highsLine)) (kindTokens text) (constraintLines text) in
+    cond (hasHeader text) read none
 
 -- No token stands twice in the list.
 abbrev pub areDistinct : List Token → Bool

@@ -70,7 +70,8 @@ occurrences c [] = 0
 occurrences c (b ∷ bs) = cond (eqb b c) 1 0 + occurrences c bs
 
 -- "2: over 8 tokens in line 1, 32 lines after line 3, 1,024 tokens in them, or, up to some place in one of them, more than 32 more `(` than `)`."
--- Of the line of kinds document 02 (S-6) says: "Refusal 2 does not count this line or its tokens."
+-- Of the line of kinds document 02 (S-6) says: "Refusal 2 does not count this line or its tokens." Line 1 is that of the names, also where a line
+-- before it says the release: "lines are counted from the names as before" (S-11).
 pub data Refusal2 (text : List ℕ) : Type 0 where
   tooManyStreams : streamBound < length (lineTokens text (layoutIn text .namesLine)) → Refusal2 text
   tooManyConstraints : constraintBound < length (constraintLines text) → Refusal2 text

@@ -1,4 +1,4 @@
--- Where the constraint lines begin: behind the header lines that are found one after the other. The tokens from there on are those of the constraint
+-- Where the constraint lines begin: behind a release line and the header lines, which are found one after the other. The tokens from there on are those of the constraint
 -- lines.
 use Prim.Native.Nat.{ℕ, zero, suc, _+_, _-_, _<_, _≤_, min}
 use native.Mathlib.Omega.{arith}
@@ -10,16 +10,17 @@ use mathlib.Core.List.{List, [], _∷_, _++_}
 use borrow.Author.Tests.{eqb-true, lt-ltb, le-ltb}
 use lib.Dec.{eqb, ltb}
 use lib.ListN.{length, take, drop, length-drop}
+use lib.Seq.{drop-drop}
 use Rattle.text.specs.Bytes.{Token, isInside, startsInside, lines, tokens, addToLines}
 use Rattle.text.proofs.Bytes.{tokens-append}
 use Rattle.meaning.specs.Window.{joinOver}
-use Rattle.sheet.specs.Form.{saysKinds, layoutIn}
+use Rattle.sheet.specs.Form.{releaseLines, saysKinds, constraintLines, layoutIn}
 use Rattle.scan.specs.declared.LineSpan.{LineSpan}
 use Rattle.scan.specs.Place.{between, LineAt, noLine, endedLine, lastLine}
 use Rattle.scan.proofs.Tokens.{between-length}
-use Rattle.refusals.specs.Places.{KindsLineAt, said, unsaid, HeaderOf}
+use Rattle.refusals.specs.Places.{NamesLineFrom, behindRelease, atStart, KindsLineAt, said, unsaid, HeaderOf}
 use Rattle.refusals.specs.declared.Header.{Header}
-use Rattle.spans.specs.Spans.{lineOffset, constraintsTo, spansIn}
+use Rattle.spans.specs.Spans.{lineOffset, constraintsTo, constraintsOffset, spansIn}
 
 pub start-within : (k : ℕ) (l : List ℕ) → lineOffset k l ≤ length l
 unfolding lineOffset
@@ -91,29 +92,40 @@ said-bytes text at end h e = by (decLe end at)
     by (no l) = omega arith
 
 -- The constraint lines begin behind the header lines.
-pub constraints-offset : {text : List ℕ} {h : Header} → HeaderOf text h → h .constraints ≡ lineOffset (layoutIn text .constraintsFrom) text
+pub constraints-offset : {text : List ℕ} {h : Header} → HeaderOf text h → h .constraints ≡ constraintsOffset text
 constraints-offset {text} {h} H = by (H .kindsLine)
   where
-    third : h .«kinds_start» ≡ lineOffset 3 text
-    third = line-offset 2 (line-offset 1 (line-offset 0 (offset-none text) (H .firstLine)) (H .secondLine)) (H .thirdLine)
+    n : ℕ
+    n = releaseLines text
+
+    names : NamesLineFrom text (h .«names_start») → h .«names_start» ≡ lineOffset n text
+    names (behindRelease line e q) = q ∙ line-offset 0 (offset-none text) line ∙ ap (λ b. lineOffset (cond b 1 0) text) (sym e)
+    names (atStart e q) = q ∙ offset-none text ∙ ap (λ b. lineOffset (cond b 1 0) text) (sym e)
+
+    third : h .«kinds_start» ≡ lineOffset (suc (suc (suc n))) text
+    third = line-offset (suc (suc n)) (line-offset (suc n) (line-offset n (names (H .namesFrom)) (H .namesAt)) (H .lowsAt)) (H .highsAt)
+
+    -- The place behind some lines from the names on.
+    moved : (k m : ℕ) → k ≡ n + m → {c : ℕ} → c ≡ m → lineOffset k text ≡ lineOffset (n + c) text
+    moved k m e q = ap (λ j. lineOffset j text) (e ∙ ap (λ j. n + j) (sym q))
 
     counted : (b : Bool) → ltb (h .«kinds_start») (h .«kinds_end») ≡ b → layoutIn text .constraintsFrom ≡ cond b 4 3
     counted b e = H .count ∙ ap (λ m. cond m 4 3) e
 
-    by : KindsLineAt text (h .«kinds_start») (record { end = h .«kinds_end»; next = h .constraints }) → h .constraints ≡ lineOffset (layoutIn text .constraintsFrom) text
+    by : KindsLineAt text (h .«kinds_start») (record { end = h .«kinds_end»; next = h .constraints }) → h .constraints ≡ constraintsOffset text
     by (said found e) =
         let some = said-bytes text (h .«kinds_start») (h .«kinds_end») (H .kindsOrdered) e in
-        line-offset 3 third found ∙ ap (λ n. lineOffset n text) (sym (counted true (lt-ltb (h .«kinds_start») (h .«kinds_end») some)))
-    by (unsaid found e end next) = next ∙ third ∙ ap (λ n. lineOffset n text) (sym (counted false (le-ltb (h .«kinds_start») (h .«kinds_end») (omega arith))))
+        line-offset (suc (suc (suc n))) third found ∙ moved (suc (suc (suc (suc n)))) 4 (omega arith) (counted true (lt-ltb (h .«kinds_start») (h .«kinds_end») some))
+    by (unsaid found e end next) = next ∙ third ∙ moved (suc (suc (suc n))) 3 (omega arith) (counted false (le-ltb (h .«kinds_start») (h .«kinds_end») (omega arith)))
 
 -- The spans of a text that is too long, and of one that is not.
 pub spans-long : (text : List ℕ) → 65535 < length text → spansIn text ≡ []
 unfolding spansIn
-spans-long text h = ap (λ m. cond m [] (constraintsTo text (suc (length text)) (lineOffset (layoutIn text .constraintsFrom) text))) (lt-ltb 65535 (length text) h)
+spans-long text h = ap (λ m. cond m [] (constraintsTo text (suc (length text)) (constraintsOffset text))) (lt-ltb 65535 (length text) h)
 
-pub spans-short : (text : List ℕ) → length text ≤ 65535 → spansIn text ≡ constraintsTo text (suc (length text)) (lineOffset (layoutIn text .constraintsFrom) text)
+pub spans-short : (text : List ℕ) → length text ≤ 65535 → spansIn text ≡ constraintsTo text (suc (length text)) (constraintsOffset text)
 unfolding spansIn
-spans-short text h = ap (λ m. cond m [] (constraintsTo text (suc (length text)) (lineOffset (layoutIn text .constraintsFrom) text))) (le-ltb 65535 (length text) h)
+spans-short text h = ap (λ m. cond m [] (constraintsTo text (suc (length text)) (constraintsOffset text))) (le-ltb 65535 (length text) h)
 
 -- ---- the tokens of lines
 
@@ -153,7 +165,7 @@ drop-longer k b [] = drop-nothing k
 drop-longer k b (l ∷ ls) = refl
 
 -- The tokens from the start of a line on are those of the lines from it on.
-pub start-tokens : (k : ℕ) (text : List ℕ) → tokens (drop (lineOffset k text) text) ≡ tokensOf (drop k (lines text))
+start-tokens : (k : ℕ) (text : List ℕ) → tokens (drop (lineOffset k text) text) ≡ tokensOf (drop k (lines text))
 unfolding lineOffset lines tokens
 start-tokens zero text = lines-join (split text)
 start-tokens (suc k) [] = refl
@@ -163,3 +175,8 @@ start-tokens (suc k) (b ∷ bs) = by (eqb b 10) (start-tokens k bs) (start-token
         → tokens (drop (suc (cond m (lineOffset k bs) (lineOffset (suc k) bs))) (b ∷ bs)) ≡ tokensOf (drop (suc k) (addToLines m b (lines bs)))
     by true h i = h
     by false h i = i ∙ ap tokensOf (sym (drop-longer k b (lines bs)))
+
+-- Those from the start of the constraint lines on.
+pub constraint-tokens : (text : List ℕ) → tokens (drop (constraintsOffset text) text) ≡ tokensOf (constraintLines text)
+constraint-tokens text =
+    start-tokens (releaseLines text + layoutIn text .constraintsFrom) text ∙ ap tokensOf (sym (drop-drop (layoutIn text .constraintsFrom) (releaseLines text) (lines text)))

@@ -45,7 +45,7 @@ unfolding inPostfix
 conditional-nodes c a b = simp append-assoc
 
 module _ (names : List Token) (text : List ℕ) where
-  pub each-append : {ss ts : List Span} {es fs : List Expression} → EachReads names text ss es → EachReads names text ts fs → EachReads names text (ss ++ ts) (es ++ fs)
+  pub each-append : {ss ts : List Span} {es fs : List Expression} → EachReads false names text ss es → EachReads false names text ts fs → EachReads false names text (ss ++ ts) (es ++ fs)
   each-append EachReads.none k = k
   each-append (EachReads.more r h) k = EachReads.more r (each-append h k)
 
@@ -87,7 +87,7 @@ module _ (names : List Token) (text : List ℕ) where
 
   -- The spans of a phrase that is read as e and stands before the tokens `rest`.
   pub record PhraseRead (e : Expression) (rest : List Token) (at : ℕ) (w : Spanned) : Type 0 where
-    pub each : EachReads names text (w .spans) (inPostfix e)
+    pub each : EachReads false names text (w .spans) (inPostfix e)
     pub after : tokens (drop (w .next) text) ≡ rest
     pub ended : Ended text (w .next)
     pub last : T (isVisible (getD text (w .next - 1) 0))
@@ -103,15 +103,15 @@ module _ (names : List Token) (text : List ℕ) where
       (ap (λ ts. tokens (between text s n) ++ ts) (sym k) ∙ sym (tokens-up-to text z f) ∙ token-same text at h ∙ e)
 
   own-reads : {at n : ℕ} {us rest : List Token} {e : Expression} → Reads names expression us e → at ≤ length text → tokens (drop at text) ≡ us ++ rest → tokens (drop n text) ≡ rest → Ended text n → tokenFrom text at .start < n → n ≤ length text
-      → Seen text (span (tokenFrom text at .start) n) → SpanReads names text (span (tokenFrom text at .start) n) e
-  own-reads {us = us} {rest} {e} r h q k f l w v = record { ordered = l; within = w; first = v .first; last = v .last; reads = subst (λ ts. Reads names expression ts e) (sym (own-tokens us rest h q k f l)) r }
+      → Seen text (span (tokenFrom text at .start) n) → SpanReads false names text (span (tokenFrom text at .start) n) e
+  own-reads {us = us} {rest} {e} r h q k f l w v = record { ordered = l; within = w; first = v .first; last = v .last; written = e; reads = subst (λ ts. Reads names expression ts e) (sym (own-tokens us rest h q k f l)) r; meaning = refl }
 
   -- A phrase whose last expression is the whole.
   closed-found : {at n : ℕ} {us rest : List Token} {e : Expression} {l : List Span} {es : List Expression} → Reads names expression us e → at ≤ length text → tokens (drop at text) ≡ us ++ rest → tokens (drop n text) ≡ rest → Ended text n → tokenFrom text at .start < n → n ≤ length text
-      → Seen text (span (tokenFrom text at .start) n) → EachReads names text l es → inPostfix e ≡ es ++ (e ∷ []) → PhraseRead e rest at (closed l (tokenFrom text at .start) n)
+      → Seen text (span (tokenFrom text at .start) n) → EachReads false names text l es → inPostfix e ≡ es ++ (e ∷ []) → PhraseRead e rest at (closed l (tokenFrom text at .start) n)
   closed-found r h q k f i w v each nodes =
       record {
-        each = subst (EachReads names text _) (sym nodes) (each-append each (EachReads.more (own-reads r h q k f i w v) EachReads.none));
+        each = subst (EachReads false names text _) (sym nodes) (each-append each (EachReads.more (own-reads r h q k f i w v) EachReads.none));
         after = k;
         ended = f;
         last = v .last;

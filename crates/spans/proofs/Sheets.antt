@@ -1,27 +1,30 @@
 -- The spans of a sheet's text are those of its nodes: the text of each is read as the expression of its node, in the order of the nodes. From Reading, line by
--- line: what stands behind a line begins with no operator.
+-- line: what stands behind a line begins with no operator. What is read has the meaning that the sheet's release gives it.
 use Prim.Native.Nat.{ℕ, zero, suc, _+_, _≤_, _<_}
 use native.Mathlib.Omega.{arith}
 use mathlib.Core.Path.{_≡_, refl, sym, ap, ap₂, subst, _∙_}
-use mathlib.Core.List.{List, [], _∷_, _++_, append-assoc, nil≢cons}
+use mathlib.Core.Bool.{Bool, true, false}
+use mathlib.Core.List.{List, [], _∷_, _++_, map, append-assoc, nil≢cons}
 use lib.ListN.{length, getD, drop, length-append}
 use Rattle.text.specs.Bytes.{Token, tokens}
-use Rattle.meaning.specs.Expression.{Expression, Constraint, leftSide, rightSide, Sheet}
+use Rattle.meaning.specs.Expression.{Expression, integer, name, first, next, negation, binary, conditional, fby, Constraint, leftSide, rightSide, Sheet}
 use Rattle.sheet.specs.Vocabulary.{Relation, sign, untilSign, related}
 use Rattle.sheet.specs.Grammar.{ReadsConstraint, isConstraint}
-use Rattle.sheet.specs.Form.{Constraints, namesOf, HasForm, layoutIn}
+use Rattle.sheet.specs.Release.{floorsQuotients, floored, flooredConstraint, meant, meantConstraints}
+use Rattle.sheet.specs.Form.{releaseIn, releaseLines, Constraints, namesOf, HasForm, layoutIn}
+use Rattle.sheet.proofs.Release.{map-parts, floored-left, floored-right}
 use Rattle.sheet.proofs.Vocabulary.{relation-no-operator}
 use Rattle.sheet.proofs.Parser.{NoOperator}
 use Rattle.scan.specs.declared.Span.{Span}
 use Rattle.scan.specs.Place.{TokenAt, noToken, aToken}
 use Rattle.spans.specs.Token.{tokenFrom}
 use Rattle.spans.specs.Postfix.{inPostfix, nodeExpressions}
-use Rattle.spans.specs.Spans.{expressionSpan, partSpanTo, constraintSpan, constraintsTo, lineOffset, spansIn}
+use Rattle.spans.specs.Spans.{expressionSpan, partSpanTo, constraintSpan, constraintsTo, constraintsOffset, spansIn}
 use Rattle.spans.specs.Reading.{SpanReads, EachReads}
 use Rattle.spans.proofs.Token.{token-from}
 use Rattle.spans.proofs.Steps.{step-last, step-line}
 use Rattle.spans.proofs.Words.{no-operator-first}
-use Rattle.spans.proofs.Lines.{start-within, spans-short, tokensOf, start-tokens}
+use Rattle.spans.proofs.Lines.{start-within, spans-short, tokensOf, constraint-tokens}
 use Rattle.spans.proofs.Reading.{each-append, word-at, token-from-past, expression-found}
 
 left-is : (r : Relation) (a b : Expression) → leftSide (related r a b) ≡ a
@@ -50,7 +53,7 @@ module _ (names : List Token) (text : List ℕ) where
   -- ---- one line
 
   record LineFound (c : Constraint) (rest : List Token) (at : ℕ) : Type 0 where
-    each : EachReads names text (constraintSpan text at .spans) (inPostfix (leftSide c) ++ inPostfix (rightSide c))
+    each : EachReads false names text (constraintSpan text at .spans) (inPostfix (leftSide c) ++ inPostfix (rightSide c))
     after : tokens (drop (constraintSpan text at .next) text) ≡ rest
     stands : tokenFrom text at .start ≡ tokenFrom text at .end → ⊥
     further : at < constraintSpan text at .next
@@ -67,7 +70,7 @@ module _ (names : List Token) (text : List ℕ) where
       let from2 = token-from-past names text (sign .within) in
       let z = length-append ts (t ∷ (us ++ rest)) in
       record {
-        each = subst (EachReads names text _) (sym (ap₂ (λ l m. inPostfix l ++ inPostfix m) (left-is r a b) (right-is r a b))) (each-append names text (x .each) (y .each));
+        each = subst (EachReads false names text _) (sym (ap₂ (λ l m. inPostfix l ++ inPostfix m) (left-is r a b) (right-is r a b))) (each-append names text (x .each) (y .each));
         after = y .after;
         stands = some-token i whole (omega arith);
         further = omega (arith, from, x .past, sign .forward, sign .ordered, from2, y .past);
@@ -83,28 +86,67 @@ module _ (names : List Token) (text : List ℕ) where
   lines-first Constraints.none = tt
   lines-first (Constraints.more {ls = ls} r rs) = line-first r (tokensOf ls)
 
-  lines-found : {ls : List (List ℕ)} {cs : List Constraint} → Constraints names ls cs → (d at : ℕ) → at ≤ length text → length text < at + d → tokens (drop at text) ≡ tokensOf ls → EachReads names text (constraintsTo text d at) (nodeExpressions cs)
+  lines-found : {ls : List (List ℕ)} {cs : List Constraint} → Constraints names ls cs → (d at : ℕ) → at ≤ length text → length text < at + d → tokens (drop at text) ≡ tokensOf ls → EachReads false names text (constraintsTo text d at) (nodeExpressions cs)
   unfolding nodeExpressions
   lines-found Constraints.none zero at i l q = absurd (omega arith)
-  lines-found Constraints.none (suc n) at i l q = subst (λ ss. EachReads names text ss []) (sym (step-last text n at refl (no-token i q))) EachReads.none
+  lines-found Constraints.none (suc n) at i l q = subst (λ ss. EachReads false names text ss []) (sym (step-last text n at refl (no-token i q))) EachReads.none
   lines-found (Constraints.more r rs) zero at i l q = absurd (omega arith)
   lines-found (Constraints.more {ls = ls} {c = c} {cs = cs} r rs) (suc n) at i l q =
       let h = line-found r (tokensOf ls) (lines-first rs) at i q in
       let later = lines-found rs n (constraintSpan text at .next) (h .within) (omega (arith, h .further)) (h .after) in
-      subst (λ ss. EachReads names text ss (nodeExpressions (c ∷ cs))) (sym (step-line text n at refl (h .stands))) (each-append names text (h .each) later)
+      subst (λ ss. EachReads false names text ss (nodeExpressions (c ∷ cs))) (sym (step-line text n at refl (h .stands))) (each-append names text (h .each) later)
 
-  pub each-length : {ss : List Span} {es : List Expression} → EachReads names text ss es → length ss ≡ length es
+module _ (floors : Bool) (names : List Token) (text : List ℕ) where
+  pub each-length : {ss : List Span} {es : List Expression} → EachReads floors names text ss es → length ss ≡ length es
   each-length EachReads.none = refl
   each-length (EachReads.more r h) = ap suc (each-length h)
 
-  pub each-at : {ss : List Span} {es : List Expression} → EachReads names text ss es → (i : ℕ) (s : Span) (e : Expression) → i < length es → SpanReads names text (getD ss i s) (getD es i e)
+  pub each-at : {ss : List Span} {es : List Expression} → EachReads floors names text ss es → (i : ℕ) (s : Span) (e : Expression) → i < length es → SpanReads floors names text (getD ss i s) (getD es i e)
   each-at EachReads.none i s e l = absurd (omega arith)
   each-at (EachReads.more r h) zero s e l = r
   each-at (EachReads.more r h) (suc i) s e l = each-at h i s e (omega arith)
 
+  -- What is read has the meaning of its release.
+  each-meant : {ss : List Span} {es : List Expression} → EachReads false names text ss es → EachReads floors names text ss (map (meant floors) es)
+  each-meant EachReads.none = EachReads.none
+  each-meant (EachReads.more r h) = EachReads.more (record { ordered = r .ordered; within = r .within; first = r .first; last = r .last; written = r .written; reads = r .reads; meaning = ap (meant floors) (r .meaning) }) (each-meant h)
+
+-- ---- the expressions of what a sheet means
+
+floored-postfix : (e : Expression) → inPostfix (floored e) ≡ map floored (inPostfix e)
+unfolding inPostfix
+floored-postfix (integer z) = refl
+floored-postfix (name k) = refl
+floored-postfix (first e) = map-parts floored (inPostfix e) (first e ∷ []) (floored-postfix e) refl
+floored-postfix (next e) = map-parts floored (inPostfix e) (next e ∷ []) (floored-postfix e) refl
+floored-postfix (negation e) = map-parts floored (inPostfix e) (negation e ∷ []) (floored-postfix e) refl
+floored-postfix (binary o a b) = map-parts floored (inPostfix a) (inPostfix b ++ (binary o a b ∷ [])) (floored-postfix a) (map-parts floored (inPostfix b) (binary o a b ∷ []) (floored-postfix b) refl)
+floored-postfix (conditional c a b) =
+    map-parts floored (inPostfix c) (inPostfix a ++ (inPostfix b ++ (conditional c a b ∷ []))) (floored-postfix c)
+    (map-parts floored (inPostfix a) (inPostfix b ++ (conditional c a b ∷ [])) (floored-postfix a) (map-parts floored (inPostfix b) (conditional c a b ∷ []) (floored-postfix b) refl))
+floored-postfix (fby a b) = map-parts floored (inPostfix a) (inPostfix b ++ (fby a b ∷ [])) (floored-postfix a) (map-parts floored (inPostfix b) (fby a b ∷ []) (floored-postfix b) refl)
+
+floored-nodes : (cs : List Constraint) → nodeExpressions (map flooredConstraint cs) ≡ map floored (nodeExpressions cs)
+unfolding nodeExpressions
+floored-nodes [] = refl
+floored-nodes (c ∷ cs) =
+    let left = ap inPostfix (floored-left c) ∙ floored-postfix (leftSide c) in
+    let right = ap inPostfix (floored-right c) ∙ floored-postfix (rightSide c) in
+    map-parts floored (inPostfix (leftSide c) ++ inPostfix (rightSide c)) (nodeExpressions cs) (map-parts floored (inPostfix (leftSide c)) (inPostfix (rightSide c)) left right) (floored-nodes cs)
+
+kept : (es : List Expression) → map (meant false) es ≡ es
+kept [] = refl
+kept (e ∷ es) = ap (λ l. e ∷ l) (kept es)
+
+meant-nodes : (floors : Bool) (cs : List Constraint) → map (meant floors) (nodeExpressions cs) ≡ nodeExpressions (meantConstraints floors cs)
+meant-nodes true cs = sym (floored-nodes cs)
+meant-nodes false cs = kept (nodeExpressions cs)
+
 -- The spans of a text that has the form of a sheet.
-pub spans-read : {text : List ℕ} {s : Sheet} → HasForm text s → length text ≤ 65535 → EachReads (namesOf (s .streams)) text (spansIn text) (nodeExpressions (s .constraints))
+pub spans-read : {text : List ℕ} {s : Sheet} → HasForm text s → length text ≤ 65535 → EachReads (floorsQuotients (releaseIn text)) (namesOf (s .streams)) text (spansIn text) (nodeExpressions (s .constraints))
 spans-read {text} {s} h l =
-    let n = layoutIn text .constraintsFrom in
-    subst (λ ss. EachReads (namesOf (s .streams)) text ss (nodeExpressions (s .constraints))) (sym (spans-short text l))
-    (lines-found (namesOf (s .streams)) text (h .constraints) (suc (length text)) (lineOffset n text) (start-within n text) (omega arith) (start-tokens n text))
+    let floors = floorsQuotients (releaseIn text) in
+    let names = namesOf (s .streams) in
+    let read = lines-found names text (h .constraints) (suc (length text)) (constraintsOffset text) (start-within (releaseLines text + layoutIn text .constraintsFrom) text) (omega arith) (constraint-tokens text) in
+    subst (λ ss. EachReads floors names text ss (nodeExpressions (s .constraints))) (sym (spans-short text l))
+    (subst (EachReads floors names text _) (meant-nodes floors (h .written) ∙ ap nodeExpressions (h .meaning)) (each-meant floors names text read))

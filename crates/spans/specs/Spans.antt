@@ -2,13 +2,13 @@
 -- the first byte of the expression's first token and that behind the last byte of its last token. Brackets around an expression belong to no
 -- expression's span but those that they stand inside. proofs/Reading shows that on a sheet the text of each span is read as the expression of
 -- its node.
-use Prim.Native.Nat.{ℕ, zero, suc}
+use Prim.Native.Nat.{ℕ, zero, suc, _+_}
 use mathlib.Core.Bool.{Bool, true, false, cond}
 use mathlib.Core.List.{List, [], _∷_, _++_}
 use mathlib.Core.Option.{Option, some, none}
 use lib.Dec.{eqb, ltb}
 use lib.ListN.{length}
-use Rattle.sheet.specs.Form.{layoutIn}
+use Rattle.sheet.specs.Form.{releaseLines, layoutIn}
 use Rattle.text.specs.Bytes.{Token, bytesOf}
 use Rattle.text.specs.Token.{sameBytes}
 use Rattle.sheet.specs.Vocabulary.{Infix, operatorOf, Prefix, prefixOf}
@@ -98,7 +98,11 @@ lineOffset zero l = 0
 lineOffset (suc k) [] = 0
 lineOffset (suc k) (b ∷ bs) = suc (cond (eqb b 10) (lineOffset k bs) (lineOffset (suc k) bs))
 
+-- How many bytes stand before the constraint lines: those of a release line and of the header lines.
+abbrev pub constraintsOffset : List ℕ → ℕ
+constraintsOffset text = lineOffset (releaseLines text + layoutIn text .constraintsFrom) text
+
 -- The spans of all expressions of the constraint lines, which stand behind the header lines. The places of a longer text than 65,535 bytes, which is
 -- no sheet, are not told.
 unfoldable pub spansIn : List ℕ → List Span
-spansIn text = cond (ltb 65535 (length text)) [] (constraintsTo text (suc (length text)) (lineOffset (layoutIn text .constraintsFrom) text))
+spansIn text = cond (ltb 65535 (length text)) [] (constraintsTo text (suc (length text)) (constraintsOffset text))

@@ -64,7 +64,7 @@ Unsolved s = (w : Streams) → Solves s w → ⊥
 abbrev pub GivesTable : Sheet → Room → CompileAnswer → Tables → Type 0
 GivesTable s room a t = (a .refusal ≡ 0) × SituationCount s (a .situations) × HoldsSheetTable s room (a .states) t
 
-read-form : {text : List ℕ} {s : Sheet} → ReadAs text s → HasForm text s
+pub read-form : {text : List ℕ} {s : Sheet} → ReadAs text s → HasForm text s
 read-form (accepted a b c d e f g h) = h
 
 pub read-known : {text : List ℕ} {s : Sheet} → ReadAs text s → NamesKnown s

@@ -9,10 +9,10 @@ use lib.Dec.{T}
 use lib.IntN.{ℤ, pos}
 use Rattle.basics.proofs.Tests.{cond-true}
 use Rattle.meaning.specs.Value.{Value, absent, number, nonzero, truth, Streams}
-use Rattle.meaning.specs.Arithmetic.{Operator, divide, remainder, apply}
+use Rattle.meaning.specs.Arithmetic.{Operator, divide, remainder, flooredDivide, flooredRemainder, apply}
 use Rattle.meaning.specs.Expression.{Expression, next, first, binary, conditional, Sign, always, until, Sheet, holds, chosen, valueFrom, value, MeetsFrom, Meets, Solution}
 use Rattle.meaning.proofs.Value.{nonzero-means}
-use Rattle.theorems.specs.Divisions.{IsDivision, isQuotient, isRemainder, HasNumber, IsDivisor, HasLine}
+use Rattle.theorems.specs.Divisions.{IsDivision, isQuotient, isRemainder, isFlooredQuotient, isFlooredRemainder, HasNumber, IsDivisor, HasLine}
 
 -- ---- values
 
@@ -39,6 +39,8 @@ division-number d absent y h = absurd h
 division-number d (number a) absent h = absurd h
 division-number isQuotient (number a) (number b) h = λ e. subst (λ z. HasNumber (apply divide (number a) (number z))) e h
 division-number isRemainder (number a) (number b) h = λ e. subst (λ z. HasNumber (apply remainder (number a) (number z))) e h
+division-number isFlooredQuotient (number a) (number b) h = λ e. subst (λ z. HasNumber (apply flooredDivide (number a) (number z))) e h
+division-number isFlooredRemainder (number a) (number b) h = λ e. subst (λ z. HasNumber (apply flooredRemainder (number a) (number z))) e h
 
 -- A quotient or remainder that is there has a divisor other than 0.
 module _ (w : Streams) {o : Operator} (d : IsDivision o) (a b : Expression) where

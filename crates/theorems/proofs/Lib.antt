@@ -21,3 +21,4 @@ pub mod Joins
 pub mod WorkedMachines
 pub mod LetterNumbers
 pub mod Divisions
+pub mod Releases

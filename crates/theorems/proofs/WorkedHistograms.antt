@@ -11,6 +11,7 @@ use Rattle.meaning.specs.Interval.{interval, subexpressions}
 use Rattle.meaning.specs.Letter.{letterCount, letterNumber}
 use Rattle.meaning.specs.Window.{reach, back, firsts, B, D}
 use Rattle.sheet.specs.Vocabulary.{operatorTokens, operatorOf, relationTokens, relationOf, prefixTokens, prefixOf, streamKindTokens, streamKindOf, namePlace}
+use Rattle.sheet.specs.Release.{saysRelease, saidRelease}
 use Rattle.sheet.specs.Form.{saysKinds}
 use Rattle.sheet.specs.Parser.{expressionBy, openingOf, partTo, parseConstraint}
 use Rattle.sheet.specs.Reading.{refuses1, tooDeepFrom, refuses2, streamsFrom, constraintsOf, formOf, refuses4, refuses5, refuses6, refuses7, answerToSheet, answerTo}
@@ -33,7 +34,7 @@ row-prints : (r : WorkedHistogram) → Computes r → PrintsRow r
 row-prints r e = subst (PrintsHistogram (bytesOf (r .sheetText)) (bytesOf (r .recordText))) e (prints-total (bytesOf (r .sheetText)) (bytesOf (r .recordText)))
 
 computed : All Computes workedHistograms
-unfolding workedHistograms lines tokens isName isNatural isInteger naturalFrom integerValue reservedWords isReserved interval subexpressions letterCount letterNumber reach back firsts B D operatorTokens operatorOf relationTokens relationOf prefixTokens prefixOf streamKindTokens streamKindOf saysKinds namePlace expressionBy openingOf partTo parseConstraint refuses1 tooDeepFrom refuses2 streamsFrom constraintsOf formOf refuses4 refuses5 refuses6 refuses7 answerToSheet answerTo isLetter digitsWithin linesFrom valueLine isNamesLine howMany valuesFault recordFault histogramText countedText
+unfolding workedHistograms lines tokens isName isNatural isInteger naturalFrom integerValue reservedWords isReserved interval subexpressions letterCount letterNumber reach back firsts B D operatorTokens operatorOf relationTokens relationOf prefixTokens prefixOf streamKindTokens streamKindOf saysRelease saidRelease saysKinds namePlace expressionBy openingOf partTo parseConstraint refuses1 tooDeepFrom refuses2 streamsFrom constraintsOf formOf refuses4 refuses5 refuses6 refuses7 answerToSheet answerTo isLetter digitsWithin linesFrom valueLine isNamesLine howMany valuesFault recordFault histogramText countedText
 computed = (refl, (refl, (refl, (refl, (refl, (refl, (refl, (refl, tt))))))))
 
 pub histograms-print : All PrintsRow workedHistograms

@@ -21,6 +21,7 @@ use Rattle.meaning.specs.Window.{reach, back, firsts, B, D}
 use Rattle.meaning.proofs.Facts.{getD-member}
 use Rattle.sheet.specs.Refusal.{Answer, refused, sheet, AnswerTo}
 use Rattle.sheet.specs.Vocabulary.{operatorTokens, operatorOf, relationTokens, relationOf, prefixTokens, prefixOf, streamKindTokens, streamKindOf, namePlace}
+use Rattle.sheet.specs.Release.{saysRelease, saidRelease}
 use Rattle.sheet.specs.Form.{saysKinds}
 use Rattle.sheet.specs.Parser.{expressionBy, openingOf, partTo, parseConstraint}
 use Rattle.sheet.specs.Reading.{refuses1, tooDeepFrom, refuses2, streamsFrom, constraintsOf, formOf, refuses4, refuses5, refuses6, refuses7, answerToSheet, answerTo}
@@ -53,7 +54,7 @@ lettersIn (refused n) = 0
 lettersIn (sheet s) = letterCount (s .streams)
 
 two-letters : lettersIn (answerTo (bytesOf (noTwoOnes .text))) ≡ 2
-unfolding lines tokens isName isNatural isInteger naturalFrom integerValue reservedWords isReserved interval subexpressions letterCount reach back firsts B D operatorTokens operatorOf relationTokens relationOf prefixTokens prefixOf streamKindTokens streamKindOf saysKinds namePlace expressionBy openingOf partTo parseConstraint refuses1 tooDeepFrom refuses2 streamsFrom constraintsOf formOf refuses4 refuses5 refuses6 refuses7 answerToSheet answerTo
+unfolding lines tokens isName isNatural isInteger naturalFrom integerValue reservedWords isReserved interval subexpressions letterCount reach back firsts B D operatorTokens operatorOf relationTokens relationOf prefixTokens prefixOf streamKindTokens streamKindOf saysRelease saidRelease saysKinds namePlace expressionBy openingOf partTo parseConstraint refuses1 tooDeepFrom refuses2 streamsFrom constraintsOf formOf refuses4 refuses5 refuses6 refuses7 answerToSheet answerTo
 two-letters = refl
 
 is-row : List·Memᴰ noTwoOnes workedSheets

@@ -18,6 +18,7 @@ use Rattle.meaning.specs.Letter.{letterCount, letterNumber, SolutionWord}
 use Rattle.meaning.specs.Window.{reach, back, firsts, B, D}
 use Rattle.sheet.specs.Refusal.{Answer, refused, sheet, AnswerTo}
 use Rattle.sheet.specs.Vocabulary.{operatorTokens, operatorOf, relationTokens, relationOf, prefixTokens, prefixOf, streamKindTokens, streamKindOf, namePlace}
+use Rattle.sheet.specs.Release.{saysRelease, saidRelease}
 use Rattle.sheet.specs.Form.{saysKinds}
 use Rattle.sheet.specs.Parser.{expressionBy, openingOf, partTo, parseConstraint}
 use Rattle.sheet.specs.Reading.{refuses1, tooDeepFrom, refuses2, streamsFrom, constraintsOf, formOf, refuses4, refuses5, refuses6, refuses7, answerToSheet, answerTo}
@@ -60,7 +61,7 @@ streamsIn (refused n) = []
 streamsIn (sheet s) = s .streams
 
 p4-streams : streamsIn (answerTo (bytesOf (p4 .text))) ≡ streams
-unfolding lines tokens isName isNatural isInteger naturalFrom integerValue reservedWords isReserved interval subexpressions letterCount reach back firsts B D operatorTokens operatorOf relationTokens relationOf prefixTokens prefixOf streamKindTokens streamKindOf saysKinds namePlace expressionBy openingOf partTo parseConstraint refuses1 tooDeepFrom refuses2 streamsFrom constraintsOf formOf refuses4 refuses5 refuses6 refuses7 answerToSheet answerTo
+unfolding lines tokens isName isNatural isInteger naturalFrom integerValue reservedWords isReserved interval subexpressions letterCount reach back firsts B D operatorTokens operatorOf relationTokens relationOf prefixTokens prefixOf streamKindTokens streamKindOf saysRelease saidRelease saysKinds namePlace expressionBy openingOf partTo parseConstraint refuses1 tooDeepFrom refuses2 streamsFrom constraintsOf formOf refuses4 refuses5 refuses6 refuses7 answerToSheet answerTo
 p4-streams = refl
 
 p4-row : List·Memᴰ p4 workedSheets

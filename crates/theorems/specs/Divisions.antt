@@ -3,13 +3,15 @@ use mathlib.Core.List.{List·Memᴰ}
 use mathlib.Core.Logic.{_≢_}
 use lib.IntN.{pos}
 use Rattle.meaning.specs.Value.{Value, absent, number}
-use Rattle.meaning.specs.Arithmetic.{Operator, divide, remainder}
+use Rattle.meaning.specs.Arithmetic.{Operator, divide, remainder, flooredDivide, flooredRemainder}
 use Rattle.meaning.specs.Expression.{Constraint, Sheet}
 
--- "such a quotient or remainder"
+-- "such a quotient or remainder", of either release
 pub data IsDivision : Operator → Type 0 where
   isQuotient : IsDivision divide
   isRemainder : IsDivision remainder
+  isFlooredQuotient : IsDivision flooredDivide
+  isFlooredRemainder : IsDivision flooredRemainder
 
 -- A number, and not none.
 abbrev pub HasNumber : Value → Type 0

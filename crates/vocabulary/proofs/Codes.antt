@@ -5,7 +5,7 @@ use mathlib.Core.Path.{_≡_, sym, _∙_}
 use mathlib.Core.Option.{none}
 use Rattle.text.specs.Bytes.{Token}
 use Rattle.meaning.specs.Value.{Comparison, less, atMost, equal, atLeast, greater, different}
-use Rattle.meaning.specs.Arithmetic.{add, subtract, multiply, divide, remainder, compare, and, or}
+use Rattle.meaning.specs.Arithmetic.{add, subtract, multiply, divide, remainder, compare, and, or, flooredDivide, flooredRemainder}
 use Rattle.sheet.specs.Vocabulary.{Infix, pointwise, followedBy, operatorOf, Prefix, firstPrefix, nextPrefix, notPrefix, prefixOf}
 use Rattle.nodes.specs.Code.{comparisonCode}
 use Rattle.vocabulary.specs.Word.{codeOr255, infixCode, prefixCode}
@@ -33,6 +33,8 @@ infix-small (pointwise remainder) = omega arith
 infix-small (pointwise (compare c)) = let z = comparison-small c in omega arith
 infix-small (pointwise and) = omega arith
 infix-small (pointwise or) = omega arith
+infix-small (pointwise flooredDivide) = omega arith
+infix-small (pointwise flooredRemainder) = omega arith
 infix-small followedBy = omega arith
 
 pub no-prefix : (w : Token) {k : ℕ} → k ≡ codeOr255 prefixCode (prefixOf w) → k ≡ 255 → prefixOf w ≡ none

@@ -204,6 +204,14 @@ pub fn is_else(token: &[u8]) -> bool
     number == 0x1_65_73_6c_65
 }
 
+// The first word of the release line.
+pub fn is_release(token: &[u8]) -> bool
+    ensures { λ r. ⌜ r ≡ sameBytes (bytesOf "release") (now (token .entry)) ⌝ }
+{
+    let number = word_number(token);
+    number == 0x1_65_73_61_65_6c_65_72
+}
+
 pub fn is_opening(token: &[u8]) -> bool
     ensures { λ r. ⌜ r ≡ sameBytes (bytesOf "(") (now (token .entry)) ⌝ }
 {

@@ -23,6 +23,7 @@ use Rattle.meaning.specs.Evaluation.{windowValue, windowPermits, windowMarks, a
 use Rattle.meaning.specs.Situation.{all, SituationCount, done, permits, lawful, firstValues, untilMarks, situation}
 use Rattle.sheet.specs.Refusal.{Answer, refused, sheet, AnswerTo}
 use Rattle.sheet.specs.Vocabulary.{operatorTokens, operatorOf, relationTokens, relationOf, prefixTokens, prefixOf, streamKindTokens, streamKindOf, namePlace}
+use Rattle.sheet.specs.Release.{saysRelease, saidRelease}
 use Rattle.sheet.specs.Form.{saysKinds}
 use Rattle.sheet.specs.Parser.{expressionBy, openingOf, partTo, parseConstraint}
 use Rattle.sheet.specs.Reading.{refuses1, tooDeepFrom, refuses2, streamsFrom, constraintsOf, formOf, refuses4, refuses5, refuses6, refuses7, answerToSheet, answerTo}
@@ -119,7 +120,7 @@ all-rows (x ∷ l) t r (List·Memᴰ.List·Memᴰ·head e) = subst Holds (sym e)
 all-rows (x ∷ l) t r (List·Memᴰ.List·Memᴰ·tail m) = all-rows l (T-and (rowTest x) (all rowTest l) .0 t .1) r m
 
 computed : T (all rowTest workedSheets)
-unfolding lines tokens isName isNatural isInteger naturalFrom integerValue reservedWords isReserved interval subexpressions letterCount letterOf reach back firsts B D operatorTokens operatorOf relationTokens relationOf prefixTokens prefixOf streamKindTokens streamKindOf saysKinds namePlace expressionBy openingOf partTo parseConstraint refuses1 tooDeepFrom refuses2 streamsFrom constraintsOf formOf refuses4 refuses5 refuses6 refuses7 answerToSheet answerTo valueFrom value permits done lawful firstValues untilMarks situation windowValue windowPermits windowMarks allowsLetter situationAfter successor marksOf allDone placeIn nodeSuccessor situationGraph startNode workedSheets
+unfolding lines tokens isName isNatural isInteger naturalFrom integerValue reservedWords isReserved interval subexpressions letterCount letterOf reach back firsts B D operatorTokens operatorOf relationTokens relationOf prefixTokens prefixOf streamKindTokens streamKindOf saysRelease saidRelease saysKinds namePlace expressionBy openingOf partTo parseConstraint refuses1 tooDeepFrom refuses2 streamsFrom constraintsOf formOf refuses4 refuses5 refuses6 refuses7 answerToSheet answerTo valueFrom value permits done lawful firstValues untilMarks situation windowValue windowPermits windowMarks allowsLetter situationAfter successor marksOf allDone placeIn nodeSuccessor situationGraph startNode workedSheets
 computed = tt
 
 -- Every row of the worked sheets holds.

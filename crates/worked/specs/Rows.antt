@@ -58,6 +58,13 @@ workedSheets =
     ∷ record { text = "y\n0\n1\n0 == ( ( 0 / y ) fby 0 )"; refusal = 0; states = 2; situations = 4; entries = noState ∷ 1 ∷ 1 ∷ 1 ∷ []; finals = 1 ∷ 1 ∷ [] }
     -- no two 1 one after the other, and a 1 at some time: "no table with fewer states [..] has the same solutions" (document 02, S-14)
     ∷ record { text = "x\n0\n1\nx -> ( next x eq 0 )\n1 until x"; refusal = 0; states = 3; situations = 7; entries = 0 ∷ 1 ∷ 2 ∷ noState ∷ 2 ∷ 1 ∷ []; finals = 0 ∷ 1 ∷ 1 ∷ [] }
+    -- "−7 / 2 is −4, −7 % 2 is 1, the remainder having the divisor's sign", in release 2; in release 1 "−7 / 2 is −3"
+    ∷ record { text = "release 2\nx\n-7\n-7\nx / 2 == -4\nx % 2 == 1"; refusal = 0; states = 1; situations = 2; entries = 0 ∷ []; finals = 1 ∷ [] }
+    ∷ record { text = "release 2\nx\n-7\n-7\nx / -2 == 3\nx % -2 == -1"; refusal = 0; states = 1; situations = 2; entries = 0 ∷ []; finals = 1 ∷ [] }
+    ∷ record { text = "release 2\nx\n-8\n-8\nx / 2 == -4\nx % 2 == 0"; refusal = 0; states = 1; situations = 2; entries = 0 ∷ []; finals = 1 ∷ [] }
+    ∷ record { text = "release 1\nx\n-7\n-7\nx / 2 == -3\nx % 2 == -1"; refusal = 0; states = 1; situations = 2; entries = 0 ∷ []; finals = 1 ∷ [] }
+    -- with divisor 0 there is no value in release 2 either
+    ∷ record { text = "release 2\nx\n0\n1\nx / 0 == 0"; refusal = 9; states = 0; situations = 1; entries = []; finals = [] }
     ∷ []
 
 -- What a row says, about the definitions: none of refusals 1 to 7 applies to the text, its sheet has this number of situations, and the used

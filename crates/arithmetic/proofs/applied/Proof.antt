@@ -152,14 +152,31 @@ returns-12 c =
     applied-kind {k = s .args .kind} (s .fits .a) (s .fits .b) (record { sfits = c .bit7 .ok }) 18 (c .before .before .before .before .match .keys12)
     (bit-coded (c .bit7 .ensures) (c .before .both .ensures ∙ ap₂ _&&_ (c .before .before .before .nonzero .ensures) (c .before .before .nonzero2 .ensures)))
 
--- The kind is none of 7 to 18.
 returns-13 : tie.Need-returns-13
 returns-13 c =
-    let rest = c .before .before .before .before .match .rest in
     let s = c .before .before .before .before .before in
-    applied-last {k = s .args .kind} (s .fits .a) (s .fits .b) (record { sfits = c .bit8 .ok })
-    (later (later (later (later (later (later (later (later (later (later (later (later (s .pre .0) (rest .0 .0 .0 .0 .0 .0 .0 .0 .0 .0 .0 .1)) (rest .0 .0 .0 .0 .0 .0 .0 .0 .0 .0 .1)) (rest .0 .0 .0 .0 .0 .0 .0 .0 .0 .1)) (rest .0 .0 .0 .0 .0 .0 .0 .0 .1)) (rest .0 .0 .0 .0 .0 .0 .0 .1)) (rest .0 .0 .0 .0 .0 .0 .1)) (rest .0 .0 .0 .0 .0 .1)) (rest .0 .0 .0 .0 .1)) (rest .0 .0 .0 .1)) (rest .0 .0 .1)) (rest .0 .1)) (rest .1))
+    applied-kind {k = s .args .kind} (s .fits .a) (s .fits .b) (record { sfits = c .bit8 .ok }) 19 (c .before .before .before .before .match .keys13)
     (bit-coded (c .bit8 .ensures) (c .before .either .ensures ∙ ap₂ _||_ (c .before .before .before .nonzero3 .ensures) (c .before .before .nonzero4 .ensures)))
+
+floored-quotient-requires : tie.Need-floored-quotient-requires
+floored-quotient-requires c κs = search needs
+
+returns-14 : tie.Need-returns-14
+returns-14 c =
+    let s = c .before .before in
+    applied-kind {k = s .args .kind} (s .fits .a) (s .fits .b) (record { sfits = c .floored-quotient .ok }) 20 (c .before .match .keys14) (c .floored-quotient .ensures)
+
+floored-remainder-requires : tie.Need-floored-remainder-requires
+floored-remainder-requires c κs = search needs
+
+-- The kind is none of 7 to 20.
+returns-15 : tie.Need-returns-15
+returns-15 c =
+    let rest = c .before .match .rest in
+    let s = c .before .before in
+    applied-last {k = s .args .kind} (s .fits .a) (s .fits .b) (record { sfits = c .floored-remainder .ok })
+    (later (later (later (later (later (later (later (later (later (later (later (later (later (later (s .pre .0) (rest .0 .0 .0 .0 .0 .0 .0 .0 .0 .0 .0 .0 .0 .1)) (rest .0 .0 .0 .0 .0 .0 .0 .0 .0 .0 .0 .0 .1)) (rest .0 .0 .0 .0 .0 .0 .0 .0 .0 .0 .0 .1)) (rest .0 .0 .0 .0 .0 .0 .0 .0 .0 .0 .1)) (rest .0 .0 .0 .0 .0 .0 .0 .0 .0 .1)) (rest .0 .0 .0 .0 .0 .0 .0 .0 .1)) (rest .0 .0 .0 .0 .0 .0 .0 .1)) (rest .0 .0 .0 .0 .0 .0 .1)) (rest .0 .0 .0 .0 .0 .1)) (rest .0 .0 .0 .0 .1)) (rest .0 .0 .0 .1)) (rest .0 .0 .1)) (rest .0 .1)) (rest .1))
+    (c .floored-remainder .ensures)
 
 pub applied-spec : {M : Type 1} → statement M
 applied-spec =
@@ -193,6 +210,8 @@ applied-spec =
     nonzero-requires-4
     either-requires
     bit-requires-8
+    floored-quotient-requires
+    floored-remainder-requires
     returns
     returns-2
     returns-3
@@ -205,4 +224,6 @@ applied-spec =
     returns-10
     returns-11
     returns-12
-    returns-13)
+    returns-13
+    returns-14
+    returns-15)

@@ -58,11 +58,17 @@ remainder-range-requires c κs = (sym (c .before .before .before .before .before
 returns-7 : tie.Need-returns-7
 returns-7 c = c .remainder-range .ensures ∙ kind-remainder (c .before .before .before .before .before .before .before .before .before .before .args .kind) (c .before .before .before .before .before .before .before .before .before .before .args .a) (c .before .before .before .before .before .before .before .before .before .before .args .b) (c .before .before .before .before .before .before .before .before .before .if1 .left) (c .before .before .before .before .before .before .before .before .if2 .left) (sym (c .before .before .before .before .before .before .before .usable .ensures) ∙ not-false _ (c .before .before .before .before .before .before .if3 .left)) (sym (c .before .before .before .before .before .usable2 .ensures) ∙ not-false _ (c .before .before .before .before .if4 .left)) (c .before .if7 .taken)
 
+floored-range-requires : tie.Need-floored-range-requires
+floored-range-requires c κs = (c .if8 .taken, omega (arith, c .before .before .before .before .before .before .before .before .if2 .left), sym (c .before .before .before .before .before .before .before .usable .ensures) ∙ not-false _ (c .before .before .before .before .before .before .if3 .left), sym (c .before .before .before .before .before .usable2 .ensures) ∙ not-false _ (c .before .before .before .before .if4 .left))
+
+returns-8 : tie.Need-returns-8
+returns-8 c = c .floored-range .ensures ∙ kind-ends (c .before .before .before .before .before .before .before .before .before .before .before .args .kind) (c .before .before .before .before .before .before .before .before .before .before .before .args .a) (c .before .before .before .before .before .before .before .before .before .before .before .args .b) (c .before .before .before .before .before .before .before .before .before .before .if1 .left) (c .before .before .before .before .before .before .before .before .before .if2 .left) (sym (c .before .before .before .before .before .before .before .before .usable .ensures) ∙ not-false _ (c .before .before .before .before .before .before .before .if3 .left)) (sym (c .before .before .before .before .before .before .usable2 .ensures) ∙ not-false _ (c .before .before .before .before .before .if4 .left))
+
 range-within-requires : tie.Need-range-within-requires
 range-within-requires c κs = search needs
 
-returns-8 : tie.Need-returns-8
-returns-8 c = c .range-within .ensures ∙ kind-truth (c .before .before .before .before .before .before .before .before .before .before .args .kind) (c .before .before .before .before .before .before .before .before .before .before .args .a) (c .before .before .before .before .before .before .before .before .before .before .args .b) (c .before .before .before .before .before .before .before .before .before .if1 .left) (c .before .before .before .before .before .before .before .before .if2 .left) (sym (c .before .before .before .before .before .before .before .usable .ensures) ∙ not-false _ (c .before .before .before .before .before .before .if3 .left)) (sym (c .before .before .before .before .before .usable2 .ensures) ∙ not-false _ (c .before .before .before .before .if4 .left)) (omega (arith, c .before .before .before .if5 .left, c .before .before .if6 .left, c .before .if7 .left))
+returns-9 : tie.Need-returns-9
+returns-9 c = c .range-within .ensures ∙ kind-truth (c .before .before .before .before .before .before .before .before .before .before .before .args .kind) (c .before .before .before .before .before .before .before .before .before .before .before .args .a) (c .before .before .before .before .before .before .before .before .before .before .before .args .b) (c .before .before .before .before .before .before .before .before .before .before .if1 .left) (c .before .before .before .before .before .before .before .before .before .if2 .left) (sym (c .before .before .before .before .before .before .before .before .usable .ensures) ∙ not-false _ (c .before .before .before .before .before .before .before .if3 .left)) (sym (c .before .before .before .before .before .before .usable2 .ensures) ∙ not-false _ (c .before .before .before .before .before .if4 .left)) (omega (arith, c .before .before .before .before .if5 .left, c .before .before .before .if6 .left, c .before .before .if7 .left)) (omega (arith, c .before .if8 .left))
 
 pub operator-range-spec : {M : Type 1} → statement M
 operator-range-spec =
@@ -84,5 +90,7 @@ operator-range-spec =
     returns-6
     remainder-range-requires
     returns-7
+    floored-range-requires
+    returns-8
     range-within-requires
-    returns-8)
+    returns-9)

@@ -4,7 +4,7 @@ use mathlib.Core.Path.{_≡_, refl}
 use mathlib.Core.List.{List, [], _∷_, map}
 use lib.IntN.{ℤ, pos, negℤ}
 use Rattle.meaning.specs.Value.{less}
-use Rattle.meaning.specs.Arithmetic.{Interval, add, subtract, multiply, divide, remainder, compare, and}
+use Rattle.meaning.specs.Arithmetic.{Interval, add, subtract, multiply, divide, remainder, compare, and, flooredDivide, flooredRemainder}
 use Rattle.meaning.specs.Expression.{Expression, integer, name, first, next, negation, binary, conditional, fby, setKind, Stream}
 use Rattle.meaning.specs.Interval.{interval}
 
@@ -35,6 +35,9 @@ rows =
     ∷ (binary multiply x x, to (minus 21) (pos 49))
     ∷ (binary divide x y, to (minus 7) (pos 7))
     ∷ (binary remainder y x, to (pos 0) (pos 2))
+    ∷ (binary flooredDivide x y, to (minus 7) (pos 7))
+    ∷ (binary flooredRemainder y x, to (minus 6) (pos 6))
+    ∷ (binary flooredRemainder x (integer (pos 0)), to (pos 0) (pos 0))
     ∷ (binary (compare less) x y, to (pos 0) (pos 1))
     ∷ (binary and x y, to (pos 0) (pos 1))
     ∷ (negation x, to (pos 0) (pos 1))

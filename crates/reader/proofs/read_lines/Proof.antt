@@ -11,7 +11,7 @@ use Rattle.refusals.specs.Places.{saidTokens}
 use Rattle.reader.specs.Constraints.{State, state}
 use Rattle.header.specs.Streams.{StreamTables, streamTables, StreamsOutcome, KindsOutcome}
 use Rattle.lowest_refusal.specs.Tested.{formRefusal}
-use Rattle.reader.proofs.Answers.{streams-few, no-streams-reading, no-stream-reading, LinesRead, form-refused, held-sheet, held-reading}
+use Rattle.reader.proofs.Answers.{streams-few, no-streams-reading, no-stream-reading, LinesRead, form-refused, kinds-fill, held-sheet, held-reading}
 use Rattle.reader.proofs.read_lines.Statement.{statement}
 use Rattle.reader.proofs.read_lines.Tie as tie
 
@@ -36,7 +36,7 @@ returns : tie.Need-returns
 returns c =
     let header = c .before .before .before .before in
     let a = began header .args in
-    c .refused .ensures ∙ no-streams-reading (saidTokens (tokens (a .kinds-line .now))) (lines (a .text .now)) (streams-read header) (not-true _ (c .before .if1 .taken))
+    c .refused .ensures ∙ no-streams-reading (a .floors) (saidTokens (tokens (a .kinds-line .now))) (lines (a .text .now)) (streams-read header) (not-true _ (c .before .if1 .taken))
 
 refused-requires-2 : tie.Need-refused-requires-2
 refused-requires-2 c κs = search needs
@@ -45,7 +45,7 @@ returns-2 : tie.Need-returns-2
 returns-2 c =
     let header = c .before .before .before .before .before .before in
     let a = began header .args in
-    c .refused2 .ensures ∙ no-stream-reading (streams-read header) (not-false _ (c .before .before .before .if1 .left)) (saidTokens (tokens (a .kinds-line .now))) (lines (a .text .now)) (c .before .if2 .taken)
+    c .refused2 .ensures ∙ no-stream-reading (streams-read header) (not-false _ (c .before .before .before .if1 .left)) (a .floors) (saidTokens (tokens (a .kinds-line .now))) (lines (a .text .now)) (c .before .if2 .taken)
 
 read-constraints-requires : tie.Need-read-constraints-requires
 read-constraints-requires c κs = search needs
@@ -101,13 +101,18 @@ refused-requires-3 : tie.Need-refused-requires-3
 refused-requires-3 c κs = search needs
 
 returns-3 : tie.Need-returns-3
-returns-3 c = c .refused3 .ensures ∙ form-refused (lines-read (c .before .before)) (c .before .if3 .taken)
+returns-3 c = c .refused3 .ensures ∙ form-refused (lines-read (c .before .before)) (start-of (c .before .before) .args .floors) (c .before .if3 .taken)
+
+restate-requires : tie.Need-restate-requires
+restate-requires c κs = kinds-fill (lines-read (c .before .before)) (start-of (c .before .before) .args .floors) (c .before .if3 .left)
 
 store-sheet-requires : tie.Need-store-sheet-requires
-store-sheet-requires c κs = held-sheet (lines-read (c .before)) (c .if3 .left)
+store-sheet-requires c κs = held-sheet (lines-read (c .before .before .before)) (start-of (c .before .before .before) .args .floors) (c .before .before .if3 .left) (c .restate .ensures)
 
 returns-4 : tie.Need-returns-4
-returns-4 c = held-reading (lines-read (c .before .before)) (c .before .if3 .left) (c .store-sheet .ensures)
+returns-4 c =
+    let read = c .before .before .before .before in
+    held-reading (lines-read read) (start-of read .args .floors) (c .before .before .before .if3 .left) (c .before .restate .ensures) (c .store-sheet .ensures)
 
 pub read-lines-spec : {M : Type 1} → statement M
 read-lines-spec =
@@ -123,5 +128,6 @@ read-lines-spec =
     form-refusal-requires
     refused-requires-3
     returns-3
+    restate-requires
     store-sheet-requires
     returns-4)

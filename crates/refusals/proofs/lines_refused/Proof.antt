@@ -16,13 +16,13 @@ header-of-requires : tie.Need-header-of-requires
 header-of-requires c κs = search needs
 
 sub-token-count : tie.Need-sub-token-count
-sub-token-count c = let w = c .header-of .ensures .namesWithin in omega arith
+sub-token-count c = let o = c .header-of .ensures .namesOrdered in let w = c .header-of .ensures .namesWithin in omega arith
 
 part-token-count-start : tie.Need-part-token-count-start
-part-token-count-start c = let w = c .header-of .ensures .namesWithin in omega arith
+part-token-count-start c = let o = c .header-of .ensures .namesOrdered in let w = c .header-of .ensures .namesWithin in omega arith
 
 part-token-count-end : tie.Need-part-token-count-end
-part-token-count-end c = let w = c .header-of .ensures .namesWithin in omega arith
+part-token-count-end c = let o = c .header-of .ensures .namesOrdered in let w = c .header-of .ensures .namesWithin in omega arith
 
 token-count-requires : tie.Need-token-count-requires
 token-count-requires c κs = search needs

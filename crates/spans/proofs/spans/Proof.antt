@@ -4,8 +4,7 @@ use native.Mathlib.Omega.{arith}
 use mathlib.Core.Path.{_≡_, sym, ap, _∙_}
 use lib.ListN.{length}
 use borrow.Author.Needs.{needs}
-use Rattle.sheet.specs.Form.{layoutIn}
-use Rattle.spans.specs.Spans.{lineOffset, constraintsTo, spansIn}
+use Rattle.spans.specs.Spans.{constraintsTo, constraintsOffset, spansIn}
 use Rattle.spans.specs.Stored.{spanBound, putSpans, noSpans}
 use Rattle.spans.proofs.Tables.{table-few, table-many}
 use Rattle.spans.proofs.Lines.{constraints-offset, spans-long, spans-short}
@@ -23,7 +22,7 @@ header-of-requires : tie.Need-header-of-requires
 header-of-requires c κs = search needs
 
 -- Where the constraint lines begin.
-begins : (c : tie.After-header-of) → c .header-of .result .constraints ≡ lineOffset (layoutIn (c .before .before .before .args .text .now) .constraintsFrom) (c .before .before .before .args .text .now)
+begins : (c : tie.After-header-of) → c .header-of .result .constraints ≡ constraintsOffset (c .before .before .before .args .text .now)
 begins c = constraints-offset (c .header-of .ensures)
 
 constraints-requires : tie.Need-constraints-requires
