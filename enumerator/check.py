@@ -37,6 +37,7 @@ from limits import NO_ENTRY, STEP_REFUSED
 from meaning import value
 from normal_form import entry_texts, normal_form_of
 from reading import ranges, read
+from record_counts_check import difference as record_counts_difference
 from release_check import (by_first_line, drawn_difference as release_difference,
                            short_sheets as short_release_sheets)
 from replay_check import difference as replay_difference
@@ -67,6 +68,7 @@ JOINED_THREE = 150
 CARRIED_TABLES = 1500
 CARRIED_SHEETS = 150
 HANDED_ON = 200
+RECORD_COUNTS = 600
 PAIR_BOUND = 150
 PARTITION_BOUND = 30
 NORMAL_FORM_WORDS = 4
@@ -609,6 +611,15 @@ def check_joins(rng, counts):
         (JOINED_THREE, three_difference, "three sheets joined either way")))
 
 
+def check_record_counts(rng, counts):
+    """How many records begin a solution, by the table and by listing records."""
+    for _ in range(RECORD_COUNTS):
+        case = record_counts_difference(rng)
+        if case:
+            raise Difference("record counts", *case)
+        counts["figures found by the table and by listing records"] += 1
+
+
 def main(seed, count):
     counts = Counter()
     rng = random.Random(seed)
@@ -626,6 +637,7 @@ def main(seed, count):
         check_joins(random.Random("join %d" % seed), counts)
         check_carries(random.Random("carry %d" % seed), counts)
         check_histograms(random.Random("histogram %d" % seed), counts)
+        check_record_counts(random.Random("record counts %d" % seed), counts)
         sheets = [(wanted.name, wanted.sheet) for wanted in EXAMPLES
                   if "letters" not in wanted.name]
         sheets += random_sheets(seed, count, 6) + division_sheets(seed, count, 6)

@@ -20,3 +20,7 @@ STEPS = 4_294_967_295
 
 SLUICE_ROWS = 256
 SLUICE_ENTRIES = 32768
+
+# The longest records counted, and the highest figure printed (document 02, S-13).
+LONGEST_RECORD = 64
+HIGHEST_FIGURE = 9_223_372_036_854_775_807

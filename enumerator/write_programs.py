@@ -384,6 +384,23 @@ def histogram_program(vectors):
             "data/record": first["record"].encode("latin-1"), "stdout": first["printed"].encode()}
 
 
+# The sizes of the chunks in which each input is taken by the program on the cases of `record_counts`.
+INPUT_CHUNKS = (1, 7, 65536)
+
+
+def record_counts_vectors_program(vectors):
+    """Every input with its length before it, and what `record_counts` prints for it, once for each size of chunks."""
+    inputs = [vector["input"].encode("latin-1") for vector in vectors]
+    return (b"".join(word(len(text)) + text for text in inputs),
+            b"".join(vector["printed"].encode() * len(INPUT_CHUNKS) for vector in vectors))
+
+
+def record_counts_program(vectors):
+    """The first case with figures, and what `record_counts` prints for it."""
+    first = next(vector for vector in vectors if not vector["printed"].startswith("refused"))
+    return first["input"].encode("latin-1"), first["printed"].encode()
+
+
 def write_files(folder, crate, files):
     for name, content in files.items():
         path = os.path.join(folder, crate, name)
@@ -428,6 +445,9 @@ def main(vectors, crates):
     histograms = load(vectors, "histogram.jsonl")
     write_files(crates, "histogram", histogram_program(histograms))
     write(crates, "histogram_vectors", histogram_vectors_program(histograms))
+    figures = load(vectors, "record_counts.jsonl")
+    write(crates, "record_counts", record_counts_program(figures))
+    write(crates, "record_counts_vectors", record_counts_vectors_program(figures))
 
 
 if __name__ == "__main__":

@@ -33,6 +33,8 @@ from limits import SITUATIONS, STEP_REFUSED
 from migrate import migrate
 from normal_form import entry_texts, normal_form, normal_form_of
 from reading import letter_count
+from record_counts import record_counts
+from record_counts_cases import record_counts_cases
 from replay import replay
 from replay_cases import replay_cases
 from shortest import shortest
@@ -68,6 +70,7 @@ JOINS = (100, 30)
 JOINED_SHEETS = 24
 CARRIES = (100, 30)
 MIGRATED_SHEETS = 24
+COUNTED_SHEETS = 30
 # Larger tables have a digest in place of their entries.
 STORED_ENTRIES = 2000
 # Drawn sheets with larger tables are left out, to keep the files short.
@@ -235,6 +238,11 @@ def game_vector(case):
     return vector
 
 
+def record_counts_vector(text):
+    return {"input": text.decode("latin-1"),
+            "printed": record_counts(text).decode()}
+
+
 def strategy_vector(sheet):
     return {"sheet": sheet.decode("latin-1"),
             "printed": strategy(sheet).decode()}
@@ -326,6 +334,8 @@ def main(directory):
                 for case in migrate_cases(SEED, MIGRATED_SHEETS)]
     histograms = [histogram_vector(*case) for case in histogram_cases(
         SEED, DRAWN_HISTOGRAMS, LAWFUL_HISTOGRAMS)]
+    figures = [record_counts_vector(text) for text
+               in record_counts_cases(SEED, COUNTED_SHEETS)]
     for name, vectors in (("sheets", sheets), ("compile", compiles),
                           ("normal", normals), ("step", steps),
                           ("replay", replays), ("course", courses),
@@ -333,7 +343,8 @@ def main(directory):
                           ("strategy", settled), ("join", joins),
                           ("join_sheets", joined), ("carry", carries),
                           ("migrate", migrated),
-                          ("histogram", histograms)):
+                          ("histogram", histograms),
+                          ("record_counts", figures)):
         write_lines(directory, name + ".jsonl", vectors)
     print_counts("sheets", (vector["refusal"] for vector in sheets))
     print_counts("compiles", (vector["refusal"] for vector in compiles))
@@ -353,6 +364,7 @@ def main(directory):
                              for _, refusal in vector["calls"]))
     print("sheets carried over: %d" % len(migrated))
     print("histograms: %d" % len(histograms))
+    print("records counted: %d" % len(figures))
 
 
 if __name__ == "__main__":

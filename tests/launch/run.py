@@ -2,8 +2,8 @@
 
     python3 tests/launch/run.py
 
-Uses target/bin/sluice, which `rt check sluice` makes, and target/bin/replay, histogram, shortest, strategy, join and migrate where they are there. How a
-program is built, what is passed on and how long it is kept is tested in a folder of its own, with stand-ins for `rt` and for the program.
+Uses target/bin/sluice, which `rt check sluice` makes, and target/bin/replay, histogram, shortest, strategy, join, migrate and record_counts where
+they are there. How a program is built, what is passed on and how long it is kept is tested in a folder of its own, with stand-ins for `rt` and for the program.
 """
 
 import os
@@ -210,6 +210,22 @@ def join_cases(folder):
     expect("a second sheet without a solution", run([tool, first, second]), "refused 9\n", 1, "")
 
 
+def record_counts_cases(folder):
+    tool = ROOT / "tools" / "record_counts"
+    help_and_usage("record_counts", None, 2)
+    if not is_there("record_counts"):
+        return
+    counted, missing = folder / "counted", folder / "none"
+    counted.write_text("2\n" + SHEET)
+    figures = "0 1 0\n1 3 2\n2 11 10\n"
+    expect("figures of a file", run([tool, counted]), figures, 0, "")
+    expect("figures of standard input", run([tool], text=counted.read_text()), figures, 0, "")
+    expect("too many letters", run([tool], text="65\n" + SHEET), "refused 19\n", 1, "")
+    expect("no number", run([tool], text=SHEET), "refused 3\n", 1, "")
+    expect("no such input", run([tool, missing]), "refused 3\n", 2, "cannot be read")
+    expect("a full device for figures", full_device([tool, counted]), None, 2, "cannot be written")
+
+
 def stand_in(path, text):
     path.write_text("#!/usr/bin/env bash\n" + text)
     path.chmod(0o755)
@@ -277,7 +293,7 @@ def build():
 
 def main():
     build()
-    for cases in [sluice_cases, replay_cases, histogram_cases, shortest_cases, strategy_cases, join_cases, migrate_cases, stand_in_cases]:
+    for cases in [sluice_cases, replay_cases, histogram_cases, shortest_cases, strategy_cases, join_cases, migrate_cases, record_counts_cases, stand_in_cases]:
         with tempfile.TemporaryDirectory() as folder:
             cases(pathlib.Path(folder))
     print(f"{done} cases: help, usage, statuses, links, reads and writes that fail, the first call")

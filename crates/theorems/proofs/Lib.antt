@@ -19,6 +19,7 @@ pub mod Smallest
 pub mod JoinedStreams
 pub mod Joins
 pub mod WorkedMachines
+pub mod RecordCounts
 pub mod LetterNumbers
 pub mod Divisions
 pub mod Releases

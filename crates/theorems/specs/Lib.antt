@@ -11,5 +11,6 @@ pub mod ToldTables
 pub mod Migrations
 pub mod Joins
 pub mod Machines
+pub mod RecordCounts
 pub mod LetterNumbers
 pub mod Divisions

@@ -1,0 +1,4 @@
+pub mod Prints
+pub mod Sizes
+pub mod Printing
+pub mod Reading
