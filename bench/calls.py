@@ -6,8 +6,12 @@ import json
 import os
 import pathlib
 import subprocess
+import sys
 
 ROOT = pathlib.Path(__file__).resolve().parents[1]
+sys.path.insert(0, str(ROOT / "enumerator"))
+from commands import parser  # noqa: E402
+
 KEY = 16
 # What a row takes in each table of the compile: entries (one for each letter), final bytes, keys and six work tables.
 WIDTHS = [(ctypes.c_uint16, None), (ctypes.c_uint8, 1), (ctypes.c_uint32, KEY)] + [(ctypes.c_uint32, 1)] * 6
@@ -115,3 +119,10 @@ def told(answer, letters, streams):
 def lines(name):
     with open(ROOT / "vectors" / name, encoding="latin-1") as vectors:
         return [json.loads(line) for line in vectors]
+
+
+def asks_for_archive():
+    """Whether the command that runs has the argument `archive`: the proved function is checked, and not plain C."""
+    arguments = parser(sys.modules["__main__"].__doc__)
+    arguments.add_argument("which", metavar="archive", nargs="?", choices=["archive"], help="check the archive of the proved function")
+    return arguments.parse_args().which == "archive"

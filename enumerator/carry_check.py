@@ -127,13 +127,17 @@ def tables_difference(rng):
 
 # ---- three sheets
 
-def three_difference(rng):
+def drawn_three(rng):
+    old, between = drawn_sheets(rng)
+    return old, between, drawn_change(rng, between)
+
+
+def three_difference(rng, drawn=None):
     """Three drawn sheets of which the first can hand over to the second, and
     the second to the third, but not, or not by both lists one after the other,
     the first to the third; or one that does not hand over to itself as it
     stands.  Or None."""
-    old, between = drawn_sheets(rng)
-    new = drawn_change(rng, between)
+    old, between, new = drawn or drawn_three(rng)
     tables = [table_of_sheet(text) for text in (old, between, new)]
     if None in tables:
         return None
@@ -141,7 +145,7 @@ def three_difference(rng):
         carry(tables[one], tables[other], len(tables[one].finals))
         for one, other in ((0, 1), (1, 2), (0, 2), (0, 0)))
     if same != (0, list(range(len(tables[0].finals)))):
-        return old, same
+        return old, between, new, same
     if first.refusal or last.refusal:
         return None
     wanted = [last.list[state] for state in first.list]
@@ -200,9 +204,9 @@ def replay_fault(rng, old, new, printed):
     return record
 
 
-def sheets_difference(rng):
+def sheets_difference(rng, drawn=None):
     """Two drawn sheets on which the routes differ, or None."""
-    old, new = drawn_sheets(rng)
+    old, new = drawn or drawn_sheets(rng)
     printed = migrate(old, new)
     if printed != by_lines(old, new):
         return old, new, printed, by_lines(old, new)

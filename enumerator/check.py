@@ -1,12 +1,12 @@
 """A second route to the same answers, for small random sheets.
 
-    python3 enumerator/check.py SEED COUNT
+    python3 enumerator/check.py SEED COUNT [NAME ..]
 
 Tables are compared with the meaning of ultimately periodic words, values at
 single times with the courses of such words, situations with a plain listing of
 all short records, and normal forms with the words extended by what the added
 streams stand for.  It exits with 1 at the first
-difference.
+difference, and prints the smallest sheet that still differs.
 """
 
 import itertools
@@ -18,9 +18,11 @@ from carry_check import (sheets_difference as migrate_difference,
                          tables_difference as carry_difference,
                          three_difference as handed_on_difference,
                          worked_fault as carried_fault)
+from commands import add_parts, chosen_parts, parser
 from course_check import difference as course_difference
 from damage import damaged_sheets
 from examples import EXAMPLES, example_faults
+from export_check import difference as export_difference
 from game_check import (sheet_difference as game_difference, table_difference,
                         worked_fault)
 from generate import (bound_sheets, division_sheets, random_release_sheets,
@@ -43,6 +45,7 @@ from release_check import (by_first_line, drawn_difference as release_difference
 from replay_check import difference as replay_difference
 from shortest_check import difference as shortest_difference
 from situations import explore, is_lawful, judge_of, situation
+from smallest import smallest, smallest_case
 from spellings import spelling_sheets
 from step import step, table_bytes
 from strategy_check import difference as strategy_difference
@@ -69,6 +72,7 @@ CARRIED_TABLES = 1500
 CARRIED_SHEETS = 150
 HANDED_ON = 200
 RECORD_COUNTS = 600
+EXPORTS = 150
 PAIR_BOUND = 150
 PARTITION_BOUND = 30
 NORMAL_FORM_WORDS = 4
@@ -500,11 +504,9 @@ def check_kinds(rng, counts):
             raise Difference("kinds", text, read(text)[0],
                              by_writing_again(text))
         counts["short sheets about kinds, read and written again"] += 1
-    for _ in range(KINDS_SHEETS):
-        case = drawn_difference(rng)
-        if case:
-            raise Difference("kinds", *case)
-        counts["sheets with kinds and without, with equal tables"] += 1
+    drawn_differences("kinds", rng, counts, (
+        (KINDS_SHEETS, drawn_difference,
+         "sheets with kinds and without, with equal tables", 1),))
 
 
 def check_releases(rng, counts):
@@ -516,52 +518,44 @@ def check_releases(rng, counts):
             raise Difference("release", text, read(text)[0],
                              by_first_line(text))
         counts["short sheets about releases, read and by the first line"] += 1
-    for _ in range(RELEASE_SHEETS):
-        case = release_difference(rng)
-        if case:
-            raise Difference("release", *case)
-        counts["sheets of release 2 written again in release 1"] += 1
+    drawn_differences("release", rng, counts, (
+        (RELEASE_SHEETS, release_difference,
+         "sheets of release 2 written again in release 1", 1),))
 
 
 def check_replays(rng, counts):
     """What `replay` prints, by lines and by bytes."""
-    for _ in range(REPLAYS):
-        case = replay_difference(rng)
-        if case:
-            raise Difference("replay", *case)
-        counts["records replayed by lines and by bytes"] += 1
+    drawn_differences("replay", rng, counts, (
+        (REPLAYS, replay_difference, "records replayed by lines and by bytes",
+         3),))
 
 
 def check_histograms(rng, counts):
     """What `histogram` prints, by values and by letters."""
-    for _ in range(HISTOGRAMS):
-        case = histogram_difference(rng)
-        if case:
-            raise Difference("histogram", *case)
-        counts["records counted by values and by letters"] += 1
+    drawn_differences("histogram", rng, counts, (
+        (HISTOGRAMS, histogram_difference,
+         "records counted by values and by letters", 2),))
 
 
 def check_courses(rng, counts):
     """The shortest course with the fewest changes, by rows and last letters and
     by all records."""
-    for _ in range(COURSES):
-        case = course_difference(rng)
-        if case:
-            raise Difference("course", *case)
-        counts["courses found by rows and last letters and by all records"] += 1
-    for _ in range(SHEET_COURSES):
-        case = shortest_difference(rng)
-        if case:
-            raise Difference("shortest", *case)
-        counts["courses of sheets found by rows and by lines of the table"] += 1
+    drawn_differences("course", rng, counts, (
+        (COURSES, course_difference,
+         "courses found by rows and last letters and by all records"),
+        (SHEET_COURSES, shortest_difference,
+         "courses of sheets found by rows and by lines of the table", 2)))
 
 
 def drawn_differences(name, rng, counts, kinds):
     """Each kind: how often something is drawn, the function that compares two
-    routes on it, and what it compares."""
-    for draws, difference, what in kinds:
+    routes on it, what it compares, and where sheets are drawn how many parts of
+    a case that differs are drawn: they are then made smaller."""
+    for draws, difference, what, *count in kinds:
         for _ in range(draws):
             case = difference(rng)
+            if case and count:
+                case = smallest_case(case, difference, *count)
             if case:
                 raise Difference(name, *case)
             counts[what] += 1
@@ -577,9 +571,9 @@ def check_games(rng, counts):
         (GAME_TABLES, table_difference,
          "games of tables solved by sets and by strategies"),
         (GAME_SHEETS, game_difference,
-         "games of sheets solved by states and by situations and words"),
+         "games of sheets solved by states and by situations and words", 1),
         (STRATEGIES, strategy_difference,
-         "play tables printed and judged by lines of the table")))
+         "play tables printed and judged by lines of the table", 1)))
 
 
 def check_carries(rng, counts):
@@ -592,9 +586,9 @@ def check_carries(rng, counts):
         (CARRIED_TABLES, carry_difference,
          "tables carried over by sets of states and by all records"),
         (CARRIED_SHEETS, migrate_difference,
-         "sheets carried over by states and by lines and records"),
+         "sheets carried over by states and by lines and records", 2),
         (HANDED_ON, handed_on_difference,
-         "sheets carried over at once and by one between")))
+         "sheets carried over at once and by one between", 3)))
 
 
 def check_joins(rng, counts):
@@ -607,53 +601,99 @@ def check_joins(rng, counts):
         (JOINED_TABLES, tables_difference,
          "tables joined by pairs and by steps, records and words"),
         (JOINED_SHEETS, sheets_difference,
-         "sheets joined by pairs and as a single sheet"),
-        (JOINED_THREE, three_difference, "three sheets joined either way")))
+         "sheets joined by pairs and as a single sheet", 2),
+        (JOINED_THREE, three_difference, "three sheets joined either way", 3)))
 
 
 def check_record_counts(rng, counts):
     """How many records begin a solution, by the table and by listing records."""
-    for _ in range(RECORD_COUNTS):
-        case = record_counts_difference(rng)
-        if case:
-            raise Difference("record counts", *case)
-        counts["figures found by the table and by listing records"] += 1
+    drawn_differences("record counts", rng, counts, (
+        (RECORD_COUNTS, record_counts_difference,
+         "figures found by the table and by listing records", 1),))
 
 
-def main(seed, count):
-    counts = Counter()
+def check_exports(rng, counts):
+    """Headers read back by their form, and sizes, against printed tables."""
+    drawn_differences("export", rng, counts, (
+        (EXPORTS, export_difference,
+         "headers and sizes of sheets, against printed tables", 1),))
+
+
+def check_examples(counts):
+    """The sheets with answers worked out by hand."""
+    faults = example_faults()
+    if faults:
+        raise Difference("examples", faults)
+    counts["examples"] += len(EXAMPLES)
+
+
+def check_sheets(seed, count, counts):
+    """The examples and random sheets, against the meaning of words."""
     rng = random.Random(seed)
-    try:
-        faults = example_faults()
-        if faults:
-            raise Difference("examples", faults)
-        counts["examples"] += len(EXAMPLES)
-        check_refusals(seed, counts)
-        check_kinds(random.Random("kinds %d" % seed), counts)
-        check_releases(random.Random("release %d" % seed), counts)
-        check_replays(rng, counts)
-        check_courses(rng, counts)
-        check_games(random.Random("game %d" % seed), counts)
-        check_joins(random.Random("join %d" % seed), counts)
-        check_carries(random.Random("carry %d" % seed), counts)
-        check_histograms(random.Random("histogram %d" % seed), counts)
-        check_record_counts(random.Random("record counts %d" % seed), counts)
-        sheets = [(wanted.name, wanted.sheet) for wanted in EXAMPLES
-                  if "letters" not in wanted.name]
-        sheets += random_sheets(seed, count, 6) + division_sheets(seed, count, 6)
-        sheets += random_release_sheets(seed, count, 6)
-        for number, (name, text) in enumerate(sheets):
+    sheets = [(wanted.name, wanted.sheet) for wanted in EXAMPLES
+              if "letters" not in wanted.name]
+    sheets += random_sheets(seed, count, 6) + division_sheets(seed, count, 6)
+    sheets += random_release_sheets(seed, count, 6)
+    for number, (name, text) in enumerate(sheets):
+        try:
             check_sheet(name, text, rng, counts)
-            if number % 50 == 49:
-                print("%d sheets checked" % (number + 1), flush=True)
+        except Difference as difference:
+            raise Difference(*difference.args, *smallest_sheet(text))
+        if number % 50 == 49:
+            print("%d sheets checked" % (number + 1), flush=True)
+
+
+def smallest_sheet(text):
+    """What is told of the smallest sheet on which the routes still differ,
+    where they do with another seed."""
+    def fails(tried):
+        try:
+            check_sheet("smallest", tried, random.Random(1), Counter())
+        except Difference as difference:
+            return difference.args
+        return None
+
+    if not fails(text):
+        return ()
+    return ("the smallest that still differs:", *fails(smallest(text, fails)))
+
+
+# The parts that draw, each with a generator of its own.
+DRAWN_PARTS = {"kinds": check_kinds, "release": check_releases,
+               "replay": check_replays, "course": check_courses,
+               "game": check_games, "join": check_joins,
+               "carry": check_carries, "histogram": check_histograms,
+               "record-counts": check_record_counts, "export": check_exports}
+PARTS = {
+    "examples": lambda seed, count, counts: check_examples(counts),
+    "refusals": lambda seed, count, counts: check_refusals(seed, counts),
+    **{name: lambda seed, count, counts, name=name, check=check: check(
+        random.Random("%s %d" % (name, seed)), counts)
+       for name, check in DRAWN_PARTS.items()},
+    "sheets": check_sheets,
+}
+
+
+def main():
+    arguments = parser(__doc__)
+    arguments.add_argument("seed", metavar="SEED", type=int)
+    arguments.add_argument("count", metavar="COUNT", type=int,
+                           help="random sheets, and as many with divisions and "
+                           "of release 2")
+    add_parts(arguments, PARTS)
+    given = arguments.parse_args()
+    counts = Counter()
+    try:
+        for part in chosen_parts(arguments, PARTS, given.names):
+            part(given.seed, given.count, counts)
     except Difference as difference:
         print("DIFFERENCE", *difference.args, sep="\n  ")
         return 1
-    print("compared, seed %d:" % seed)
+    print("compared, seed %d:" % given.seed)
     for what in sorted(counts):
         print("  %8d %s" % (counts[what], what))
     return 0
 
 
 if __name__ == "__main__":
-    sys.exit(main(int(sys.argv[1]), int(sys.argv[2])))
+    sys.exit(main())

@@ -11,8 +11,8 @@ lines of the damaged sheet.
 """
 
 import random
-import sys
 
+from commands import numbers
 from generate import fby_chain, nested, print_sheets, random_lines, sheet_bytes
 from grammar import CONSTRAINT_WORDS
 
@@ -186,4 +186,4 @@ def damaged_sheets(seed, each):
 
 
 if __name__ == "__main__":
-    print_sheets(damaged_sheets(int(sys.argv[1]), int(sys.argv[2])))
+    print_sheets(damaged_sheets(*numbers(__doc__, "seed", "each")))

@@ -392,9 +392,9 @@ def room_fault(rng, text, analysis, play):
     return None if answer == wanted else (rows, length, answer)
 
 
-def sheet_difference(rng):
+def sheet_difference(rng, drawn=None):
     """A drawn sheet with kinds on which the routes differ, or None."""
-    text = drawn_sheet(rng)
+    text, = drawn or (drawn_sheet(rng),)
     analysis = analyse(text, SITUATION_BOUND)
     if analysis.table is None:
         wanted = compile_sheet(text, SITUATION_BOUND).refusal

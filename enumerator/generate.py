@@ -9,8 +9,8 @@ the sheet as a latin-1 text.
 
 import json
 import random
-import sys
 
+from commands import numbers
 from grammar import (COMPARISON_SIGNS, COMPARISON_WORDS, OPERATORS,
                      STREAM_KINDS)
 
@@ -770,4 +770,4 @@ def print_sheets(sheets):
 
 
 if __name__ == "__main__":
-    main(int(sys.argv[1]), int(sys.argv[2]))
+    main(*numbers(__doc__, "seed", "count"))

@@ -11,7 +11,8 @@ from collections import namedtuple
 # A sheet may nest 1,021 `not`, and every function over trees recurses.
 sys.setrecursionlimit(20000)
 # An integer may have as many digits as a sheet has bytes.
-sys.set_int_max_str_digits(0)
+if hasattr(sys, "set_int_max_str_digits"):
+    sys.set_int_max_str_digits(0)
 
 # The place of a token is its line number and its number within the line.
 Token = namedtuple("Token", "text place")

@@ -4,11 +4,10 @@ stream (document 02, S-12).
     python3 enumerator/histogram.py SHEET RECORD
 """
 
-import sys
-
+from commands import print_answer
 from grammar import split_lines
 from reading import read
-from replay import file_bytes, has_names, line_fault, printed_lines
+from replay import has_names, line_fault, printed_lines
 
 
 def counted(sheet, letters):
@@ -46,5 +45,4 @@ def histogram(sheet_text, record):
 
 
 if __name__ == "__main__":
-    arguments = sys.argv[1:] + ["", ""]
-    sys.stdout.buffer.write(histogram(*map(file_bytes, arguments[:2])))
+    print_answer(__doc__, histogram, ("sheet", "record"))

@@ -97,10 +97,10 @@ def lawful_record(rng, sheet_text):
     return b"\n".join([" ".join(sheet.names).encode(), *lines])
 
 
-def difference(rng):
+def difference(rng, drawn=None):
     """A drawn case on which both routes differ, or whose counts do not add up,
     or None."""
-    sheet, record = drawn_histogram(rng)
+    sheet, record = drawn or drawn_histogram(rng)
     printed = histogram(sheet, record)
     if printed != histogram_by_letters(sheet, record):
         return sheet, record

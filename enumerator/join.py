@@ -4,15 +4,15 @@ and the program `join`.
     python3 enumerator/join.py SHEET SHEET
 """
 
-import sys
 from collections import namedtuple
 from math import prod
 
+from commands import print_answer
 from compiler import Compiled
 from given import given_of, is_fit, letters_over, row_of
 from limits import LETTERS, NO_ENTRY, SITUATIONS, STREAMS
 from reading import Sheet
-from replay import file_bytes, opened
+from replay import opened
 from situations import Graph
 from sluice import lent_rows, table_lines
 from streams import described
@@ -178,5 +178,4 @@ def join_sheets(first, second):
 
 
 if __name__ == "__main__":
-    arguments = sys.argv[1:] + ["", ""]
-    sys.stdout.buffer.write(join_sheets(*map(file_bytes, arguments[:2])))
+    print_answer(__doc__, join_sheets, ("first", "second"))

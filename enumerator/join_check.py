@@ -254,9 +254,9 @@ def meaning_fault(rng, sheets, answer):
     return None
 
 
-def sheets_difference(rng):
+def sheets_difference(rng, drawn=None):
     """Two drawn sheets on which the routes differ, or None."""
-    texts = drawn_sheets(rng)
+    texts = drawn or drawn_sheets(rng)
     found = by_single_sheet(*texts)
     if found is not None and join_sheets(*texts) != found[0]:
         return (*texts, join_sheets(*texts), found[0])
@@ -298,11 +298,11 @@ def law_fault(tables, answer):
     return None
 
 
-def three_difference(rng):
+def three_difference(rng, drawn=None):
     """Three drawn sheets that come to something else when the first two, or
     the last two, are joined first; or None.  The number of pairs may differ,
     and so may what is refused by it or by a name on the way."""
-    texts = (*drawn_sheets(rng), *drawn_sheets(rng))[:3]
+    texts = drawn or (*drawn_sheets(rng), *drawn_sheets(rng))[:3]
     tables = [table_of_sheet(text) for text in texts]
     if None in tables:
         return None

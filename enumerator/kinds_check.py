@@ -65,10 +65,12 @@ def kinds_of(text):
     return text.split(b"\n")[3].decode().split()
 
 
-def drawn_difference(rng):
+def drawn_difference(rng, drawn=None):
     """A drawn sheet, without kinds and with drawn ones, whose compiles or
     whose kinds are not as they should be; or None."""
     lines = random_lines(rng, 6)
+    if drawn:
+        lines = drawn[0].decode("latin-1").rstrip("\n").split("\n")
     plain, said = sheet_bytes(lines), sheet_bytes(with_kinds(rng, lines))
     refusal, sheet = read(plain)
     if refusal != read(said)[0]:

@@ -4,11 +4,10 @@
     python3 enumerator/migrate.py OLD NEW
 """
 
-import sys
-
 from carry import carry
+from commands import print_answer
 from given import given_of
-from replay import file_bytes, opened
+from replay import opened
 
 
 def migrate_lines(old, new):
@@ -33,5 +32,4 @@ def migrate(old, new):
 
 
 if __name__ == "__main__":
-    arguments = sys.argv[1:] + ["", ""]
-    sys.stdout.buffer.write(migrate(*map(file_bytes, arguments[:2])))
+    print_answer(__doc__, migrate, ("old", "new"))

@@ -8,6 +8,7 @@ begin a solution of a sheet, and how many of them end in a final state (document
 import re
 import sys
 
+from commands import parser
 from compiler import analyse, compile_analysed
 from limits import HIGHEST_FIGURE, LONGEST_RECORD, NO_ENTRY
 from reading import letter_count, read
@@ -76,4 +77,5 @@ def record_counts(text):
 
 
 if __name__ == "__main__":
+    parser(__doc__).parse_args()
     sys.stdout.buffer.write(record_counts(sys.stdin.buffer.read()))

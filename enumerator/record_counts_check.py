@@ -72,9 +72,9 @@ def drawn_case(rng):
             return text, wanted
 
 
-def difference(rng):
+def difference(rng, drawn=None):
     """A drawn case on which the two routes differ, or None."""
-    text, wanted = drawn_case(rng)
-    if wanted == record_counts(text):
+    text, wanted = (*drawn, by_records(*drawn)) if drawn else drawn_case(rng)
+    if wanted in (None, record_counts(text)):
         return None
-    return text.decode("latin-1"), wanted, record_counts(text)
+    return text, wanted, record_counts(text)

@@ -71,10 +71,12 @@ def cut(expression):
     return both("+", rest, both("*", lower, right))
 
 
-def drawn_difference(rng):
+def drawn_difference(rng, drawn=None):
     """A drawn sheet of release 2 whose table is not that of the same sheet
     written in release 1, and that sheet; or None."""
     lines = division_lines(rng, 6)
+    if drawn:
+        lines = drawn[0].decode("latin-1").rstrip("\n").split("\n")[1:]
     text = sheet_bytes(with_release(2, lines))
     parts = [constraint_readings(split_tokens(line.encode(), 0))[0]
              for line in lines[3:]]

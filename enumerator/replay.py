@@ -3,8 +3,7 @@
     python3 enumerator/replay.py SHEET RECORD [START]
 """
 
-import sys
-
+from commands import print_answer
 from compiler import analyse, compile_analysed
 from grammar import has_integer_form, split_lines, split_tokens
 from limits import NO_ENTRY
@@ -106,16 +105,5 @@ def replay(sheet_text, record, start=None):
     return printed_lines(replay_lines(sheet_text, record, start))
 
 
-def file_bytes(name):
-    """"a file it cannot read counts as empty" """
-    try:
-        with open(name, "rb") as file:
-            return file.read()
-    except OSError:
-        return b""
-
-
 if __name__ == "__main__":
-    arguments = sys.argv[1:] + ["", ""]
-    given = sys.argv[3].encode("latin-1", "replace") if len(sys.argv) > 3 else None
-    sys.stdout.buffer.write(replay(file_bytes(arguments[0]), file_bytes(arguments[1]), given))
+    print_answer(__doc__, replay, ("sheet", "record"), "start")

@@ -112,7 +112,7 @@ def drawn_case(rng):
     return text, record, rng.choice(STARTS)
 
 
-def difference(rng):
+def difference(rng, drawn=None):
     """A drawn case on which both routes differ, or None."""
-    case = drawn_case(rng)
+    case = drawn or drawn_case(rng)
     return None if replay(*case) == replay_by_steps(*case) else case

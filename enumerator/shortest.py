@@ -4,10 +4,9 @@ to a final state, with the fewest changes (document 02, S-3 and S-8).
     python3 enumerator/shortest.py SHEET [STATE]
 """
 
-import sys
-
+from commands import print_answer
 from course import best_course
-from replay import file_bytes, opened
+from replay import opened
 from situations import letters
 
 
@@ -31,6 +30,4 @@ def shortest(sheet_text, start=None):
 
 
 if __name__ == "__main__":
-    arguments = sys.argv[1:] + [""]
-    given = sys.argv[2].encode("latin-1", "replace") if len(sys.argv) > 2 else None
-    sys.stdout.buffer.write(shortest(file_bytes(arguments[0]), given))
+    print_answer(__doc__, shortest, ("sheet",), "state")

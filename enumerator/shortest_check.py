@@ -63,8 +63,12 @@ def shortest_by_table(sheet_text, start=None):
     return "".join(" ".join(line) + "\n" for line in (table.names, *lines)).encode()
 
 
-def difference(rng):
-    """A drawn sheet and start on which both routes differ, or None."""
+def drawn_case(rng):
     draw = rng.choice((random_sheets, random_kinds_sheets))
-    case = draw(rng.randrange(10 ** 9), 1)[0][1], rng.choice(STARTS)
+    return draw(rng.randrange(10 ** 9), 1)[0][1], rng.choice(STARTS)
+
+
+def difference(rng, drawn=None):
+    """A drawn sheet and start on which both routes differ, or None."""
+    case = drawn or drawn_case(rng)
     return None if shortest(*case) == shortest_by_table(*case) else case

@@ -5,6 +5,7 @@
 
 import sys
 
+from commands import parser
 from compiler import analyse, compile_analysed
 from limits import NO_ENTRY, SLUICE_ENTRIES, SLUICE_ROWS
 from reading import letter_count, read
@@ -52,4 +53,5 @@ def sluice(text):
 
 
 if __name__ == "__main__":
+    parser(__doc__).parse_args()
     sys.stdout.buffer.write(sluice(sys.stdin.buffer.read()))

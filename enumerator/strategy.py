@@ -6,13 +6,11 @@
 `game.py`, and `strategy_check.py` judges any others.
 """
 
-import sys
-
+from commands import print_answer
 from compiler import analyse
 from game import choices, game_analysed
 from limits import NO_ENTRY
 from reading import letter_count, read
-from replay import file_bytes
 from situations import letters
 from sluice import lent_rows
 
@@ -51,5 +49,4 @@ def strategy(text):
 
 
 if __name__ == "__main__":
-    arguments = sys.argv[1:] + [""]
-    sys.stdout.buffer.write(strategy(file_bytes(arguments[0])))
+    print_answer(__doc__, strategy, ("sheet",))

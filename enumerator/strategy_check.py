@@ -120,10 +120,10 @@ def drawn_plays(rng, sheet, answer):
             for state, row in enumerate(answer.play)]
 
 
-def difference(rng):
+def difference(rng, drawn=None):
     """A drawn sheet on which the routes differ, or None: in what is printed,
     and in what is judged of a play table with other letters."""
-    text = drawn_sheet(rng)
+    text, = drawn or (drawn_sheet(rng),)
     fault = printed_fault(text, strategy(text))
     if fault:
         return text, fault

@@ -7,8 +7,8 @@ For SHEETS/NAME.sheet the file is FOLDER/NAME.table.
 """
 
 import os
-import sys
 
+from commands import folders
 from join import join_sheets
 from migrate import migrate
 from sluice import sluice
@@ -40,4 +40,4 @@ def main(sheets, folder):
 
 
 if __name__ == "__main__":
-    main(sys.argv[1], sys.argv[2])
+    main(*folders(__doc__, "sheets", "folder"))

@@ -8,8 +8,8 @@ arguments CRATES/NAME/args, the files of CRATES/NAME/data that they name, and st
 
 import json
 import os
-import sys
 
+from commands import folders
 from limits import NAME_BYTES
 from normal_rows import Rows
 from reading import read
@@ -451,4 +451,4 @@ def main(vectors, crates):
 
 
 if __name__ == "__main__":
-    main(sys.argv[1], sys.argv[2])
+    main(*folders(__doc__, "vectors", "crates"))

@@ -7,12 +7,12 @@ The same program always writes the same bytes.
 
 import hashlib
 import json
-import sys
 from collections import Counter
 from pathlib import Path
 
 from carry import carry
 from carry_cases import carry_cases, migrate_cases
+from commands import folders
 from compiler import analyse, compile_analysed
 from course import course
 from course_cases import course_cases
@@ -368,4 +368,4 @@ def main(directory):
 
 
 if __name__ == "__main__":
-    main(Path(sys.argv[1]) if len(sys.argv) > 1 else DEFAULT_DIRECTORY)
+    main(Path(*folders(__doc__, "dir", default=DEFAULT_DIRECTORY)))

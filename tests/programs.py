@@ -12,6 +12,10 @@ import threading
 from collections import Counter
 
 ROOT = pathlib.Path(__file__).resolve().parents[1]
+sys.path.insert(0, str(ROOT / "enumerator"))
+from commands import add_parts, chosen_parts, parser  # noqa: E402
+from smallest import print_difference  # noqa: E402
+
 LONGEST_RUN = 60
 # The bytes that a program which reads one sheet has for it.
 SHEET_ROOM = 16385
@@ -163,32 +167,82 @@ def full_device(runs, cases, not_written):
             runs.expect("a full device, " + name, runs.run(arguments, device)[1], not_written)
 
 
+def add_program(arguments, name):
+    """The argument --program, where it is not the program that `rt check` makes."""
+    arguments.add_argument("--program", metavar="PROGRAM", help="the program (target/bin/%s)" % name)
+
+
+def program_of(given, name):
+    return str(pathlib.Path(given.program).resolve()) if given.program else built(name)
+
+
+def main_doc():
+    """The text of the command that runs."""
+    return sys.modules["__main__"].__doc__
+
+
 def run_parts(name, runs, parts):
-    """Runs each part of a test on the program of this name, or on that which the first argument names; `runs` is a kind of Runs."""
-    program = str(pathlib.Path(sys.argv[1]).resolve()) if len(sys.argv) > 1 else built(name)
+    """The command of a test: runs the parts that are named, or each, on the program of this name; `runs` is a kind of Runs."""
+    arguments = parser(main_doc())
+    add_program(arguments, name)
+    add_parts(arguments, parts)
+    given = arguments.parse_args()
+    chosen = chosen_parts(arguments, parts, given.names)
     with tempfile.TemporaryDirectory() as folder:
-        done = runs(name, program, folder)
-        for part in parts:
+        done = runs(name, program_of(given, name), folder)
+        for part in chosen:
             part(done)
         print("%d comparisons of `%s`, with no difference" % (done.count, name))
 
 
+def random_arguments(name):
+    """The arguments of a comparison on random sheets: how many, the seed, the program."""
+    arguments = parser(main_doc())
+    arguments.add_argument("count", metavar="COUNT", type=int)
+    arguments.add_argument("seed", metavar="SEED", type=int, nargs="?", default=1)
+    add_program(arguments, name)
+    given = arguments.parse_args()
+    return given.count, given.seed, program_of(given, name)
+
+
+def print_counts(what, seed, counts):
+    print("%d %s, seed %d, with no difference:" % (sum(counts.values()), what, seed))
+    for kind in sorted(counts):
+        print("  %6d %s" % (counts[kind], kind))
+
+
+def kind_of(printed, answer):
+    """What sheets led to, for the summary: a refusal, or the word for an answer."""
+    return printed.split(b"\n", 1)[0].decode() if printed.startswith(b"refused ") else answer
+
+
+def first_difference(cases, fault):
+    """The first of the cases, which are texts, for which the fault function gives something is told of with the smallest texts for which it does; whether there is one."""
+    for number, texts in enumerate(cases, 1):
+        found = fault(*texts)
+        if found:
+            print_difference(texts, fault, found)
+            return True
+        if number % 100 == 0:
+            print("%d compared" % number, flush=True)
+    return False
+
+
 def compare_pairs(name, drawn, wanted, answer):
-    """Compares a program on fresh random pairs of sheets with the enumerator, by the arguments COUNT [SEED [PROGRAM]]; gives the exit status. `drawn` gives a pair, `wanted`
-    what is printed for it, and `answer` names what is printed where nothing is refused."""
-    count, seed = int(sys.argv[1]), int(sys.argv[2]) if len(sys.argv) > 2 else 1
+    """The command that compares a program on fresh random pairs of sheets with the enumerator; gives the exit status. `drawn` gives a pair, `wanted` what is printed for it, and
+    `answer` names what is printed where nothing is refused."""
+    count, seed, program = random_arguments(name)
     rng, counts = random.Random("%s %d" % (name, seed)), Counter()
     with tempfile.TemporaryDirectory() as folder:
-        runs = Runs(name, sys.argv[3] if len(sys.argv) > 3 else built(name), folder)
-        for _ in range(count):
-            texts = drawn(rng)
+        runs = Runs(name, program, folder)
+
+        def fault(*texts):
             printed = wanted(*texts)
             got = runs.run([runs.file("sheet %d" % place, text) for place, text in enumerate(texts)])
-            if got != (printed, b""):
-                print("DIFFERENCE", *texts, "printed", *got, "and not", printed, sep="\n  ")
-                return 1
-            counts[printed.decode().strip() if printed.startswith(b"refused ") else answer] += 1
-    print("%d pairs of sheets compared, seed %d, with no difference:" % (count, seed))
-    for what in sorted(counts):
-        print("  %6d %s" % (counts[what], what))
+            counts[kind_of(printed, answer)] += 1
+            return None if got == (printed, b"") else ("printed", *got, "and not", printed)
+
+        if first_difference((drawn(rng) for _ in range(count)), fault):
+            return 1
+    print_counts("pairs of sheets compared", seed, counts)
     return 0

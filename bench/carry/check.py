@@ -17,7 +17,7 @@ import sys
 from collections import Counter
 
 sys.path.insert(0, str(pathlib.Path(__file__).resolve().parents[1]))
-from calls import ROOT, from_archive, from_sources, given_words, lines, table, with_lengths  # noqa: E402
+from calls import ROOT, asks_for_archive, from_archive, from_sources, given_words, lines, table, with_lengths  # noqa: E402
 from sheet_files import PLAIN_COMPILE  # noqa: E402
 
 PLAIN_CARRY = ["bench/carry/plain.c", "bench/given/plain.c"]
@@ -82,4 +82,4 @@ def main(archive):
 
 
 if __name__ == "__main__":
-    sys.exit(main(sys.argv[1:] == ["archive"]))
+    sys.exit(main(asks_for_archive()))

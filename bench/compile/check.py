@@ -14,7 +14,7 @@ import sys
 from collections import Counter
 
 sys.path.insert(0, str(pathlib.Path(__file__).resolve().parents[1]))
-from calls import called, from_archive, from_sources, is_zero, lent_tables, lines, told  # noqa: E402
+from calls import asks_for_archive, called, from_archive, from_sources, is_zero, lent_tables, lines, told  # noqa: E402
 from sheet_files import PLAIN_COMPILE  # noqa: E402
 
 # Where a stored compile asks for more rows than can be lent here, fewer are lent: 4,096 or more all give the same answer.
@@ -66,4 +66,4 @@ def main(archive):
 
 
 if __name__ == "__main__":
-    sys.exit(main(sys.argv[1:] == ["archive"]))
+    sys.exit(main(asks_for_archive()))

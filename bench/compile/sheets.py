@@ -10,6 +10,7 @@ import sys
 
 sys.path.insert(0, str(pathlib.Path(__file__).resolve().parents[1]))
 from sheet_files import sheet, write_sheets  # noqa: E402
+from commands import folders  # noqa: E402
 
 
 # ---- timers
@@ -114,4 +115,4 @@ def sheets():
 
 
 if __name__ == "__main__":
-    write_sheets(pathlib.Path(sys.argv[1]), sheets())
+    write_sheets(pathlib.Path(*folders(__doc__, "directory")), sheets())

@@ -14,7 +14,7 @@ import sys
 from collections import Counter
 
 sys.path.insert(0, str(pathlib.Path(__file__).resolve().parents[1]))
-from calls import from_archive, from_sources, given_words, is_zero, lines, table, with_lengths  # noqa: E402
+from calls import asks_for_archive, from_archive, from_sources, given_words, is_zero, lines, table, with_lengths  # noqa: E402
 
 
 class CourseAnswer(ctypes.Structure):
@@ -53,4 +53,4 @@ def main(archive):
 
 
 if __name__ == "__main__":
-    sys.exit(main(sys.argv[1:] == ["archive"]))
+    sys.exit(main(asks_for_archive()))

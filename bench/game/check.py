@@ -18,7 +18,7 @@ from collections import Counter
 
 ROOT = pathlib.Path(__file__).resolve().parents[2]
 sys.path[:0] = [str(ROOT / "bench"), str(ROOT / "enumerator")]
-from calls import called, from_archive, from_sources, is_zero, lent_tables, lines, table, told  # noqa: E402
+from calls import asks_for_archive, called, from_archive, from_sources, is_zero, lent_tables, lines, table, told  # noqa: E402
 from game_check import play_fault  # noqa: E402
 from reading import read  # noqa: E402
 from sheet_files import PLAIN_COMPILE  # noqa: E402
@@ -90,4 +90,4 @@ def main(archive):
 
 
 if __name__ == "__main__":
-    sys.exit(main(sys.argv[1:] == ["archive"]))
+    sys.exit(main(asks_for_archive()))

@@ -16,7 +16,7 @@ import sys
 from collections import Counter
 
 sys.path.insert(0, str(pathlib.Path(__file__).resolve().parents[1]))
-from calls import Joined, WIDTHS, from_archive, from_sources, given_words, is_zero, lent_tables, lines, told, with_lengths  # noqa: E402
+from calls import Joined, WIDTHS, asks_for_archive, from_archive, from_sources, given_words, is_zero, lent_tables, lines, told, with_lengths  # noqa: E402
 
 PLAIN_JOIN = ["bench/join/plain.c", "bench/given/plain.c", "bench/minimise/plain.c"]
 # A row takes one number in the keys.
@@ -79,4 +79,4 @@ def main(archive):
 
 
 if __name__ == "__main__":
-    sys.exit(main(sys.argv[1:] == ["archive"]))
+    sys.exit(main(asks_for_archive()))

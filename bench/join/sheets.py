@@ -14,6 +14,7 @@ import sys
 
 sys.path.insert(0, str(pathlib.Path(__file__).resolve().parents[1]))
 from calls import from_sources  # noqa: E402
+from commands import folders  # noqa: E402
 from sheet_files import PLAIN_COMPILE, compiled, letters_of, sheet  # noqa: E402
 
 
@@ -90,4 +91,4 @@ def main(directory):
 
 
 if __name__ == "__main__":
-    main(pathlib.Path(sys.argv[1]))
+    main(pathlib.Path(*folders(__doc__, "directory")))

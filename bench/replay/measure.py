@@ -9,10 +9,14 @@ is compared first.
 
 import itertools
 import os
+import pathlib
 import random
 import subprocess
 import sys
 import time
+
+sys.path.insert(0, str(pathlib.Path(__file__).resolve().parents[2] / "enumerator"))
+from commands import parser  # noqa: E402
 
 RUNS = 7
 BLOCK = 100000
@@ -87,4 +91,13 @@ def main(ours, in_c, folder, count):
         os.remove(arguments[1])
 
 
-main(*sys.argv[1:4], int(sys.argv[4]))
+def given_arguments():
+    arguments = parser(__doc__)
+    for name in ("program", "program_in_c", "folder"):
+        arguments.add_argument(name, metavar=name.upper())
+    arguments.add_argument("count", metavar="COUNT", type=int, help="lines of a record")
+    return vars(arguments.parse_args()).values()
+
+
+if __name__ == "__main__":
+    main(*given_arguments())

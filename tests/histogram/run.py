@@ -1,6 +1,6 @@
 """Runs the program `histogram` on files and compares it with the enumerator.
 
-    python3 tests/histogram/run.py [PROGRAM]
+    python3 tests/histogram/run.py [--program PROGRAM] [NAME ..]
 
 The stored cases, the example, a year of lines at each minute and the same year in two parts,
 files that cannot be read, a pipe without a writer, a read and a write that fail, and a record that is

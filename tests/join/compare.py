@@ -1,6 +1,6 @@
 """Compares what the program `join` prints for fresh random pairs of sheets with the enumerator.
 
-    python3 tests/join/compare.py COUNT [SEED [PROGRAM]]
+    python3 tests/join/compare.py [--program PROGRAM] COUNT [SEED]
 
 Gives the program COUNT drawn pairs of sheets, one run each. PROGRAM is target/bin/join, which
 `rt check join` makes.

@@ -1,6 +1,6 @@
 """Runs the program `join` on files and compares it with the enumerator.
 
-    python3 tests/join/run.py [PROGRAM]
+    python3 tests/join/run.py [--program PROGRAM] [NAME ..]
 
 The stored pairs of sheets and that of the examples; each stored sheet joined with itself, which prints what
 `sluice` prints; single sheets with the rules of both, printed by `sluice`; files that

@@ -1,6 +1,6 @@
 """Runs the programs through tools/launch: help, usage, exit statuses, links, files that cannot be read, output that cannot be written.
 
-    python3 tests/launch/run.py
+    python3 tests/launch/run.py [NAME ..]
 
 Uses target/bin/sluice, which `rt check sluice` makes, and target/bin/replay, histogram, shortest, strategy, join, migrate and record_counts where
 they are there. How a program is built, what is passed on and how long it is kept is tested in a folder of its own, with stand-ins for `rt` and for the program.
@@ -15,6 +15,9 @@ import tempfile
 import time
 
 ROOT = pathlib.Path(__file__).resolve().parents[2]
+sys.path.insert(0, str(ROOT / "enumerator"))
+from commands import parser  # noqa: E402
+
 SHEET = "x y\n0 0\n1 1\nx until y\n"
 TABLE = "state final x y next\n0 0 0 1 1\n0 0 1 0 0\n0 0 1 1 1\n1 1 0 0 1\n1 1 0 1 1\n1 1 1 0 1\n1 1 1 1 1\n"
 NO_SOLUTION = "x\n0\n1\nnext x == x + 1\n"
@@ -292,8 +295,13 @@ def build():
 
 
 def main():
+    arguments = parser(__doc__)
+    arguments.add_argument("names", nargs="*", metavar="NAME", help="the cases to run, as sluice or stand-in, all if none is named")
+    names = arguments.parse_args().names
     build()
     for cases in [sluice_cases, replay_cases, histogram_cases, shortest_cases, strategy_cases, join_cases, migrate_cases, record_counts_cases, stand_in_cases]:
+        if names and cases.__name__.removesuffix("_cases").replace("_", "-") not in names:
+            continue
         with tempfile.TemporaryDirectory() as folder:
             cases(pathlib.Path(folder))
     print(f"{done} cases: help, usage, statuses, links, reads and writes that fail, the first call")

@@ -1,6 +1,6 @@
 """Compares what the program `migrate` prints for fresh random pairs of sheets with the enumerator.
 
-    python3 tests/migrate/compare.py COUNT [SEED [PROGRAM]]
+    python3 tests/migrate/compare.py [--program PROGRAM] COUNT [SEED]
 
 Gives the program COUNT drawn pairs of sheets, one run each. PROGRAM is target/bin/migrate, which
 `rt check migrate` makes.

@@ -1,6 +1,6 @@
 """Runs the program `migrate` on files and compares it with the enumerator.
 
-    python3 tests/migrate/run.py [PROGRAM]
+    python3 tests/migrate/run.py [--program PROGRAM] [NAME ..]
 
 The stored pairs of sheets and that of the examples; each stored sheet to itself, to its streams without rules, and
 back; records of drawn pairs, played by `replay` along both sheets; files that cannot be

@@ -1,9 +1,16 @@
 #!/usr/bin/env python3
 """Makes small graphs, computes the table of each by sets and Moore's refinement on dictionaries, and writes the files `stdin`
-and `stdout` of the crate `minimise_vectors` below the folder of crates that it is given: python3 tests/minimise_vectors/make.py CRATES"""
+and `stdout` of the crate `minimise_vectors` below the folder of crates that it is given.
+
+    python3 tests/minimise_vectors/make.py CRATES
+"""
 import os
+import pathlib
 import random
 import sys
+
+sys.path.insert(0, str(pathlib.Path(__file__).resolve().parents[2] / "enumerator"))
+from commands import folders  # noqa: E402
 
 NONE = 65535
 WORK = 6
@@ -213,4 +220,4 @@ def main(crates):
 
 
 if __name__ == "__main__":
-    main(sys.argv[1])
+    main(*folders(__doc__, "crates"))

@@ -24,6 +24,7 @@ from collections import Counter
 
 ROOT = pathlib.Path(__file__).resolve().parents[2]
 sys.path.insert(0, str(ROOT / "enumerator"))
+from commands import parser  # noqa: E402
 from grammar import Token, constraint_readings, constraint_text, split_tokens  # noqa: E402
 from normal_rows import Rows  # noqa: E402
 from reading import read  # noqa: E402
@@ -162,4 +163,5 @@ def main():
 
 
 if __name__ == "__main__":
+    parser(__doc__).parse_args()
     sys.exit(main())

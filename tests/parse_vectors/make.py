@@ -1,7 +1,7 @@
 #!/usr/bin/env python3
 """Writes the files `stdin` and `stdout` of the crate `parse_vectors` below the folder of crates that it is given.
 
-usage: make.py ENUMERATOR SHEETS CRATES
+    python3 tests/parse_vectors/make.py SHEETS CRATES
 
 The lines are constraint lines of the enumerator's stored sheets, as they stand in the sheet and
 fully bracketed, with lines of random tokens and the lines below. What they must be read as comes
@@ -9,11 +9,13 @@ from the enumerator's grammar, stored by `store`, a plain reading of `postfix` (
 """
 import json
 import os
+import pathlib
 import random
 import sys
 
-sys.path.insert(0, sys.argv[1])
+sys.path.insert(0, str(pathlib.Path(__file__).resolve().parents[2] / "enumerator"))
 import grammar  # noqa: E402
+from commands import folders  # noqa: E402
 
 BOUND = 1000000000
 ROOM = 65536 - 1
@@ -118,10 +120,10 @@ def grown_lines(count):
         yield "x y", "%s %s %s" % (expression(4), chance.choice(grammar.SIGNS), expression(4))
 
 
-def main():
-    lines = EXTRA + list(random_lines(300)) + list(grown_lines(150)) + list(stored_lines(sys.argv[2]))
+def main(sheets, crates):
+    lines = EXTRA + list(random_lines(300)) + list(grown_lines(150)) + list(stored_lines(sheets))
     size = 0
-    folder = os.path.join(sys.argv[3], "parse_vectors")
+    folder = os.path.join(crates, "parse_vectors")
     os.makedirs(folder, exist_ok=True)
     with open(folder + "/stdin", "w", encoding="latin-1") as given, open(folder + "/stdout", "w") as wanted:
         for names, line in lines:
@@ -132,4 +134,5 @@ def main():
             wanted.write("".join("%d " % number for number in answer(names.split(), line)) + "\n")
 
 
-main()
+if __name__ == "__main__":
+    main(*folders(__doc__, "sheets", "crates"))

@@ -1,6 +1,6 @@
 """Runs the program `record_counts` on standard input and compares what it prints with the enumerator.
 
-    python3 tests/record_counts/run.py [PROGRAM]
+    python3 tests/record_counts/run.py [--program PROGRAM] [NAME ..]
 
 The stored cases, whole and in pieces; the stored sheets and the examples with drawn
 numbers of letters; a line before the sheet that is longer than any buffer; an input

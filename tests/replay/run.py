@@ -1,6 +1,6 @@
 """Runs the program `replay` on files and compares it with the enumerator.
 
-    python3 tests/replay/run.py [PROGRAM]
+    python3 tests/replay/run.py [--program PROGRAM] [NAME ..]
 
 The stored cases, a year of hourly lines, a record cut in two, files that cannot
 be read, a read and a write that fail, and a record that is not read to its end.

@@ -1,6 +1,6 @@
 """Runs the program `shortest` on files and compares it with the enumerator.
 
-    python3 tests/shortest/run.py [PROGRAM]
+    python3 tests/shortest/run.py [--program PROGRAM] [NAME ..]
 
 The stored cases, every stored sheet from state 0 and from its last state, what
 is printed played as a record by `replay`, texts that are no state, missing

@@ -1,6 +1,6 @@
 """Compares the program `sluice` with the enumerator on fresh random sheets.
 
-    python3 tests/sluice/compare.py COUNT [SEED [PROGRAM]]
+    python3 tests/sluice/compare.py [--program PROGRAM] COUNT [SEED]
 
 Gives the program COUNT random sheets, a quarter as many with divisions, a quarter
 as many damaged ones, the sheets at the bounds and those with many situations, one run each, and compares every
@@ -14,9 +14,10 @@ import sys
 from collections import Counter
 
 ROOT = pathlib.Path(__file__).resolve().parents[2]
-sys.path.insert(0, str(ROOT / "enumerator"))
+sys.path[:0] = [str(ROOT / "enumerator"), str(ROOT / "tests")]
 from damage import damaged_sheets  # noqa: E402
 from generate import bound_sheets, counted_sheets, division_sheets, large_table_sheets, random_sheets  # noqa: E402
+from programs import first_difference, kind_of, print_counts, random_arguments  # noqa: E402
 from sluice import sluice  # noqa: E402
 
 LETTER_LIMITS = (4, 8, 16, 32)
@@ -41,12 +42,6 @@ def printed(program, text):
     return done.stdout
 
 
-def kind(output):
-    """What a sheet led to, for the summary."""
-    first = output.split(b"\n", 1)[0].decode()
-    return first if first.startswith("refused") else "table"
-
-
 def endless_is_refused(program):
     """The program ends although its input does not."""
     with open("/dev/zero", "rb") as zeros:
@@ -54,29 +49,23 @@ def endless_is_refused(program):
     return done.stdout == b"refused 1\n"
 
 
-def main(count, seed=1, program=None):
-    program = pathlib.Path(program or ROOT / "target" / "bin" / "sluice").resolve()
-    if not program.exists():
-        print("%s is missing: run `rt check sluice` first" % program)
-        return 2
+def main():
+    count, seed, program = random_arguments("sluice")
     counts = Counter()
-    chosen = sheets(count, seed)
-    for number, (name, text) in enumerate(chosen):
+
+    def fault(text):
         wanted, found = sluice(text), printed(program, text)
-        if found != wanted:
-            print("DIFFERENCE", name, text, "printed", found[:2000], "wanted", wanted[:2000], sep="\n  ")
-            return 1
-        counts[kind(wanted)] += 1
-        if number % 100 == 99:
-            print("%d of %d sheets compared" % (number + 1, len(chosen)), flush=True)
+        counts[kind_of(wanted, "table")] += 1
+        return None if found == wanted else ("printed", found[:2000], "wanted", wanted[:2000])
+
+    if first_difference(([text] for _, text in sheets(count, seed)), fault):
+        return 1
     if not endless_is_refused(program):
         print("DIFFERENCE: an endless input is not refused")
         return 1
-    print("%d sheets compared, seed %d, with no difference:" % (len(chosen), seed))
-    for what in sorted(counts):
-        print("  %6d %s" % (counts[what], what))
+    print_counts("sheets compared", seed, counts)
     return 0
 
 
 if __name__ == "__main__":
-    sys.exit(main(int(sys.argv[1]), *(int(word) for word in sys.argv[2:3]), *sys.argv[3:4]))
+    sys.exit(main())

@@ -1,6 +1,6 @@
 """Runs the program `sluice` where reading or writing fails.
 
-    python3 tests/sluice/failures.py [PROGRAM]
+    python3 tests/sluice/failures.py [--program PROGRAM] [NAME ..]
 
 A read that fails in the middle of a sheet leaves an empty one: `refused 3`, and a
 line on standard error. A write that fails stops the printing, with a line on
@@ -12,7 +12,9 @@ import pathlib
 import subprocess
 import sys
 
-ROOT = pathlib.Path(__file__).resolve().parents[2]
+sys.path.insert(0, str(pathlib.Path(__file__).resolve().parents[1]))
+from programs import add_parts, add_program, chosen_parts, parser, program_of  # noqa: E402
+
 SHEET = b"level gate\n0 0\n2 1\n( level ge 2 ) -> gate\n"
 TABLE = b"state final level gate next\n0 1 0 0 0\n0 1 0 1 0\n0 1 1 0 0\n0 1 1 1 0\n0 1 2 1 0\n"
 READ_FAILED = b"sluice: the sheet cannot be read\n"
@@ -54,18 +56,22 @@ def sheet_is_whole(program):
     return answer
 
 
+EXPECTED = {"a-whole-sheet": (sheet_is_whole, (TABLE, b"")), "a-second-read-that-fails": (second_read_fails, (b"refused 3\n", READ_FAILED)),
+            "a-full-device": (device_is_full, WRITE_FAILED)}
+
+
 def main():
-    program = sys.argv[1] if len(sys.argv) > 1 else str(ROOT / "target" / "bin" / "sluice")
-    expected = [
-        ("a whole sheet", sheet_is_whole, (TABLE, b"")),
-        ("a second read that fails", second_read_fails, (b"refused 3\n", READ_FAILED)),
-        ("a full device", device_is_full, WRITE_FAILED),
-    ]
-    for name, case, answer in expected:
-        got = case(program)
+    arguments = parser(__doc__)
+    add_program(arguments, "sluice")
+    add_parts(arguments, EXPECTED)
+    given = arguments.parse_args()
+    chosen = chosen_parts(arguments, EXPECTED, given.names)
+    for case, answer in chosen:
+        got = case(program_of(given, "sluice"))
         if got != answer:
-            sys.exit(f"tests/sluice/failures.py: {name}: expected {answer!r}, got {got!r}")
-    print(f"{len(expected)} cases, those of a read and of a write that fail among them")
+            sys.exit(f"tests/sluice/failures.py: {case.__name__}: expected {answer!r}, got {got!r}")
+    print(f"{len(chosen)} cases, those of a read and of a write that fail among them")
 
 
-main()
+if __name__ == "__main__":
+    main()

@@ -1,6 +1,6 @@
 """Runs the program `strategy` on files and judges what it prints by the enumerator.
 
-    python3 tests/strategy/run.py [PROGRAM]
+    python3 tests/strategy/run.py [--program PROGRAM] [NAME ..]
 
 The stored cases, whose answer is settled; the sheets of the stored games, all other
 stored sheets and the examples, whose play tables are judged, since which letters they
