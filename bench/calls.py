@@ -42,8 +42,8 @@ def library(name, parts):
 
 
 def from_archive(crate, function, answer=Compiled):
-    """The function of a crate's archive, which `rt staticlib` makes."""
-    subprocess.run(["rt", "staticlib", crate], cwd=ROOT, check=True, stdout=subprocess.DEVNULL)
+    """The function of a crate's archive, which `tools/archive` makes."""
+    subprocess.run([ROOT / "tools" / "archive", crate], cwd=ROOT, check=True, stdout=subprocess.DEVNULL)
     parts = ["-Wl,--whole-archive", "target/staticlib/lib%s.a" % crate, "-Wl,--no-whole-archive"]
     found = getattr(library("lib%s.so" % crate, parts), function)
     found.restype = answer

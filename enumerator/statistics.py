@@ -26,7 +26,7 @@ def statistics_lines(text):
     lines = [["letters", letter_count(sheet)],
              ["ahead", deepest_reach(sheet.constraints)],
              ["back", deepest_back(sheet.constraints)]]
-    if refusal != 10:
+    if refusal not in (8, 10):
         lines.append(["situations", analysis.situations])
     if not refusal:
         lines.append(["states", len(analysis.table.entries)])

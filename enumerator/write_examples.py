@@ -1,5 +1,6 @@
-"""Writes what `sluice` prints for each example sheet, and what `join` and
-`migrate` print for two of them.
+"""Writes what `sluice` prints for each example sheet, what `join` and
+`migrate` print for two of them, and what `export` prints for that of
+`examples/cabinet.c`.
 
     python3 enumerator/write_examples.py SHEETS FOLDER
 
@@ -9,13 +10,15 @@ For SHEETS/NAME.sheet the file is FOLDER/NAME.table.
 import os
 
 from commands import folders
+from export import export
 from join import join_sheets
 from migrate import migrate
 from sluice import sluice
 
-# The file that is written, what prints it, and the names of the two sheets.
-PAIRS = (("weirs.joined", join_sheets, "upper-weir", "lower-weir"),
-         ("timer.migrated", migrate, "timer", "timer-two"))
+# The file that is written, what prints it, and the names of its sheets.
+PRINTED = (("weirs.joined", join_sheets, "upper-weir", "lower-weir"),
+           ("timer.migrated", migrate, "timer", "timer-two"),
+           ("cabinet.h", export, "cabinet"))
 
 
 def content(sheets, name):
@@ -34,8 +37,8 @@ def main(sheets, folder):
         stem, ending = os.path.splitext(name)
         if ending == ".sheet":
             write(folder, stem + ".table", sluice(content(sheets, name)))
-    for name, printed, *pair in PAIRS:
-        texts = [content(sheets, stem + ".sheet") for stem in pair]
+    for name, printed, *stems in PRINTED:
+        texts = [content(sheets, stem + ".sheet") for stem in stems]
         write(folder, name, printed(*texts))
 
 

@@ -35,9 +35,9 @@ static size_t entry_count(const struct rules *rules)
 
 static bool compile_rules(struct rules *rules, const char *sheet)
 {
-    static uint32_t keys[ROWS * COMPILE_KEY], live[ROWS], class_names[ROWS], next[ROWS], heads[ROWS], links[ROWS], shared[ROWS];
+    static uint32_t keys[ROWS * COMPILE_KEY], live[ROWS], class_names[ROWS], next[ROWS], heads[ROWS], links[ROWS], envelopes[ROWS];
     rules->told = compile_c((const uint8_t *)sheet, strlen(sheet), rules->entries, ROWS * LETTERS, rules->finals, ROWS, keys, ROWS * COMPILE_KEY,
-        live, ROWS, class_names, ROWS, next, ROWS, heads, ROWS, links, ROWS, shared, ROWS);
+        live, ROWS, class_names, ROWS, next, ROWS, heads, ROWS, links, ROWS, envelopes, ROWS);
     return rules->told.refusal == 0;
 }
 

@@ -14,7 +14,7 @@ enum { MOST_BYTES = 16384, MOST_LETTERS = 1024, ROWS = 64 };
 static uint8_t text[MOST_BYTES + 1];
 static uint16_t entries[ROWS * MOST_LETTERS];
 static uint8_t finals[ROWS];
-static uint32_t keys[ROWS * COMPILE_KEY], live[ROWS], class_names[ROWS], next[ROWS], heads[ROWS], links[ROWS], shared[ROWS];
+static uint32_t keys[ROWS * COMPILE_KEY], live[ROWS], class_names[ROWS], next[ROWS], heads[ROWS], links[ROWS], envelopes[ROWS];
 static uint32_t list[ROWS];
 static uint16_t work[ROWS * MOST_LETTERS];
 
@@ -75,7 +75,7 @@ int main(void)
 {
     size_t length = fread(text, 1, sizeof text, stdin);
     struct compile_answer answer = compile_c(text, length, entries, ROWS * MOST_LETTERS, finals, ROWS, keys, ROWS * COMPILE_KEY, live, ROWS,
-        class_names, ROWS, next, ROWS, heads, ROWS, links, ROWS, shared, ROWS);
+        class_names, ROWS, next, ROWS, heads, ROWS, links, ROWS, envelopes, ROWS);
     if (answer.refusal != 0) {
         printf("refused %" PRIu32 "\n", answer.refusal);
         return 0;

@@ -62,7 +62,7 @@ struct compile_answer {
 
 struct compile_answer compile_c(const uint8_t *text, size_t length, uint16_t *entries, size_t entry_count, uint8_t *finals, size_t final_count,
     uint32_t *keys, size_t key_count, uint32_t *live, size_t live_count, uint32_t *class_names, size_t class_count, uint32_t *next, size_t next_count,
-    uint32_t *heads, size_t head_count, uint32_t *links, size_t link_count, uint32_t *shared, size_t shared_count);
+    uint32_t *heads, size_t head_count, uint32_t *links, size_t link_count, uint32_t *envelopes, size_t envelope_count);
 
 #ifdef __cplusplus
 }

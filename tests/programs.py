@@ -228,6 +228,17 @@ def first_difference(cases, fault):
     return False
 
 
+def compare_sheets(runs, sheets, wanted):
+    """The program on fresh sheets, which are texts, against what the enumerator prints; stops at a difference with the smallest sheet that still shows it."""
+    def fault(text):
+        printed, got = wanted(text), runs.run([runs.file("sheet", text)])
+        runs.count += 1
+        return None if got == (printed, b"") else ("printed", *got, "and not", printed)
+
+    if first_difference(([text] for text in sheets), fault):
+        sys.exit("%s: a difference" % runs.test)
+
+
 def compare_pairs(name, drawn, wanted, answer):
     """The command that compares a program on fresh random pairs of sheets with the enumerator; gives the exit status. `drawn` gives a pair, `wanted` what is printed for it, and
     `answer` names what is printed where nothing is refused."""

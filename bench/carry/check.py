@@ -3,7 +3,7 @@
     python3 bench/carry/check.py
     python3 bench/carry/check.py archive
 
-Builds the C program, or with `archive` the archive of `carry_c` (rt staticlib), as a shared
+Builds the C program, or with `archive` the archive of `carry_c` (tools/archive), as a shared
 library (CC names the compiler) and makes each call of vectors/carry.jsonl. The refusal and
 the whole list must agree, and the given tables must be as they were. Over plain C it also runs
 examples/change_over.c; over the archives tests/c/run does.

@@ -3,7 +3,7 @@
     python3 bench/compile/check.py
     python3 bench/compile/check.py archive
 
-Builds the C program, or with `archive` the proved compile's archive (rt staticlib), as a
+Builds the C program, or with `archive` the proved compile's archive (tools/archive), as a
 shared library (CC names the compiler) and calls it on each sheet of vectors/sheets.jsonl
 with the rows of vectors/compile.jsonl. The refusal, both counts, the letters and streams, the
 table, and the zeros beyond it and in the work tables must agree.

@@ -210,7 +210,7 @@ static void describe(const sheet *s, struct streams *streams) {
 
 compiled plain_compile(const uint8_t *text, size_t length, uint16_t *entries, size_t entry_count, uint8_t *finals, size_t final_count,
     uint32_t *keys, size_t key_count, uint32_t *live, size_t live_count, uint32_t *class, size_t class_count, uint32_t *next, size_t next_count,
-    uint32_t *heads, size_t head_count, uint32_t *links, size_t link_count, uint32_t *shared, size_t shared_count) {
+    uint32_t *heads, size_t head_count, uint32_t *links, size_t link_count, uint32_t *envelopes, size_t envelope_count) {
     sheet s;
     size_t used = 0;
     compiled answer;
@@ -218,12 +218,12 @@ compiled plain_compile(const uint8_t *text, size_t length, uint16_t *entries, si
     answer.refusal = read_sheet(text, length, &s);
     if (answer.refusal == 0) {
         size_t lent = fewer(entry_count / s.letters, fewer(final_count, key_count / KEY));
-        lent = fewer(lent, fewer(live_count, fewer(class_count, fewer(next_count, fewer(head_count, fewer(link_count, shared_count))))));
+        lent = fewer(lent, fewer(live_count, fewer(class_count, fewer(next_count, fewer(head_count, fewer(link_count, envelope_count))))));
         rows r = { keys, heads, links, head_count, fewer(lent, ROWS), finals, (1u << s.untils) - 1 };
         size_t count = explore(&s, &r, entries);
         answer.refusal = lent < ROWS ? 10 : 8;
         if (count) {
-            tables t = { entries, finals, s.letters, count, live, class, next, heads, links, shared };
+            tables t = { entries, finals, s.letters, count, live, class, next, heads, links, envelopes };
             minimised m = plain_reduce(&t);
             answer.refusal = m.refusal;
             if (m.refusal == 0) {
@@ -243,6 +243,6 @@ compiled plain_compile(const uint8_t *text, size_t length, uint16_t *entries, si
     memset(next, 0, next_count * sizeof *next);
     memset(heads, 0, head_count * sizeof *heads);
     memset(links, 0, link_count * sizeof *links);
-    memset(shared, 0, shared_count * sizeof *shared);
+    memset(envelopes, 0, envelope_count * sizeof *envelopes);
     return answer;
 }

@@ -6,6 +6,7 @@ The files and the list are those of bench/sheet_files.py.
 """
 
 import pathlib
+import random
 import sys
 
 sys.path.insert(0, str(pathlib.Path(__file__).resolve().parents[1]))
@@ -92,7 +93,100 @@ def missionaries(people, boat):
                   "1 until ( ( m + c ) eq 0 )"])
 
 
+# ---- chains: each place leads to one other, so that a row has one live successor among many letters
+
+def chain(places):
+    """From the first place to the last, one after the other."""
+    return sheet([("place", 0, places)], ["first place == 0", "next place == if ( place lt %d ) then ( place + 1 ) else %d" % (places, places)])
+
+
+def latched_chain(places):
+    """A chain at whose end a lamp has to be as it was at first: rows with one lamp or the other are told apart at the last place only, one place a round."""
+    return sheet([("place", 0, places), ("lamp", 0, 1)],
+                 ["first place == 0", "next place == if ( place lt {0} ) then ( place + 1 ) else {0}".format(places),
+                  "( place eq %d ) -> ( lamp eq first lamp )" % places])
+
+
+def dying_ring(size):
+    """A ring of places that are not met in their order, and a lamp that is needed at one of them and never lit: the dark places die one after the other.
+    The size is a prime that 3 generates."""
+    return sheet([("place", 1, size - 1), ("lamp", 0, 1)],
+                 ["next place == ( place * 3 ) %% %d" % size, "next lamp == lamp", "( place eq 1 ) -> lamp"])
+
+
+def countdown(highest):
+    """A number that begins anywhere, goes down by one and comes to 0 at some time."""
+    return sheet([("left", 0, highest)], ["next left == if ( left gt 0 ) then ( left - 1 ) else 0", "1 until ( left eq 0 )"])
+
+
+def countup(highest):
+    """The same the other way: rows are then met in the other order."""
+    return sheet([("gone", 0, highest)], ["next gone == if ( gone lt {0} ) then ( gone + 1 ) else {0}".format(highest), "1 until ( gone eq %d )" % highest])
+
+
+def shift_register(bits, highest=1):
+    """What comes in goes from place to place."""
+    names = ["a", "b", "c", "d", "e", "f", "g", "h"][:bits]
+    return sheet([(name, 0, highest) for name in names], ["next %s == %s" % pair for pair in zip(names[1:], names)])
+
+
+# ---- dense sheets: nearly every letter may follow every other
+
+def dense(size, back):
+    """Two numbers whose sum changes within bounds, with a memory of some steps."""
+    late = "y"
+    for _ in range(back):
+        late = "( 0 fby %s )" % late
+    return sheet([("x", 0, size), ("y", 0, 1)], ["( next x - x ) <= %d" % (size - 1), "( x eq %d ) -> %s" % (size, late)])
+
+
+def rules(streams, highest):
+    """Many short rules, each of two streams."""
+    names = ["a", "b", "c", "d", "e", "f", "g", "h"][:streams]
+    lines = []
+    for i, left in enumerate(names):
+        for right in names[i + 1:]:
+            lines += ["( %s eq %d ) -> ( next %s ge %s )" % (left, highest, right, right)]
+    return sheet([(name, 0, highest) for name in names], lines[:32])
+
+
+def nots(highest, lines):
+    """Long lines whose tokens all depend on the newest letter."""
+    return sheet([("level", 0, highest)], ["%snext level >= 0" % ("not " * 27)] * lines)
+
+
+def drawn(seed, streams, highest, count):
+    """Rules drawn at random, of the same form for the same number."""
+    draw = random.Random(seed)
+    names = ["a", "b", "c", "d", "e", "f", "g", "h"][:streams]
+
+    def side():
+        word = draw.choice(names)
+        return draw.choice(["%s", "next %s", "( 0 fby %s )", "( %s + 1 )"]) % word
+    return sheet([(name, 0, highest) for name in names],
+                 ["( %s ge %s ) -> ( %s le %s )" % (side(), side(), side(), side()) for _ in range(count)])
+
+
 def sheets():
+    for places in (8, 60, 500):
+        yield "chain-%d" % places, chain(places)
+    for places in (8, 60, 500):
+        yield "latched-%d" % places, latched_chain(places)
+    for size in (7, 43, 487):
+        yield "dying-%d" % size, dying_ring(size)
+    for highest in (15, 127, 1023):
+        yield "countdown-%d" % highest, countdown(highest)
+        yield "countup-%d" % highest, countup(highest)
+    for bits, highest in ((4, 1), (8, 1), (5, 3)):
+        yield "shift-%d-%d" % (bits, highest), shift_register(bits, highest)
+    for size, back in ((7, 1), (31, 0), (500, 0)):
+        yield "dense-%d-%d" % (size, back), dense(size, back)
+    for streams, highest in ((3, 1), (4, 3), (5, 3)):
+        yield "rules-%d-%d" % (streams, highest), rules(streams, highest)
+    for highest, lines in ((7, 4), (127, 8), (1023, 4)):
+        yield "nots-%d-%d" % (highest, lines), nots(highest, lines)
+    for seed, streams, highest, count in ((4, 3, 1, 4), (11, 3, 3, 6), (7, 4, 3, 5)):
+        yield "random-%d" % seed, drawn(seed, streams, highest, count)
     for longest in (7, 63, 511):
         yield "timer-%d" % longest, timer(longest)
     for longest in (31, 500):

@@ -3,7 +3,7 @@
     python3 bench/course/check.py
     python3 bench/course/check.py archive
 
-Builds the C program, or with `archive` the archive of `course_c` (rt staticlib), as a shared
+Builds the C program, or with `archive` the archive of `course_c` (tools/archive), as a shared
 library (CC names the compiler) and makes each call of vectors/course.jsonl. The refusal, the
 number of letters, the whole list and the zeros in the work room must agree.
 """

@@ -3,7 +3,7 @@
     python3 bench/game/check.py
     python3 bench/game/check.py archive
 
-Builds the C program, or with `archive` the archive of `game_c` (rt staticlib), as a shared
+Builds the C program, or with `archive` the archive of `game_c` (tools/archive), as a shared
 library (CC names the compiler) and makes each call of vectors/game.jsonl. The refusal, both
 counts, the letters and streams, the table, the states that keep a row of the play table, and
 the zeros beyond the used rows and in the work tables must agree; which letters the play table

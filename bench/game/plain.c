@@ -244,12 +244,12 @@ static size_t choices_in(const uint8_t *text, size_t length) {
 
 struct compile_answer plain_strategy(const uint8_t *text, size_t length, uint16_t *entries, size_t entry_count, uint8_t *finals, size_t final_count,
     uint32_t *keys, size_t key_count, uint32_t *live, size_t live_count, uint32_t *class, size_t class_count, uint32_t *next, size_t next_count,
-    uint32_t *heads, size_t head_count, uint32_t *links, size_t link_count, uint32_t *shared, size_t shared_count, uint16_t *play, size_t play_count) {
+    uint32_t *heads, size_t head_count, uint32_t *links, size_t link_count, uint32_t *envelopes, size_t envelope_count, uint16_t *play, size_t play_count) {
     uint16_t letter_choices[LETTERS];
     size_t choices = choices_in(text, length), held = fewer(final_count, play_count / choices), used = 0;
     memset(finals + held, 0, final_count - held);
     struct compile_answer answer = plain_compile(text, length, entries, entry_count, finals, held, keys, key_count, live, live_count, class, class_count, next, next_count,
-        heads, head_count, links, link_count, shared, shared_count);
+        heads, head_count, links, link_count, envelopes, envelope_count);
     if (answer.refusal == 0) {
         game g = { entries, finals, letter_choices, answer.states, answer.letters, choices };
         fill_choices(&answer.streams, answer.letters, letter_choices);

@@ -3,7 +3,7 @@
     python3 bench/join/check.py
     python3 bench/join/check.py archive
 
-Builds the C program, or with `archive` the archive of `join_c` (rt staticlib), as a shared
+Builds the C program, or with `archive` the archive of `join_c` (tools/archive), as a shared
 library (CC names the compiler) and makes each call of vectors/join.jsonl. The refusal, both
 counts, the letters and streams, the table, and the zeros beyond the used rows and in the work
 tables must agree, and the given tables must be as they were.

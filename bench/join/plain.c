@@ -179,7 +179,7 @@ struct join_answer plain_join(const uint16_t *left_entries, size_t left_entry_co
     struct streams left_streams, const uint16_t *right_entries, size_t right_entry_count, const uint8_t *right_finals, size_t right_final_count,
     uint32_t right_letters, struct streams right_streams, uint16_t *entries, size_t entry_count, uint8_t *finals, size_t final_count,
     uint32_t *keys, size_t key_count, uint32_t *live, size_t live_count, uint32_t *class, size_t class_count, uint32_t *next, size_t next_count,
-    uint32_t *heads, size_t head_count, uint32_t *links, size_t link_count, uint32_t *shared, size_t shared_count) {
+    uint32_t *heads, size_t head_count, uint32_t *links, size_t link_count, uint32_t *envelopes, size_t envelope_count) {
     given left = { left_entries, left_entry_count, left_finals, left_final_count, left_letters, &left_streams };
     given right = { right_entries, right_entry_count, right_finals, right_final_count, right_letters, &right_streams };
     struct streams joined;
@@ -190,12 +190,12 @@ struct join_answer plain_join(const uint16_t *left_entries, size_t left_entry_co
     answer.refusal = plain_is_given(&left) && plain_is_given(&right) ? plain_streams(&left_streams, &right_streams, &joined, &c) : 11;
     if (answer.refusal == 0) {
         size_t lent = fewer(entry_count / c.letters, fewer(final_count, key_count));
-        lent = fewer(lent, fewer(live_count, fewer(class_count, fewer(next_count, fewer(head_count, fewer(link_count, shared_count))))));
+        lent = fewer(lent, fewer(live_count, fewer(class_count, fewer(next_count, fewer(head_count, fewer(link_count, envelope_count))))));
         pair_rows r = { entries, finals, keys, heads, links, head_count, fewer(lent, GIVEN_ROWS) };
         size_t count = search_chains(&left, &right, &c, &r, NULL);
         answer.refusal = lent < GIVEN_ROWS ? 10 : 8;
         if (count) {
-            tables t = { entries, finals, c.letters, count, live, class, next, heads, links, shared };
+            tables t = { entries, finals, c.letters, count, live, class, next, heads, links, envelopes };
             minimised m = { 11, 0 };
             // flags of compiled tables never fall
             if (plain_is_graph(&t)) m = plain_reduce(&t);
@@ -217,6 +217,6 @@ struct join_answer plain_join(const uint16_t *left_entries, size_t left_entry_co
     memset(next, 0, next_count * sizeof *next);
     memset(heads, 0, head_count * sizeof *heads);
     memset(links, 0, link_count * sizeof *links);
-    memset(shared, 0, shared_count * sizeof *shared);
+    memset(envelopes, 0, envelope_count * sizeof *envelopes);
     return answer;
 }

@@ -8,7 +8,7 @@
 
 // the archive's function: a slice is a pointer and a length
 extern minimised minimise_c(uint16_t *entries, size_t n, uint8_t *flags, size_t m, size_t letters, size_t rows, uint32_t *live, size_t n1,
-    uint32_t *class, size_t n2, uint32_t *next, size_t n3, uint32_t *heads, size_t n4, uint32_t *links, size_t n5, uint32_t *shared, size_t n6);
+    uint32_t *class, size_t n2, uint32_t *next, size_t n3, uint32_t *heads, size_t n4, uint32_t *links, size_t n5, uint32_t *envelopes, size_t n6);
 
 static __attribute__((noinline)) minimised plain(tables *t, size_t room, size_t work) {
     minimised r = { 11, 0 };
@@ -20,7 +20,7 @@ static __attribute__((noinline)) minimised plain(tables *t, size_t room, size_t 
     memset(t->next, 0, work * 4);
     memset(t->heads, 0, work * 4);
     memset(t->links, 0, work * 4);
-    memset(t->shared, 0, work * 4);
+    memset(t->envelopes, 0, work * 4);
     return r;
 }
 

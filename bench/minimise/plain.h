@@ -8,7 +8,7 @@
 
 typedef struct { uint32_t refusal, states; } minimised;
 
-typedef struct { uint16_t *entries; uint8_t *flags; size_t letters, rows; uint32_t *live, *class, *next, *heads, *links, *shared; } tables;
+typedef struct { uint16_t *entries; uint8_t *flags; size_t letters, rows; uint32_t *live, *class, *next, *heads, *links, *envelopes; } tables;
 
 // Whether the tables are a graph whose rows stand in the order in which they are first met.
 int plain_is_graph(const tables *t);

@@ -31,9 +31,9 @@ static int called(void)
 {
     uint16_t entries[8];
     uint8_t finals[4];
-    uint32_t keys[4 * COMPILE_KEY], live[4], class_names[4], next[4], heads[4], links[4], shared[4];
+    uint32_t keys[4 * COMPILE_KEY], live[4], class_names[4], next[4], heads[4], links[4], envelopes[4];
     struct compile_answer answer =
-        compile_c(sheet, sizeof sheet, entries, 8, finals, 4, keys, 4 * COMPILE_KEY, live, 4, class_names, 4, next, 4, heads, 4, links, 4, shared, 4);
+        compile_c(sheet, sizeof sheet, entries, 8, finals, 4, keys, 4 * COMPILE_KEY, live, 4, class_names, 4, next, 4, heads, 4, links, 4, envelopes, 4);
     const struct streams *told = &answer.streams;
     return answer.refusal == 0 && answer.states == 1 && entries[0] == 65535 && entries[1] == 0 && finals[0] == 1 && answer.letters == 2
         && told->count == 1 && told->lengths[0] == 1 && told->names[0] == 'x' && told->lows[0] == 0 && told->highs[0] == 1 && told->kinds[0] == STREAM_READ;
@@ -51,12 +51,12 @@ static int called(void)
 {
     uint16_t entries[8], play[8];
     uint8_t finals[4];
-    uint32_t keys[4 * COMPILE_KEY], live[4], class_names[4], next[4], heads[4], links[4], shared[4];
+    uint32_t keys[4 * COMPILE_KEY], live[4], class_names[4], next[4], heads[4], links[4], envelopes[4];
     struct compile_answer prevented = strategy_c(sheet, sizeof sheet, entries, 8, finals, 4, keys, 4 * COMPILE_KEY, live, 4, class_names, 4, next, 4,
-        heads, 4, links, 4, shared, 4, play, 8);
+        heads, 4, links, 4, envelopes, 4, play, 8);
     int zero = entries[0] == 0 && finals[0] == 0 && play[0] == 0;
     struct compile_answer forced = strategy_c(sheet, 10, entries, 8, finals, 4, keys, 4 * COMPILE_KEY, live, 4, class_names, 4, next, 4,
-        heads, 4, links, 4, shared, 4, play, 8);
+        heads, 4, links, 4, envelopes, 4, play, 8);
     return prevented.refusal == 16 && prevented.states == 0 && prevented.letters == 0 && zero
         && forced.refusal == 0 && forced.states == 1 && forced.streams.kinds[0] == STREAM_READ && play[0] == 0 && play[1] == 1 && play[2] == 0;
 }

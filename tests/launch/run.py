@@ -2,8 +2,8 @@
 
     python3 tests/launch/run.py [NAME ..]
 
-Uses target/bin/sluice, which `rt check sluice` makes, and target/bin/replay, histogram, shortest, strategy, join, migrate and record_counts where
-they are there. How a program is built, what is passed on and how long it is kept is tested in a folder of its own, with stand-ins for `rt` and for the program.
+Uses target/bin/sluice, which `rt check sluice` makes, and target/bin/replay, histogram, shortest, export, strategy, statistics, join, migrate and record_counts
+where they are there. How a program is built, what is passed on and how long it is kept is tested in a folder of its own, with stand-ins for `rt` and for the program.
 """
 
 import os
@@ -17,6 +17,7 @@ import time
 ROOT = pathlib.Path(__file__).resolve().parents[2]
 sys.path.insert(0, str(ROOT / "enumerator"))
 from commands import parser  # noqa: E402
+from export import export  # noqa: E402
 
 SHEET = "x y\n0 0\n1 1\nx until y\n"
 TABLE = "state final x y next\n0 0 0 1 1\n0 0 1 0 0\n0 0 1 1 1\n1 1 0 0 1\n1 1 0 1 1\n1 1 1 0 1\n1 1 1 1 1\n"
@@ -161,6 +162,36 @@ def shortest_cases(folder):
     expect("a sheet without a course", run([tool, sheet]), "refused 9\n", 1, "")
 
 
+def export_cases(folder):
+    tool = ROOT / "tools" / "export"
+    help_and_usage("export", 0, 2)
+    if not is_there("export"):
+        return
+    sheet, missing, stored = folder / "until.sheet", folder / "none", folder / "stored.h"
+    sheet.write_text(SHEET)
+    header = export(SHEET.encode()).decode()
+    expect("a header", run([tool, sheet]), header, 0, "")
+    expect("no such sheet for a header", run([tool, missing]), "refused 3\n", 2, "cannot be read")
+    expect("a full device for a header", full_device([tool, sheet]), None, 2, "cannot be written")
+    stored.write_text(header)
+    expect("a stored header", run([tool, "--check", stored, sheet]), "", 0, "")
+    expect("no such sheet to compare with", run([tool, "--check", stored, missing]), "refused 3\n", 2, "cannot be read")
+    expect("no such header", run([tool, "--check", missing, sheet]), "", 2, "none' cannot be read")
+    expect("a header without a name", run([tool, "--check", "", sheet]), "", 2, "cannot be read")
+    expect("a folder for a header", run([tool, "--check", folder, sheet]), "", 2, "cannot be read")
+    expect("a header and no sheet", run([tool, "--check", stored]), "", 2, "usage: tools/export ")
+    for what, text in (("a shorter one", header[:-1]), ("a longer one", header + "\n"), ("a zero byte in it", header + "\0"), ("an empty one", ""),
+                       ("another byte", header.replace("255", "254", 1)), ("another beginning", "x" + header)):
+        stored.write_text(text)
+        expect("a stored header, " + what, run([tool, "--check", stored, sheet]), "", 1, "stored.h' is not the header of")
+    sheet.write_text(SHEET.replace("until", " until"))
+    stored.write_text(header)
+    expect("the header of another text", run([tool, "--check", stored, sheet]), "", 1, "is not the header of")
+    sheet.write_text(NO_SOLUTION)
+    expect("a sheet without a header", run([tool, sheet]), "refused 9\n", 1, "")
+    expect("a stored header and a refused sheet", run([tool, "--check", stored, sheet]), "refused 9\n", 1, "")
+
+
 def strategy_cases(folder):
     tool = ROOT / "tools" / "strategy"
     help_and_usage("strategy", 0, 2)
@@ -175,6 +206,20 @@ def strategy_cases(folder):
     expect("a sheet that the river can break", run([tool, sheet]), "refused 16\n", 1, "")
     sheet.write_text(NO_SOLUTION)
     expect("a sheet without a play table", run([tool, sheet]), "refused 9\n", 1, "")
+
+
+def statistics_cases(folder):
+    tool = ROOT / "tools" / "statistics"
+    help_and_usage("statistics", 0, 2)
+    if not is_there("statistics"):
+        return
+    sheet, missing = folder / "until.sheet", folder / "none"
+    sheet.write_text(SHEET)
+    expect("sizes", run([tool, sheet]), "letters 4\nahead 0\nback 0\nsituations 3\nstates 2\nrows 256\n", 0, "")
+    expect("no such sheet for sizes", run([tool, missing]), "refused 3\n", 2, "cannot be read")
+    expect("a full device for sizes", full_device([tool, sheet]), None, 2, "cannot be written")
+    sheet.write_text(NO_SOLUTION)
+    expect("the sizes of a sheet without a table", run([tool, sheet]), "letters 2\nahead 1\nback 0\nsituations 4\nrows 256\nrefused 9\n", 1, "")
 
 
 def migrate_cases(folder):
@@ -289,7 +334,7 @@ def stand_in_cases(folder):
 
 def build():
     """A program that is older than a source is built by its first call, which says so on standard error."""
-    for name, arguments in [("sluice", []), ("replay", ["", ""]), ("histogram", ["", ""]), ("shortest", [""]), ("strategy", [""]), ("join", ["", ""]), ("migrate", ["", ""])]:
+    for name, arguments in [("sluice", []), ("replay", ["", ""]), ("histogram", ["", ""]), ("shortest", [""]), ("export", [""]), ("strategy", [""]), ("statistics", [""]), ("join", ["", ""]), ("migrate", ["", ""])]:
         if (ROOT / "target" / "bin" / name).exists():
             subprocess.run([str(ROOT / "tools" / name), *arguments], stdin=subprocess.DEVNULL, capture_output=True)
 
@@ -299,7 +344,8 @@ def main():
     arguments.add_argument("names", nargs="*", metavar="NAME", help="the cases to run, as sluice or stand-in, all if none is named")
     names = arguments.parse_args().names
     build()
-    for cases in [sluice_cases, replay_cases, histogram_cases, shortest_cases, strategy_cases, join_cases, migrate_cases, record_counts_cases, stand_in_cases]:
+    for cases in [sluice_cases, replay_cases, histogram_cases, shortest_cases, export_cases, strategy_cases, statistics_cases, join_cases, migrate_cases, record_counts_cases,
+                  stand_in_cases]:
         if names and cases.__name__.removesuffix("_cases").replace("_", "-") not in names:
             continue
         with tempfile.TemporaryDirectory() as folder:

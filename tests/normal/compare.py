@@ -2,7 +2,7 @@
 
     python3 tests/normal/compare.py
 
-Builds the archive of the crate `normal_c` (rt staticlib), links it as a shared library
+Builds the archive of the crate `normal_c` (tools/archive), links it as a shared library
 (CC names the compiler) and calls it for each line of vectors/normal.jsonl, with the
 line's sheet of vectors/sheets.jsonl and a list of the line's length. The answer, every
 record and what it says, the ranges of the added streams and the zeros behind the records
@@ -55,7 +55,7 @@ class NormalForm(ctypes.Structure):
 
 def built():
     LIBRARY.parent.mkdir(parents=True, exist_ok=True)
-    subprocess.run(["rt", "staticlib", "normal_c"], cwd=ROOT, check=True, stdout=subprocess.DEVNULL)
+    subprocess.run([ROOT / "tools" / "archive", "normal_c"], cwd=ROOT, check=True, stdout=subprocess.DEVNULL)
     subprocess.run([os.environ.get("CC", "cc"), "-shared", "-o", str(LIBRARY),
                     "-Wl,--whole-archive", str(ARCHIVE), "-Wl,--no-whole-archive"], cwd=ROOT, check=True)
     subprocess.run([os.environ.get("CC", "cc"), "-std=c11", "-O2", "-Wall", "-Wextra", "-Wpedantic", "-Werror", "-I", "include",

@@ -12,9 +12,9 @@ pub fn clear_tables(
     next: &mut [u32],
     heads: &mut [u32],
     links: &mut [u32],
-    shared: &mut [u32],
+    envelopes: &mut [u32],
 )
-    ensures { λ r. ⌜ AreCleared used states (now (entries .entry)) (now (flags .entry)) (now (live .entry)) (now (class .entry)) (now (next .entry)) (now (heads .entry)) (now (links .entry)) (now (shared .entry)) (now (entries .exit)) (now (flags .exit)) (now (live .exit)) (now (class .exit)) (now (next .exit)) (now (heads .exit)) (now (links .exit)) (now (shared .exit)) ⌝ }
+    ensures { λ r. ⌜ AreCleared used states (now (entries .entry)) (now (flags .entry)) (now (live .entry)) (now (class .entry)) (now (next .entry)) (now (heads .entry)) (now (links .entry)) (now (envelopes .entry)) (now (entries .exit)) (now (flags .exit)) (now (live .exit)) (now (class .exit)) (now (next .exit)) (now (heads .exit)) (now (links .exit)) (now (envelopes .exit)) ⌝ }
 {
     basics::clear_entries(entries, used);
     basics::clear_bytes(flags, states);
@@ -23,5 +23,5 @@ pub fn clear_tables(
     basics::fill(next, 0);
     basics::fill(heads, 0);
     basics::fill(links, 0);
-    basics::fill(shared, 0);
+    basics::fill(envelopes, 0);
 }

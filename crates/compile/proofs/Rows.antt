@@ -35,6 +35,6 @@ module _ (rows bound limit : ℕ) (cut : limit ≡ min rows bound) where
   within-bound n h = omega arith
 
 -- Where a row is one number, a table holds as many rows as numbers.
-module _ (entries finals keys live class next heads links shared : List ℕ) (letters : ℕ) where
-  pub rows-lent : min (length entries / letters) (min (length finals) (min (length keys / 16) (min (length live) (min (length class) (min (length next) (min (length heads) (min (length links) (length shared)))))))) ≡ roomRows (roomOf entries finals keys live class next heads links shared) letters
+module _ (entries finals keys live class next heads links envelopes : List ℕ) (letters : ℕ) where
+  pub rows-lent : min (length entries / letters) (min (length finals) (min (length keys / 16) (min (length live) (min (length class) (min (length next) (min (length heads) (min (length links) (length envelopes)))))))) ≡ roomRows (roomOf entries finals keys live class next heads links envelopes) letters
   rows-lent = simp div-one

@@ -72,15 +72,15 @@ zero-from list from size e z =
 
 -- ---- the outcome
 
-module _ (entries finals keys live class next heads links shared : List ℕ) where
+module _ (entries finals keys live class next heads links envelopes : List ℕ) where
   abbrev room : Room
-  room = roomOf entries finals keys live class next heads links shared
+  room = roomOf entries finals keys live class next heads links envelopes
 
   -- What the table is made of, and what that leaves; the sizes stay.
   module _ (n refusal states : ℕ) (entries₁ finals₁ heads₁ links₁ : List ℕ) (after : GraphTables) (el : length entries₁ ≡ length entries) (fl : length finals₁ ≡ length finals)
       (hl : length heads₁ ≡ length heads) (ll : length links₁ ≡ length links) where
     abbrev before : GraphTables
-    before = record { entries = entries₁; flags = finals₁; work = live ∷ (class ∷ (next ∷ (heads₁ ∷ (links₁ ∷ (shared ∷ []))))) }
+    before = record { entries = entries₁; flags = finals₁; work = live ∷ (class ∷ (next ∷ (heads₁ ∷ (links₁ ∷ (envelopes ∷ []))))) }
 
     abbrev made : Minimised
     made = record { refusal = refusal; states = states }
@@ -89,7 +89,7 @@ module _ (entries finals keys live class next heads links shared : List ℕ) whe
     left = record { entries = after .entries; finals = after .flags; work = zeros (length keys) ∷ after .work }
 
     work-zeros : after .work ≡ cleared (before .work) → left .work ≡ zeroTables (room .work)
-    work-zeros e = ap (λ l. zeros (length keys) ∷ l) (e ∙ (λ i. zeros (length live) ∷ (zeros (length class) ∷ (zeros (length next) ∷ (zeros (hl i) ∷ (zeros (ll i) ∷ (zeros (length shared) ∷ [])))))))
+    work-zeros e = ap (λ l. zeros (length keys) ∷ l) (e ∙ (λ i. zeros (length live) ∷ (zeros (length class) ∷ (zeros (length next) ∷ (zeros (hl i) ∷ (zeros (ll i) ∷ (zeros (length envelopes) ∷ [])))))))
 
     all-zeros : {number : ℕ} → IsRefusal number before refusal states after → allZero room ≡ left
     all-zeros z =
@@ -172,23 +172,23 @@ module _ (entries finals keys live class next heads links shared : List ℕ) whe
 -- ---- the numbers and lists of the code
 
 -- A sheet without letters leaves every table cleared.
-pub calls-cleared : (entries finals keys live class next heads links shared : List ℕ) {letters n refusal states : ℕ} {entries₁ finals₁ heads₁ links₁ keys₂ : List ℕ} {after : GraphTables}
+pub calls-cleared : (entries finals keys live class next heads links envelopes : List ℕ) {letters n refusal states : ℕ} {entries₁ finals₁ heads₁ links₁ keys₂ : List ℕ} {after : GraphTables}
     → length entries₁ ≡ length entries → length finals₁ ≡ length finals → length heads₁ ≡ length heads → length links₁ ≡ length links → keys₂ ≡ zeros (length keys)
-    → MinimiseOutcome (record { entries = entries₁; flags = finals₁; work = live ∷ (class ∷ (next ∷ (heads₁ ∷ (links₁ ∷ (shared ∷ []))))) }) letters n refusal states after → letters ≡ 0
-    → record { entries = after .entries; finals = after .flags; work = keys₂ ∷ after .work } ≡ allZero (roomOf entries finals keys live class next heads links shared)
-calls-cleared entries finals keys live class next heads links shared {letters} {n} {refusal} {states} {entries₁} {finals₁} {heads₁} {links₁} {keys₂} {after} el fl hl ll zero m none =
-    let before : GraphTables = record { entries = entries₁; flags = finals₁; work = live ∷ (class ∷ (next ∷ (heads₁ ∷ (links₁ ∷ (shared ∷ []))))) } in
+    → MinimiseOutcome (record { entries = entries₁; flags = finals₁; work = live ∷ (class ∷ (next ∷ (heads₁ ∷ (links₁ ∷ (envelopes ∷ []))))) }) letters n refusal states after → letters ≡ 0
+    → record { entries = after .entries; finals = after .flags; work = keys₂ ∷ after .work } ≡ allZero (roomOf entries finals keys live class next heads links envelopes)
+calls-cleared entries finals keys live class next heads links envelopes {letters} {n} {refusal} {states} {entries₁} {finals₁} {heads₁} {links₁} {keys₂} {after} el fl hl ll zero m none =
+    let before : GraphTables = record { entries = entries₁; flags = finals₁; work = live ∷ (class ∷ (next ∷ (heads₁ ∷ (links₁ ∷ (envelopes ∷ []))))) } in
     ap (λ l. record { entries = after .entries; finals = after .flags; work = l ∷ after .work }) zero
-    ∙ cleared-tables entries finals keys live class next heads links shared n refusal states entries₁ finals₁ heads₁ links₁ after el fl hl ll (subst (λ l. MinimiseOutcome before l n refusal states after) none m)
+    ∙ cleared-tables entries finals keys live class next heads links envelopes n refusal states entries₁ finals₁ heads₁ links₁ after el fl hl ll (subst (λ l. MinimiseOutcome before l n refusal states after) none m)
 
-module _ (entries finals keys live class next heads links shared : List ℕ) {s : Sheet} (accepted : Accepted s) {letters rows work limit : ℕ} (same : letters ≡ letterCount (s .streams))
-    (fewestWork : work ≡ min (length live) (min (length class) (min (length next) (min (length heads) (min (length links) (length shared))))))
+module _ (entries finals keys live class next heads links envelopes : List ℕ) {s : Sheet} (accepted : Accepted s) {letters rows work limit : ℕ} (same : letters ≡ letterCount (s .streams))
+    (fewestWork : work ≡ min (length live) (min (length class) (min (length next) (min (length heads) (min (length links) (length envelopes))))))
     (fewest : rows ≡ min (length entries / letters) (min (length finals) (min (length keys / 16) work))) (cut : limit ≡ min rows situationBound) where
   abbrev lentRoom : Room
-  lentRoom = roomOf entries finals keys live class next heads links shared
+  lentRoom = roomOf entries finals keys live class next heads links envelopes
 
   rows-are : rows ≡ roomRows lentRoom (letterCount (s .streams))
-  rows-are = fewest ∙ ap (λ w. min (length entries / letters) (min (length finals) (min (length keys / 16) w))) fewestWork ∙ rows-lent entries finals keys live class next heads links shared letters ∙ ap (roomRows lentRoom) same
+  rows-are = fewest ∙ ap (λ w. min (length entries / letters) (min (length finals) (min (length keys / 16) w))) fewestWork ∙ rows-lent entries finals keys live class next heads links envelopes letters ∙ ap (roomRows lentRoom) same
 
   limit-is : limit ≡ min (roomRows lentRoom (letterCount (s .streams))) situationBound
   limit-is = cut ∙ ap (λ r. min r situationBound) rows-are
@@ -210,12 +210,12 @@ module _ (entries finals keys live class next heads links shared : List ℕ) {s 
   -- What the code's calls give is the outcome.
   pub calls-outcome : {n : ℕ} {table : Minimised} {answer : Compiled} {entries₁ finals₁ heads₁ links₁ keys₂ : List ℕ} {after : GraphTables}
       → length entries₁ ≡ length entries → length finals₁ ≡ length finals → length heads₁ ≡ length heads → length links₁ ≡ length links → keys₂ ≡ zeros (length keys) → n ≤ limit → SituationsFound s limit n entries₁ finals₁
-      → MinimiseOutcome (record { entries = entries₁; flags = finals₁; work = live ∷ (class ∷ (next ∷ (heads₁ ∷ (links₁ ∷ (shared ∷ []))))) }) letters n (table .refusal) (table .states) after
+      → MinimiseOutcome (record { entries = entries₁; flags = finals₁; work = live ∷ (class ∷ (next ∷ (heads₁ ∷ (links₁ ∷ (envelopes ∷ []))))) }) letters n (table .refusal) (table .states) after
       → answer ≡ madeOf rows (min n situationBound) table → SheetOutcome s lentRoom (answerOf answer) (record { entries = after .entries; finals = after .flags; work = keys₂ ∷ after .work })
   calls-outcome {n} {table} {answer} {entries₁} {finals₁} {heads₁} {links₁} {keys₂} {after} el fl hl ll zero within found m answers =
-      let before : GraphTables = record { entries = entries₁; flags = finals₁; work = live ∷ (class ∷ (next ∷ (heads₁ ∷ (links₁ ∷ (shared ∷ []))))) } in
+      let before : GraphTables = record { entries = entries₁; flags = finals₁; work = live ∷ (class ∷ (next ∷ (heads₁ ∷ (links₁ ∷ (envelopes ∷ []))))) } in
       let m′ = subst (λ l. MinimiseOutcome before l n (table .refusal) (table .states) after) same m in
-      let o = sheet-outcome entries finals keys live class next heads links shared n (table .refusal) (table .states) entries₁ finals₁ heads₁ links₁ after el fl hl ll accepted limit limit-is found m′ in
+      let o = sheet-outcome entries finals keys live class next heads links envelopes n (table .refusal) (table .states) entries₁ finals₁ heads₁ links₁ after el fl hl ll accepted limit limit-is found m′ in
       let counted = all-counted rows n table (within-bound rows situationBound limit cut n within) in
       let answered = subst (λ a. SheetOutcome s lentRoom (answerOf a) (record { entries = after .entries; finals = after .flags; work = zeros (length keys) ∷ after .work })) (sym (answers ∙ counted ∙ ap (λ r. madeOf r n table) rows-are)) o in
       subst (λ x. SheetOutcome s lentRoom (answerOf answer) (record { entries = after .entries; finals = after .flags; work = x ∷ after .work })) (sym zero) answered

@@ -23,13 +23,13 @@ fn work_rows(
     next: usize,
     heads: usize,
     links: usize,
-    shared: usize,
+    envelopes: usize,
 ) -> usize
-    ensures { λ r. ⌜ r ≡ min live (min class (min next (min heads (min links shared)))) ⌝ }
+    ensures { λ r. ⌜ r ≡ min live (min class (min next (min heads (min links envelopes)))) ⌝ }
 {
     fewer(
         live,
-        fewer(class, fewer(next, fewer(heads, fewer(links, shared)))),
+        fewer(class, fewer(next, fewer(heads, fewer(links, envelopes)))),
     )
 }
 
@@ -56,9 +56,9 @@ pub fn compile(
     next: &mut [u32],
     heads: &mut [u32],
     links: &mut [u32],
-    shared: &mut [u32],
+    envelopes: &mut [u32],
 ) -> CompiledSheet
-    ensures { λ r. ⌜ SheetCall (now (text .entry)) (roomOf (now (entries .entry)) (now (finals .entry)) (now (keys .entry)) (now (live .entry)) (now (class .entry)) (now (next .entry)) (now (heads .entry)) (now (links .entry)) (now (shared .entry))) r (tablesOf (now (entries .exit)) (now (finals .exit)) (now (keys .exit)) (now (live .exit)) (now (class .exit)) (now (next .exit)) (now (heads .exit)) (now (links .exit)) (now (shared .exit))) ⌝ }
+    ensures { λ r. ⌜ SheetCall (now (text .entry)) (roomOf (now (entries .entry)) (now (finals .entry)) (now (keys .entry)) (now (live .entry)) (now (class .entry)) (now (next .entry)) (now (heads .entry)) (now (links .entry)) (now (envelopes .entry))) r (tablesOf (now (entries .exit)) (now (finals .exit)) (now (keys .exit)) (now (live .exit)) (now (class .exit)) (now (next .exit)) (now (heads .exit)) (now (links .exit)) (now (envelopes .exit))) ⌝ }
 {
     let reading = reader::read(text);
     let sheet = reading.sheet;
@@ -69,7 +69,7 @@ pub fn compile(
         next.len(),
         heads.len(),
         links.len(),
-        shared.len(),
+        envelopes.len(),
     );
     let rows = fewest_rows(letters, entries.len(), finals.len(), keys.len(), work);
     let limit = compiled::most_situations(rows);
@@ -84,7 +84,7 @@ pub fn compile(
         next,
         heads,
         links,
-        shared,
+        envelopes,
     );
     let answer = compiled::answered(reading.refusal, compiled::made(rows, count, table));
     compiled_sheet::with_sheet(sheet, answer)

@@ -14,9 +14,9 @@ pub extern "C" fn compile_c(
     next: &mut [u32],
     heads: &mut [u32],
     links: &mut [u32],
-    shared: &mut [u32],
+    envelopes: &mut [u32],
 ) -> CompiledSheet
-    ensures { λ r. ⌜ SheetCall (now (text .entry)) (roomOf (now (entries .entry)) (now (finals .entry)) (now (keys .entry)) (now (live .entry)) (now (class .entry)) (now (next .entry)) (now (heads .entry)) (now (links .entry)) (now (shared .entry))) r (tablesOf (now (entries .exit)) (now (finals .exit)) (now (keys .exit)) (now (live .exit)) (now (class .exit)) (now (next .exit)) (now (heads .exit)) (now (links .exit)) (now (shared .exit))) ⌝ }
+    ensures { λ r. ⌜ SheetCall (now (text .entry)) (roomOf (now (entries .entry)) (now (finals .entry)) (now (keys .entry)) (now (live .entry)) (now (class .entry)) (now (next .entry)) (now (heads .entry)) (now (links .entry)) (now (envelopes .entry))) r (tablesOf (now (entries .exit)) (now (finals .exit)) (now (keys .exit)) (now (live .exit)) (now (class .exit)) (now (next .exit)) (now (heads .exit)) (now (links .exit)) (now (envelopes .exit))) ⌝ }
 {
     compile::compile(
         text,
@@ -28,6 +28,6 @@ pub extern "C" fn compile_c(
         next,
         heads,
         links,
-        shared,
+        envelopes,
     )
 }

@@ -18,8 +18,9 @@ use Rattle.automaton.specs.Solutions.{Begins}
 use Rattle.automaton.proofs.Paths.{entry-state, path↔begins}
 use Rattle.automaton.proofs.States.{continuation-followed}
 use Rattle.counting.specs.Counting.{StaysBelow, IsRecordFrom, anyState}
-use Rattle.counting.specs.Figures.{letterSum, recordCountFrom}
-use Rattle.counting.proofs.Sums.{sum-le, sum-part}
+use Rattle.figure_sums.specs.Sums.{letterSum}
+use Rattle.counting.specs.Figures.{recordCountFrom}
+use Rattle.figure_sums.proofs.Sums.{sum-le, sum-part}
 
 -- ---- the list
 

@@ -17,9 +17,10 @@ use Rattle.basics.proofs.Count.{more-iff, count-excludes-more}
 use Rattle.basics.proofs.Tests.{not-both}
 use Rattle.basics.proofs.Clearing.{zeros}
 use Rattle.automaton.specs.WellFormed.{IsWellFormed}
-use Rattle.counting.specs.Counting.{highestFigure, anyState, hasFinalByte, FollowedRecord, FinalRecord, HasFigures, HoldsFigures, CountsRecords}
-use Rattle.counting.specs.Figures.{letterSum, recordCountFrom, figureCut, figureOf, finalFigureOf, HoldsCounts, rowSum, NextCounts, HoldsCutFigures, AreBounded}
-use Rattle.counting.proofs.Sums.{sum-same, sum-le, sum-cut}
+use Rattle.figure_sums.specs.Sums.{highestFigure, letterSum, figureCut, rowSum, AreBounded}
+use Rattle.figure_sums.proofs.Sums.{sum-same, sum-le, sum-cut}
+use Rattle.counting.specs.Counting.{anyState, hasFinalByte, FollowedRecord, FinalRecord, HasFigures, HoldsFigures, CountsRecords}
+use Rattle.counting.specs.Figures.{recordCountFrom, figureOf, finalFigureOf, HoldsCounts, NextCounts, HoldsCutFigures}
 use Rattle.counting.proofs.Counting.{records-count}
 
 -- ---- one letter more
@@ -68,10 +69,6 @@ module _ (k n : ℕ) (entry : ℕ → ℕ → ℕ) (ends : ℕ → Bool) where
       by false j again = omega arith
 
 -- ---- what the loops do
-
--- One letter more of a row.
-pub row-sum-more : (row counts : List ℕ) (m : ℕ) {sum more r : ℕ} → sum ≡ rowSum row counts m → more ≡ getD counts (getD row m 0) 0 → r ≡ min (sum + more) figureCut → r ≡ rowSum row counts (m + 1)
-row-sum-more row counts m s e p = rw add-one (omega (arith, s, e, p))
 
 -- A row of the entries, from its start.
 pub row-counted : (k : ℕ) (entries counts : List ℕ) (i : ℕ) {start end r : ℕ} → i * k + k ≤ length entries → start ≡ i * k → end ≡ start + k

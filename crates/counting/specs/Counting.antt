@@ -12,6 +12,7 @@ use Rattle.automaton.specs.Words.{AllBelow}
 use Rattle.automaton.specs.Table.{walk}
 use Rattle.automaton.specs.Stored.{entryAt, finalAt}
 use Rattle.automaton.specs.WellFormed.{IsWellFormed}
+use Rattle.figure_sums.specs.Sums.{highestFigure}
 
 -- ---- records from a state
 
@@ -41,10 +42,6 @@ abbrev pub FinalRecord : (k : ℕ) (entries finals : List ℕ) → ℕ → List 
 FinalRecord k entries finals t = IsRecordFrom k (length finals) (entryAt k entries) (hasFinalByte finals) t 0
 
 -- ---- what a call gives
-
--- "a figure above 9,223,372,036,854,775,807" is turned away.
-abbrev pub highestFigure : ℕ
-highestFigure = 9223372036854775807
 
 -- The table is well formed, both lists have room for the figures from 0 letters up to so many, and none of these is above the highest.
 pub record HasFigures (k : ℕ) (entries finals : List ℕ) (most room finalRoom : ℕ) : Type 0 where

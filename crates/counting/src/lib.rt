@@ -5,69 +5,13 @@
 // the rows that they lead to. Both columns are summed in one pass over the entries. Sums are cut at 2^63, so that none wraps: the count of another row
 // may pass the highest figure though that of the start does not.
 ghost use mathlib.Core.Path.{_≡_};
-ghost use mathlib.Core.Bool.{cond};
-ghost use lib.Dec.{eqb};
 ghost use mathlib.Core.List.{List};
-ghost use Prim.Native.Nat.{ℕ, _+_, _*_, _<_, _≤_, min};
-ghost use lib.ListN.{length, getD, replicate};
+ghost use Prim.Native.Nat.{ℕ, _*_, _<_, _≤_};
+ghost use lib.ListN.{length, replicate};
 ghost use Rattle.basics.specs.Answers.{Says};
 ghost use Rattle.automaton.specs.WellFormed.{IsWellFormed};
 ghost use Rattle.counting.specs.Counting.{anyState, hasFinalByte, CountsRecords};
-ghost use Rattle.counting.specs.Figures.{figureCut, figureOf, finalFigureOf, HoldsCounts, rowSum, NextCounts, CopiedCounts, CountsBegun, FiguresFilled, HoldsCutFigures, AreBounded};
-
-// "a figure above 9,223,372,036,854,775,807"
-const HIGHEST_FIGURE: u64 = 9223372036854775807;
-// One more, at which counts are cut.
-const FIGURE_CUT: u64 = 9223372036854775808;
-
-// The two sums of a row: over all records, and over those that end in a final state.
-struct RowSums {
-    all: u64,
-    ending: u64,
-}
-
-// The sum of two numbers, cut. Tested by a difference, since the sum can be too large.
-fn add_cut(sum: u64, more: u64) -> u64
-    ensures { λ r. ⌜ r ≡ min (sum + more) figureCut ⌝ }
-{
-    if FIGURE_CUT <= sum {
-        return FIGURE_CUT;
-    }
-    if FIGURE_CUT - sum <= more {
-        return FIGURE_CUT;
-    }
-    sum + more
-}
-
-// The number of the row that an entry names; 0 where it names none.
-fn count_at(counts: &[u64], entry: u16) -> u64
-    ensures { λ r. ⌜ r ≡ getD (now (counts .entry)) entry 0 ⌝ }
-{
-    let row = entry as usize;
-    if row < counts.len() {
-        return counts[row];
-    }
-    0
-}
-
-// The sums over the letters of a row.
-fn row_sums(row: &[u16], counts: &[u64], final_counts: &[u64]) -> RowSums
-    ensures { λ r. ⌜ (r .all ≡ rowSum (now (row .entry)) (now (counts .entry)) (length (now (row .entry)))) × (r .ending ≡ rowSum (now (row .entry)) (now («final_counts» .entry)) (length (now (row .entry)))) ⌝ }
-{
-    let mut all: u64 = 0;
-    let mut ending: u64 = 0;
-    let mut letter = 0;
-    while letter < row.len() {
-        let next = row[letter];
-        all = add_cut(all, count_at(counts, next));
-        ending = add_cut(ending, count_at(final_counts, next));
-        letter += 1;
-    }
-    RowSums {
-        all: all,
-        ending: ending,
-    }
-}
+ghost use Rattle.counting.specs.Figures.{figureOf, finalFigureOf, HoldsCounts, NextCounts, CopiedCounts, CountsBegun, FiguresFilled, HoldsCutFigures};
 
 // One pass over the entries: the counts of all rows for one letter more.
 fn next_counts(
@@ -85,7 +29,7 @@ fn next_counts(
     let mut row = 0;
     while row < counts.len() {
         let end = start + letters;
-        let sums = row_sums(&entries[start..end], counts, final_counts);
+        let sums = figure_sums::row_sums(&entries[start..end], counts, final_counts);
         next[row] = sums.all;
         final_next[row] = sums.ending;
         start = end;
@@ -124,13 +68,6 @@ fn add_letter(entries: &[u16], letters: usize, counts: &mut [u64], final_counts:
     copy_counts(&final_next, final_counts);
 }
 
-// One record of no letters from a final row, and none from another.
-fn final_count(is_final: u8) -> u64
-    ensures { λ r. ⌜ r ≡ cond (eqb «is_final» 1) 1 0 ⌝ }
-{
-    if is_final == 1 { 1 } else { 0 }
-}
-
 // The counts for no letter: the record of no letters ends in the row itself.
 fn first_counts(finals: &[u8], counts: &mut [u64], final_counts: &mut [u64])
     requires { ⌜ (length (now counts) ≡ length (now finals)) × (length (now «final_counts») ≡ length (now finals)) ⌝ }
@@ -139,7 +76,7 @@ fn first_counts(finals: &[u8], counts: &mut [u64], final_counts: &mut [u64])
     let mut row = 0;
     while row < finals.len() {
         counts[row] = 1;
-        final_counts[row] = final_count(finals[row]);
+        final_counts[row] = figure_sums::final_count(finals[row]);
         row += 1;
     }
 }
@@ -231,20 +168,6 @@ fn count_rows(
     );
 }
 
-// Whether no figure is above the highest.
-fn are_bounded(figures: &[u64]) -> bool
-    ensures { λ r. ⌜ Says r (AreBounded (now (figures .entry))) ⌝ }
-{
-    let mut i = 0;
-    while i < figures.len() {
-        if HIGHEST_FIGURE < figures[i] {
-            return false;
-        }
-        i += 1;
-    }
-    true
-}
-
 // Whether the table is well formed and both lists have room for the figures up to so many letters.
 fn can_be_counted(
     entries: &[u16],
@@ -290,7 +213,7 @@ pub fn count_records(
         return false;
     }
     count_rows(entries, finals, letters, most, figures, final_figures);
-    if are_bounded(figures) {
+    if figure_sums::are_bounded(figures) {
         return true;
     }
     clear_figures(figures);

@@ -1,6 +1,5 @@
--- The lines of figures: one after the other, and how long they are. From the laws of text that is appended (print, Append), of a part of lent bytes (pages,
--- Placed) and of digits (print, Lengths).
-use Prim.Native.Nat.{ℕ, zero, suc, _+_, _-_, _*_, _≤_, _<_, min}
+-- The lines of figures: one after the other, and how long they are. From the laws of digits (print, Lengths).
+use Prim.Native.Nat.{ℕ, zero, suc, _+_, _*_, _≤_, _<_, min}
 use native.Mathlib.Omega.{arith}
 use native.Mathlib.Numerals.{add-one}
 use mathlib.Core.Path.{_≡_, refl, sym, _∙_, ap, ap₂, subst}
@@ -10,29 +9,11 @@ use lib.IntN.{ℤ, pos}
 use mir.Syntax.{w64}
 use mir.Val.{SFits, toZ, ofZ}
 use mir.ValLaws.{toZ-ofZ}
-use borrow.Rule.Slice.PartMut.{midOf, putMid, same-len-mid, mid-len}
-use Rattle.print.specs.Append.{Appends}
 use Rattle.print.specs.Text.{digits}
 use Rattle.print.specs.Lines.{linesFrom}
 use Rattle.print.proofs.Lengths.{digits-length}
-use Rattle.pages.proofs.Placed.{placed-text}
-use Rattle.counting.specs.Counting.{highestFigure}
+use Rattle.figure_sums.specs.Sums.{highestFigure}
 use Rattle.counts_text.specs.Counts.{figuresLine, figuresText, shownNumber, listedText}
-
--- A text written to the front of the part from a place on is appended at the place.
-pub placed-line : (out : List ℕ) (at : ℕ) {text part : List ℕ} {r : ℕ} → at ≤ length out → Appends 0 text (midOf at (length out - at) out) part r
-    → Appends at text out (putMid at (length out - at) out part) (at + r)
-placed-line out at {text} {part} {r} h p =
-    let size = mid-len at (length out) out (omega arith) in
-    record {
-      same-length = same-len-mid at (length out - at) out part (p .same-length);
-      written = λ fits. (placed-text out at p fits, omega (arith, p .written (omega (arith, size)) .1));
-      no-room = λ full. omega (arith, p .no-room (omega (arith, size)), size);
-    }
-
--- A text that has no room because there is none.
-pub no-place : (out : List ℕ) {at : ℕ} {text : List ℕ} → length out < at → at ≤ suc (length out) → Appends at text out out at
-no-place out h l = record { same-length = refl; written = λ fits. absurd (omega arith); no-room = λ full. omega arith }
 
 -- A number that is shown comes back from a list of signed numbers as it was put there.
 pub shown-value : {r : ℤ} (n : ℕ) → r ≡ pos (shownNumber n) → toZ w64 (ofZ w64 r) ≡ pos (shownNumber n)

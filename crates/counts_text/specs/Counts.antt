@@ -6,7 +6,7 @@ use lib.ListN.{length, getD}
 use Rattle.text.specs.Bytes.{Token}
 use Rattle.print.specs.Text.{digits, tokensLine}
 use Rattle.print.specs.Lines.{linesFrom}
-use Rattle.counting.specs.Counting.{highestFigure}
+use Rattle.figure_sums.specs.Sums.{highestFigure}
 
 -- A line with a number of letters, the figure and the figure of the last column.
 abbrev pub figuresLine : (letters figure finalFigure : ℕ) → List ℕ

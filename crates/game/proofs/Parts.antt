@@ -46,9 +46,9 @@ module _ {finals cleared : List ℕ} {rows : ℕ} (inside : rows ≤ length fina
 later-rows : (t u : LentTable) (us : List LentTable) → fewestRows t (u ∷ us) ≤ fewestRows u us
 later-rows t u us = omega arith
 
-module _ (entries finals keys live class next heads links shared : List ℕ) where
+module _ (entries finals keys live class next heads links envelopes : List ℕ) where
   abbrev room : Room
-  room = roomOf entries finals keys live class next heads links shared
+  room = roomOf entries finals keys live class next heads links envelopes
 
   -- a compiled table has no more states than `live` has numbers
   states-within : {text : List ℕ} {cut : ℕ} {a : CompileAnswer} {t : Tables} → CompileOutcome text (withFinals room cut) a t → a .refusal ≡ 0 → a .states ≤ length live
@@ -60,7 +60,7 @@ module _ (entries finals keys live class next heads links shared : List ℕ) whe
     where
       live-rows : roomRows (withFinals room cut) (letterCount (s .streams)) ≤ length live / 1
       live-rows =
-          let others = lent 1 class ∷ (lent 1 next ∷ (lent 1 heads ∷ (lent 1 links ∷ (lent 1 shared ∷ [])))) in
+          let others = lent 1 class ∷ (lent 1 next ∷ (lent 1 heads ∷ (lent 1 links ∷ (lent 1 envelopes ∷ [])))) in
           le-trans (later-rows (lent (letterCount (s .streams)) entries) (record { perRow = 1; size = cut }) (lent 16 keys ∷ (lent 1 live ∷ others)))
           (le-trans (later-rows (record { perRow = 1; size = cut }) (lent 16 keys) (lent 1 live ∷ others)) (le-trans (later-rows (lent 16 keys) (lent 1 live) others) (fewest-first (lent 1 live) others)))
 
@@ -72,11 +72,11 @@ module _ (entries finals keys live class next heads links shared : List ℕ) whe
 
   module _ (play : List ℕ) {text : List ℕ} {reading : Reading} {streams : StreamsDescription} {held rows : ℕ} {cleared : List ℕ} (answer : reading ≡ readingOf (answerTo text)) (stored : streams ≡ sheetStreams (reading .sheet))
       (H : RowsHeld streams (length play) held) (is : rows ≡ min held (length finals)) (C : ClearedFrom finals cleared rows) where
-    module _ {r₀ r : CompiledSheet} {entries₁ finals₁ keys₁ live₁ class₁ next₁ heads₁ links₁ shared₁ : List ℕ}
-        (call : SheetCall text (roomOf entries (take rows cleared) keys live class next heads links shared) r₀ (tablesOf entries₁ finals₁ keys₁ live₁ class₁ next₁ heads₁ links₁ shared₁)) {entries₂ finals₂ live₂ play₂ : List ℕ}
+    module _ {r₀ r : CompiledSheet} {entries₁ finals₁ keys₁ live₁ class₁ next₁ heads₁ links₁ envelopes₁ : List ℕ}
+        (call : SheetCall text (roomOf entries (take rows cleared) keys live class next heads links envelopes) r₀ (tablesOf entries₁ finals₁ keys₁ live₁ class₁ next₁ heads₁ links₁ envelopes₁)) {entries₂ finals₂ live₂ play₂ : List ℕ}
         (P : PlayMade r₀ entries₁ (finals₁ ++ drop rows cleared) live₁ play r entries₂ finals₂ live₂ play₂) where
       abbrev t : Tables
-      t = tablesOf entries₁ finals₁ keys₁ live₁ class₁ next₁ heads₁ links₁ shared₁
+      t = tablesOf entries₁ finals₁ keys₁ live₁ class₁ next₁ heads₁ links₁ envelopes₁
 
       cut-call : SheetCall text (withFinals room rows) r₀ t
       cut-call = subst (λ n. SheetCall text (withFinals room n) r₀ t) (rows-taken (omega (arith, is)) C) call
@@ -94,8 +94,8 @@ module _ (entries finals keys live class next heads links shared : List ℕ) whe
           let e : k + (length live - k) ≡ length live = omega (arith, live-long) in
           live-zero ∙ sym (P .liveCleared ∙ ap (λ xs. replicate k 0 ++ drop k xs) live-zero ∙ ap (replicate k 0 ++_) (drop-replicate 0 k (length live)) ∙ replicate-append-replicate k (length live - k) 0 ∙ ap zeros e)
 
-      pub whole-call : ForceSheetCall text room (length play) r (tablesOf entries₂ finals₂ keys₁ live₂ class₁ next₁ heads₁ links₁ shared₁) play₂
+      pub whole-call : ForceSheetCall text room (length play) r (tablesOf entries₂ finals₂ keys₁ live₂ class₁ next₁ heads₁ links₁ envelopes₁) play₂
       whole-call =
-          subst (λ xs. ForceSheetCall text room (length play) r (tablesOf entries₂ finals₂ keys₁ xs class₁ next₁ heads₁ links₁ shared₁) play₂) live-same
+          subst (λ xs. ForceSheetCall text room (length play) r (tablesOf entries₂ finals₂ keys₁ xs class₁ next₁ heads₁ links₁ envelopes₁) play₂) live-same
           (force-call room is (subst (λ s. RowsHeld s (length play) held) (stored ∙ ap (λ y. sheetStreams (y .sheet)) answer) H) cut-call refl (λ z. omega (arith, states-within (cut-call .call) z, live-long))
           (subst (λ xs. PlayMade r₀ entries₁ (finals₁ ++ xs) live₁ play r entries₂ finals₂ live₂ play₂) (rest-zero (omega (arith, is)) C) P))

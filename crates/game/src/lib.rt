@@ -18,10 +18,10 @@ pub fn force(
     next: &mut [u32],
     heads: &mut [u32],
     links: &mut [u32],
-    shared: &mut [u32],
+    envelopes: &mut [u32],
     play: &mut [u16],
 ) -> CompiledSheet
-    ensures { λ r. ⌜ ForceSheetCall (now (text .entry)) (roomOf (now (entries .entry)) (now (finals .entry)) (now (keys .entry)) (now (live .entry)) (now (class .entry)) (now (next .entry)) (now (heads .entry)) (now (links .entry)) (now (shared .entry))) (length (now (play .entry))) r (tablesOf (now (entries .exit)) (now (finals .exit)) (now (keys .exit)) (now (live .exit)) (now (class .exit)) (now (next .exit)) (now (heads .exit)) (now (links .exit)) (now (shared .exit))) (now (play .exit)) ⌝ }
+    ensures { λ r. ⌜ ForceSheetCall (now (text .entry)) (roomOf (now (entries .entry)) (now (finals .entry)) (now (keys .entry)) (now (live .entry)) (now (class .entry)) (now (next .entry)) (now (heads .entry)) (now (links .entry)) (now (envelopes .entry))) (length (now (play .entry))) r (tablesOf (now (entries .exit)) (now (finals .exit)) (now (keys .exit)) (now (live .exit)) (now (class .exit)) (now (next .exit)) (now (heads .exit)) (now (links .exit)) (now (envelopes .exit))) (now (play .exit)) ⌝ }
 {
     let reading = reader::read(text);
     let sheet = reading.sheet;
@@ -38,7 +38,7 @@ pub fn force(
         next,
         heads,
         links,
-        shared,
+        envelopes,
     );
     make_play::make_play(told, entries, finals, live, play)
 }

@@ -15,10 +15,10 @@ pub extern "C" fn strategy_c(
     next: &mut [u32],
     heads: &mut [u32],
     links: &mut [u32],
-    shared: &mut [u32],
+    envelopes: &mut [u32],
     play: &mut [u16],
 ) -> CompiledSheet
-    ensures { λ r. ⌜ ForceSheetCall (now (text .entry)) (roomOf (now (entries .entry)) (now (finals .entry)) (now (keys .entry)) (now (live .entry)) (now (class .entry)) (now (next .entry)) (now (heads .entry)) (now (links .entry)) (now (shared .entry))) (length (now (play .entry))) r (tablesOf (now (entries .exit)) (now (finals .exit)) (now (keys .exit)) (now (live .exit)) (now (class .exit)) (now (next .exit)) (now (heads .exit)) (now (links .exit)) (now (shared .exit))) (now (play .exit)) ⌝ }
+    ensures { λ r. ⌜ ForceSheetCall (now (text .entry)) (roomOf (now (entries .entry)) (now (finals .entry)) (now (keys .entry)) (now (live .entry)) (now (class .entry)) (now (next .entry)) (now (heads .entry)) (now (links .entry)) (now (envelopes .entry))) (length (now (play .entry))) r (tablesOf (now (entries .exit)) (now (finals .exit)) (now (keys .exit)) (now (live .exit)) (now (class .exit)) (now (next .exit)) (now (heads .exit)) (now (links .exit)) (now (envelopes .exit))) (now (play .exit)) ⌝ }
 {
     game::force(
         text,
@@ -30,7 +30,7 @@ pub extern "C" fn strategy_c(
         next,
         heads,
         links,
-        shared,
+        envelopes,
         play,
     )
 }

@@ -23,9 +23,9 @@ pub extern "C" fn join_c(
     next: &mut [u32],
     heads: &mut [u32],
     links: &mut [u32],
-    shared: &mut [u32],
+    envelopes: &mut [u32],
 ) -> JoinAnswer
-    ensures { λ r. ⌜ JoinOutcome (givenTable (now («left_entries» .entry)) (now («left_finals» .entry)) «left_letters» «left_streams») (givenTable (now («right_entries» .entry)) (now («right_finals» .entry)) «right_letters» «right_streams») (joinRoom (now (entries .entry)) (now (finals .entry)) (now (keys .entry)) (now (live .entry)) (now (class .entry)) (now (next .entry)) (now (heads .entry)) (now (links .entry)) (now (shared .entry))) r (joinTables (now (entries .exit)) (now (finals .exit)) (now (keys .exit)) (now (live .exit)) (now (class .exit)) (now (next .exit)) (now (heads .exit)) (now (links .exit)) (now (shared .exit))) ⌝ }
+    ensures { λ r. ⌜ JoinOutcome (givenTable (now («left_entries» .entry)) (now («left_finals» .entry)) «left_letters» «left_streams») (givenTable (now («right_entries» .entry)) (now («right_finals» .entry)) «right_letters» «right_streams») (joinRoom (now (entries .entry)) (now (finals .entry)) (now (keys .entry)) (now (live .entry)) (now (class .entry)) (now (next .entry)) (now (heads .entry)) (now (links .entry)) (now (envelopes .entry))) r (joinTables (now (entries .exit)) (now (finals .exit)) (now (keys .exit)) (now (live .exit)) (now (class .exit)) (now (next .exit)) (now (heads .exit)) (now (links .exit)) (now (envelopes .exit))) ⌝ }
 {
     join_tables::join_tables(
         left_entries,
@@ -44,6 +44,6 @@ pub extern "C" fn join_c(
         next,
         heads,
         links,
-        shared,
+        envelopes,
     )
 }

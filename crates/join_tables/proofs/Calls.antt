@@ -90,19 +90,19 @@ few-found : {lc rc l r limit n : ℕ} {T : _} {before after : PairTables} → Pa
 few-found (found h w) = h .rows .within
 few-found (none m p q w) = omega arith
 
-module _ (entries finals keys live class next heads links shared : List ℕ) where
+module _ (entries finals keys live class next heads links envelopes : List ℕ) where
   abbrev lentRoom : Room
-  lentRoom = joinRoom entries finals keys live class next heads links shared
+  lentRoom = joinRoom entries finals keys live class next heads links envelopes
 
   -- Without letters there is no graph, so every table is cleared.
   pub calls-cleared : {letters n refusal states : ℕ} {entries₁ finals₁ keys₁ heads₁ links₁ : List ℕ} {after : GraphTables} → length entries₁ ≡ length entries → length finals₁ ≡ length finals
       → length heads₁ ≡ length heads → length links₁ ≡ length links → keys₁ ≡ zeros (length keys)
-      → MinimiseOutcome (record { entries = entries₁; flags = finals₁; work = live ∷ (class ∷ (next ∷ (heads₁ ∷ (links₁ ∷ (shared ∷ []))))) }) letters n refusal states after → letters ≡ 0
+      → MinimiseOutcome (record { entries = entries₁; flags = finals₁; work = live ∷ (class ∷ (next ∷ (heads₁ ∷ (links₁ ∷ (envelopes ∷ []))))) }) letters n refusal states after → letters ≡ 0
       → allZero lentRoom ≡ record { entries = after .entries; finals = after .flags; work = keys₁ ∷ after .work }
   calls-cleared {letters} {n} {refusal} {states} {entries₁} {finals₁} {keys₁} {heads₁} {links₁} {after} el fl hl ll kz m e = by m
     where
       before : GraphTables
-      before = record { entries = entries₁; flags = finals₁; work = live ∷ (class ∷ (next ∷ (heads₁ ∷ (links₁ ∷ (shared ∷ []))))) }
+      before = record { entries = entries₁; flags = finals₁; work = live ∷ (class ∷ (next ∷ (heads₁ ∷ (links₁ ∷ (envelopes ∷ []))))) }
 
       zero : {number : ℕ} → IsRefusal number before refusal states after → allZero lentRoom ≡ record { entries = after .entries; finals = after .flags; work = keys₁ ∷ after .work }
       zero y =
@@ -110,7 +110,7 @@ module _ (entries finals keys live class next heads links shared : List ℕ) whe
           record {
             entries = (y .entries-zero ∙ ap zeros el) i;
             finals = (y .flags-zero ∙ ap zeros fl) i;
-            work = kz i ∷ (y .work-zero ∙ (λ j. zeros (length live) ∷ (zeros (length class) ∷ (zeros (length next) ∷ (zeros (hl j) ∷ (zeros (ll j) ∷ (zeros (length shared) ∷ []))))))) i;
+            work = kz i ∷ (y .work-zero ∙ (λ j. zeros (length live) ∷ (zeros (length class) ∷ (zeros (length next) ∷ (zeros (hl j) ∷ (zeros (ll j) ∷ (zeros (length envelopes) ∷ []))))))) i;
           })
 
       by : MinimiseOutcome before letters n refusal states after → allZero lentRoom ≡ record { entries = after .entries; finals = after .flags; work = keys₁ ∷ after .work }
@@ -121,7 +121,7 @@ module _ (entries finals keys live class next heads links shared : List ℕ) whe
   -- ---- two tables that can be joined
 
   module _ {a b : GivenTable} (j : CanJoin a b) {s : JoinedStreams} (is : IsJoined (a .streams) (b .streams) s) {letters rows limit : ℕ} (same : letters ≡ letterCount (riverStreams a b))
-      (fewest : rows ≡ min (length entries / letters) (min (length finals) (min (length keys) (min (length live) (min (length class) (min (length next) (min (length heads) (min (length links) (length shared)))))))))
+      (fewest : rows ≡ min (length entries / letters) (min (length finals) (min (length keys) (min (length live) (min (length class) (min (length next) (min (length heads) (min (length links) (length envelopes)))))))))
       (cut : limit ≡ min rows situationBound) where
     abbrev k : ℕ
     k = letterCount (riverStreams a b)
@@ -129,14 +129,14 @@ module _ (entries finals keys live class next heads links shared : List ℕ) whe
     rows-are : rows ≡ roomRows lentRoom k
     rows-are = fewest ∙ lent ∙ ap (roomRows lentRoom) same
       where
-        lent : min (length entries / letters) (min (length finals) (min (length keys) (min (length live) (min (length class) (min (length next) (min (length heads) (min (length links) (length shared)))))))) ≡ roomRows lentRoom letters
+        lent : min (length entries / letters) (min (length finals) (min (length keys) (min (length live) (min (length class) (min (length next) (min (length heads) (min (length links) (length envelopes)))))))) ≡ roomRows lentRoom letters
         lent = simp div-one
 
     -- Each table has room for as many rows as the limit.
     ready : 0 < limit → IsPairRoom (a .letters) (b .letters) k limit (length (s .left)) (length (s .right)) (pairTables entries finals keys heads links)
     ready h =
         let held =
-        at-most-each limit (length entries / letters) (length finals ∷ (length keys ∷ (length live ∷ (length class ∷ (length next ∷ (length heads ∷ (length links ∷ (length shared ∷ []))))))))
+        at-most-each limit (length entries / letters) (length finals ∷ (length keys ∷ (length live ∷ (length class ∷ (length next ∷ (length heads ∷ (length links ∷ (length envelopes ∷ []))))))))
         (subst (λ r. limit ≤ r) fewest (within-rows rows situationBound limit cut)) in
         record {
           few-left = j .left-fit .streams-fit .fewLetters;
@@ -167,10 +167,10 @@ module _ (entries finals keys live class next heads links shared : List ℕ) whe
         → length heads₁ ≡ length heads → length links₁ ≡ length links
         → PairsOutcome (length (s .left)) (length (s .right)) (tablesOver (a .entries) (a .finals) (b .entries) (b .finals) (s .left) (s .right) (a .letters) (b .letters) letters) (a .letters) (b .letters) limit
         (pairTables entries finals keys heads links) (pairTables entries₁ finals₁ keys₁ heads₁ links₁) n
-        → MinimiseOutcome (record { entries = entries₁; flags = finals₁; work = live ∷ (class ∷ (next ∷ (heads₁ ∷ (links₁ ∷ (shared ∷ []))))) }) letters n (table .refusal) (table .states) after
+        → MinimiseOutcome (record { entries = entries₁; flags = finals₁; work = live ∷ (class ∷ (next ∷ (heads₁ ∷ (links₁ ∷ (envelopes ∷ []))))) }) letters n (table .refusal) (table .states) after
         → JoinOutcome a b lentRoom (toldBy (pairAnswer rows (min n situationBound) table) s) (record { entries = after .entries; finals = after .flags; work = keys₁ ∷ after .work })
     tables-joined {n} {table} {entries₁} {finals₁} {keys₁} {heads₁} {links₁} {after} el fl hl ll o m =
-        let before : GraphTables = record { entries = entries₁; flags = finals₁; work = live ∷ (class ∷ (next ∷ (heads₁ ∷ (links₁ ∷ (shared ∷ []))))) } in
+        let before : GraphTables = record { entries = entries₁; flags = finals₁; work = live ∷ (class ∷ (next ∷ (heads₁ ∷ (links₁ ∷ (envelopes ∷ []))))) } in
         let o′ =
         pairs-agree k (at (s .left)) (cutNumber (riverStreams a b) (descriptionOf (a .streams))) (at (s .right)) (cutNumber (riverStreams a b) (descriptionOf (b .streams))) (tableEntry a) (tableEntry b) (finalAt (a .finals)) (finalAt (b .finals))
         (is .leftCuts .cuts) (is .rightCuts .cuts)
@@ -178,18 +178,18 @@ module _ (entries finals keys live class next heads links shared : List ℕ) whe
         let m′ = subst (λ l. MinimiseOutcome before l n (table .refusal) (table .states) after) same m in
         subst (λ (c : JoinAnswer). JoinOutcome a b lentRoom c (record { entries = after .entries; finals = after .flags; work = keys₁ ∷ after .work })) (sym (told n table (few-found o)))
         (together j
-        (calls-outcome entries finals keys live class next heads links shared (states-below j) (some-letter j) (length (s .left)) (length (s .right)) (a .letters) (b .letters) limit n (table .refusal) (table .states) entries₁ finals₁ keys₁ heads₁ links₁ after
+        (calls-outcome entries finals keys live class next heads links envelopes (states-below j) (some-letter j) (length (s .left)) (length (s .right)) (a .letters) (b .letters) limit n (table .refusal) (table .states) entries₁ finals₁ keys₁ heads₁ links₁ after
         (cut ∙ ap (λ r. min r situationBound) rows-are) el fl hl ll (work-zero o .keys-zero) ready o′ m′))
 
   -- ---- all calls together
 
   pub joined-outcome : {a b : GivenTable} {s : JoinedStreams} {refusal letters rows limit n : ℕ} {table : Minimised} {answer : JoinAnswer} {entries₁ finals₁ keys₁ heads₁ links₁ : List ℕ} {after : GraphTables}
       → TablesJudged a b lentRoom s refusal → letters ≡ cond (eqb refusal 0) (s .letters) 0
-      → rows ≡ min (length entries / letters) (min (length finals) (min (length keys) (min (length live) (min (length class) (min (length next) (min (length heads) (min (length links) (length shared))))))))
+      → rows ≡ min (length entries / letters) (min (length finals) (min (length keys) (min (length live) (min (length class) (min (length next) (min (length heads) (min (length links) (length envelopes))))))))
       → limit ≡ min rows situationBound → length entries₁ ≡ length entries → length finals₁ ≡ length finals → length heads₁ ≡ length heads → length links₁ ≡ length links
       → PairsOutcome (length (s .left)) (length (s .right)) (tablesOver (a .entries) (a .finals) (b .entries) (b .finals) (s .left) (s .right) (a .letters) (b .letters) letters) (a .letters) (b .letters) limit
       (pairTables entries finals keys heads links) (pairTables entries₁ finals₁ keys₁ heads₁ links₁) n
-      → MinimiseOutcome (record { entries = entries₁; flags = finals₁; work = live ∷ (class ∷ (next ∷ (heads₁ ∷ (links₁ ∷ (shared ∷ []))))) }) letters n (table .refusal) (table .states) after
+      → MinimiseOutcome (record { entries = entries₁; flags = finals₁; work = live ∷ (class ∷ (next ∷ (heads₁ ∷ (links₁ ∷ (envelopes ∷ []))))) }) letters n (table .refusal) (table .states) after
       → answer ≡ cond (eqb refusal 0) (toldBy (pairAnswer rows (min n situationBound) table) s) (refusedJoin refusal)
       → JoinOutcome a b lentRoom answer (record { entries = after .entries; finals = after .flags; work = keys₁ ∷ after .work })
   joined-outcome {a} {b} {s} {refusal} {letters} {rows} {limit} {n} {table} {answer} {entries₁} {finals₁} {keys₁} {heads₁} {links₁} {after} (refused ne o) is fewest cut el fl hl ll p m e =

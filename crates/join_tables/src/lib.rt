@@ -34,12 +34,12 @@ struct RowTables {
     next: usize,
     heads: usize,
     links: usize,
-    shared: usize,
+    envelopes: usize,
 }
 
 // "the fewest rows any lent table holds"; none for 0 letters.
 fn rows_lent(letters: usize, entries: usize, rows: RowTables) -> usize
-    ensures { λ r. ⌜ r ≡ min (entries / letters) (min (rows .finals) (min (rows .keys) (min (rows .live) (min (rows .class) (min (rows .next) (min (rows .heads) (min (rows .links) (rows .shared)))))))) ⌝ }
+    ensures { λ r. ⌜ r ≡ min (entries / letters) (min (rows .finals) (min (rows .keys) (min (rows .live) (min (rows .class) (min (rows .next) (min (rows .heads) (min (rows .links) (rows .envelopes)))))))) ⌝ }
 {
     if letters == 0 {
         return 0;
@@ -50,7 +50,10 @@ fn rows_lent(letters: usize, entries: usize, rows: RowTables) -> usize
             rows.live,
             fewer(
                 rows.class,
-                fewer(rows.next, fewer(rows.heads, fewer(rows.links, rows.shared))),
+                fewer(
+                    rows.next,
+                    fewer(rows.heads, fewer(rows.links, rows.envelopes)),
+                ),
             ),
         ),
     );
@@ -159,9 +162,9 @@ pub fn join_tables(
     next: &mut [u32],
     heads: &mut [u32],
     links: &mut [u32],
-    shared: &mut [u32],
+    envelopes: &mut [u32],
 ) -> JoinAnswer
-    ensures { λ r. ⌜ JoinOutcome (givenTable (now («left_entries» .entry)) (now («left_finals» .entry)) «left_letters» «left_streams») (givenTable (now («right_entries» .entry)) (now («right_finals» .entry)) «right_letters» «right_streams») (joinRoom (now (entries .entry)) (now (finals .entry)) (now (keys .entry)) (now (live .entry)) (now (class .entry)) (now (next .entry)) (now (heads .entry)) (now (links .entry)) (now (shared .entry))) r (joinTables (now (entries .exit)) (now (finals .exit)) (now (keys .exit)) (now (live .exit)) (now (class .exit)) (now (next .exit)) (now (heads .exit)) (now (links .exit)) (now (shared .exit))) ⌝ }
+    ensures { λ r. ⌜ JoinOutcome (givenTable (now («left_entries» .entry)) (now («left_finals» .entry)) «left_letters» «left_streams») (givenTable (now («right_entries» .entry)) (now («right_finals» .entry)) «right_letters» «right_streams») (joinRoom (now (entries .entry)) (now (finals .entry)) (now (keys .entry)) (now (live .entry)) (now (class .entry)) (now (next .entry)) (now (heads .entry)) (now (links .entry)) (now (envelopes .entry))) r (joinTables (now (entries .exit)) (now (finals .exit)) (now (keys .exit)) (now (live .exit)) (now (class .exit)) (now (next .exit)) (now (heads .exit)) (now (links .exit)) (now (envelopes .exit))) ⌝ }
 {
     let streams = joined_streams::join_streams(
         left_streams,
@@ -190,7 +193,7 @@ pub fn join_tables(
             next: next.len(),
             heads: heads.len(),
             links: links.len(),
-            shared: shared.len(),
+            envelopes: envelopes.len(),
         },
     );
     let left_cuts = streams.left;
@@ -224,7 +227,7 @@ pub fn join_tables(
         next,
         heads,
         links,
-        shared,
+        envelopes,
     );
     answered(refusal, streams, rows, pairs, table)
 }

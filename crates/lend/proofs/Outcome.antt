@@ -70,7 +70,7 @@ module _ (text : List ℕ) {reading : Reading} (read-as : reading ≡ readingOf 
   pub stored-is : {s : Sheet} → AnswerTo text (sheet s) → reading .sheet ≡ storedSheet s
   stored-is {s} r = ap (λ x. x .sheet) (read-as ∙ ap readingOf (answer-unique (answer-correct text) r))
 
-  in-lent-room : {s : Sheet} {a : CompileAnswer} {t : Tables} → AnswerTo text (sheet s) → CompileCall text (lentRoom (reading .sheet .letters)) a t → CompiledLent text s a t
+  pub in-lent-room : {s : Sheet} {a : CompileAnswer} {t : Tables} → AnswerTo text (sheet s) → CompileCall text (lentRoom (reading .sheet .letters)) a t → CompiledLent text s a t
   in-lent-room {s} {a} {t} r o = record { reads = r; call = subst (λ k. CompileCall text (lentRoom k) a t) (sheet-letters s (stored-is r)) o }
 
   pub call-refused : {a : CompileAnswer} {t : Tables} → CompileCall text (lentRoom (reading .sheet .letters)) a t → 0 < a .refusal → RefusedLent text (a .refusal)

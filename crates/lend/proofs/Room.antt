@@ -21,18 +21,18 @@ abbrev single : ℕ → LentTable
 single size = record { perRow = 1; size = size }
 
 -- The work tables with these many numbers.
-abbrev pub sizedWork : (keys live class next heads links shared : ℕ) → List LentTable
-sizedWork keys live class next heads links shared =
-    record { perRow = 16; size = keys } ∷ (single live ∷ (single class ∷ (single next ∷ (single heads ∷ (single links ∷ (single shared ∷ []))))))
+abbrev pub sizedWork : (keys live class next heads links envelopes : ℕ) → List LentTable
+sizedWork keys live class next heads links envelopes =
+    record { perRow = 16; size = keys } ∷ (single live ∷ (single class ∷ (single next ∷ (single heads ∷ (single links ∷ (single envelopes ∷ []))))))
 
 -- Those with the numbers that so many rows take are the work tables of these rows.
-pub work-of-rows : {rows keys live class next heads links shared : ℕ} → rows * 16 ≡ keys → rows ≡ live → rows ≡ class → rows ≡ next → rows ≡ heads → rows ≡ links → rows ≡ shared
-    → sizedWork keys live class next heads links shared ≡ roomOfRows 0 0 rows .work
+pub work-of-rows : {rows keys live class next heads links envelopes : ℕ} → rows * 16 ≡ keys → rows ≡ live → rows ≡ class → rows ≡ next → rows ≡ heads → rows ≡ links → rows ≡ envelopes
+    → sizedWork keys live class next heads links envelopes ≡ roomOfRows 0 0 rows .work
 work-of-rows hk hl hc hn hh hi hs = λ i. sizedWork (sym hk i) (sym hl i) (sym hc i) (sym hn i) (sym hh i) (sym hi i) (sym hs i)
 
-pub in-rows : {text : List ℕ} {a : CompileAnswer} {m n rows keys live class next heads links shared : ℕ} {entries finals : List ℕ} {work : List (List ℕ)}
-    → rows * 16 ≡ keys → rows ≡ live → rows ≡ class → rows ≡ next → rows ≡ heads → rows ≡ links → rows ≡ shared
-    → CompileCall text (record { entries = m; finals = n; work = sizedWork keys live class next heads links shared }) a (record { entries = entries; finals = finals; work = work })
+pub in-rows : {text : List ℕ} {a : CompileAnswer} {m n rows keys live class next heads links envelopes : ℕ} {entries finals : List ℕ} {work : List (List ℕ)}
+    → rows * 16 ≡ keys → rows ≡ live → rows ≡ class → rows ≡ next → rows ≡ heads → rows ≡ links → rows ≡ envelopes
+    → CompileCall text (record { entries = m; finals = n; work = sizedWork keys live class next heads links envelopes }) a (record { entries = entries; finals = finals; work = work })
     → CompileCall text (roomOfRows m n rows) a (tablesOfRows rows entries finals)
 in-rows {text} {a} {m} {n} {rows} {entries = entries} {finals} {work} hk hl hc hn hh hi hs call =
     let sized = subst (λ w. CompileCall text (record { entries = m; finals = n; work = w }) a (record { entries = entries; finals = finals; work = work })) (work-of-rows hk hl hc hn hh hi hs) call in

@@ -43,7 +43,7 @@ fn compile_in_rows(text: &[u8], rows: usize, entries: &mut [u16], finals: &mut [
     let mut next = work_room();
     let mut heads = work_room();
     let mut links = work_room();
-    let mut shared = work_room();
+    let mut envelopes = work_room();
     let compiled = compile::compile(
         text,
         entries,
@@ -54,7 +54,7 @@ fn compile_in_rows(text: &[u8], rows: usize, entries: &mut [u16], finals: &mut [
         &mut next[..rows],
         &mut heads[..rows],
         &mut links[..rows],
-        &mut shared[..rows],
+        &mut envelopes[..rows],
     );
     compiled_sheet::answer(compiled)
 }

@@ -119,10 +119,10 @@ fn build_table(
     next: &mut [u32],
     heads: &mut [u32],
     links: &mut [u32],
-    shared: &mut [u32],
+    envelopes: &mut [u32],
 ) -> usize
     requires { ⌜ HasWord (now entries) (now flags) letters (length (now live)) (now live) ⌝ }
-    requires { ⌜ (length (now class) ≡ length (now live)) × (length (now next) ≡ length (now live)) × (length (now heads) ≡ length (now live)) × (length (now links) ≡ length (now live)) × (length (now shared) ≡ length (now live)) ⌝ }
+    requires { ⌜ (length (now class) ≡ length (now live)) × (length (now next) ≡ length (now live)) × (length (now heads) ≡ length (now live)) × (length (now links) ≡ length (now live)) × (length (now envelopes) ≡ length (now live)) ⌝ }
     ensures { λ r. ⌜ Tabled (now (entries .entry)) (now (flags .entry)) letters (length (now (live .entry))) r (now (entries .exit)) (now (flags .exit)) ⌝ }
 {
     live_rows::find_finals(entries, letters, live, next, flags);
@@ -135,7 +135,7 @@ fn build_table(
         next,
         heads,
         links,
-        shared,
+        envelopes,
     );
     let count = number_classes(class, next, heads);
     move_rows(entries, flags, letters, class, next, heads, count);
@@ -178,9 +178,9 @@ fn run(
     next: &mut [u32],
     heads: &mut [u32],
     links: &mut [u32],
-    shared: &mut [u32],
+    envelopes: &mut [u32],
 ) -> Minimised
-    ensures { λ r. ⌜ Ran (now (entries .entry)) (now (flags .entry)) letters rows (now (live .entry) ∷ (now (class .entry) ∷ (now (next .entry) ∷ (now (heads .entry) ∷ (now (links .entry) ∷ (now (shared .entry) ∷ [])))))) (r .refusal) (r .states) (now (entries .exit)) (now (flags .exit)) ⌝ }
+    ensures { λ r. ⌜ Ran (now (entries .entry)) (now (flags .entry)) letters rows (now (live .entry) ∷ (now (class .entry) ∷ (now (next .entry) ∷ (now (heads .entry) ∷ (now (links .entry) ∷ (now (envelopes .entry) ∷ [])))))) (r .refusal) (r .states) (now (entries .exit)) (now (flags .exit)) ⌝ }
 {
     if !have_room(
         rows,
@@ -189,7 +189,7 @@ fn run(
         next.len(),
         heads.len(),
         links.len(),
-        shared.len(),
+        envelopes.len(),
     ) {
         return Minimised {
             refusal: 11,
@@ -212,7 +212,7 @@ fn run(
         &mut next[..rows],
         &mut heads[..rows],
         &mut links[..rows],
-        &mut shared[..rows],
+        &mut envelopes[..rows],
     );
     Minimised {
         refusal: 0,
@@ -233,9 +233,9 @@ pub fn minimise(
     next: &mut [u32],
     heads: &mut [u32],
     links: &mut [u32],
-    shared: &mut [u32],
+    envelopes: &mut [u32],
 ) -> Minimised
-    ensures { λ r. ⌜ MinimiseOutcome (record { entries = now (entries .entry); flags = now (flags .entry); work = now (live .entry) ∷ (now (class .entry) ∷ (now (next .entry) ∷ (now (heads .entry) ∷ (now (links .entry) ∷ (now (shared .entry) ∷ []))))) }) letters rows (r .refusal) (r .states) (record { entries = now (entries .exit); flags = now (flags .exit); work = now (live .exit) ∷ (now (class .exit) ∷ (now (next .exit) ∷ (now (heads .exit) ∷ (now (links .exit) ∷ (now (shared .exit) ∷ []))))) }) ⌝ }
+    ensures { λ r. ⌜ MinimiseOutcome (record { entries = now (entries .entry); flags = now (flags .entry); work = now (live .entry) ∷ (now (class .entry) ∷ (now (next .entry) ∷ (now (heads .entry) ∷ (now (links .entry) ∷ (now (envelopes .entry) ∷ []))))) }) letters rows (r .refusal) (r .states) (record { entries = now (entries .exit); flags = now (flags .exit); work = now (live .exit) ∷ (now (class .exit) ∷ (now (next .exit) ∷ (now (heads .exit) ∷ (now (links .exit) ∷ (now (envelopes .exit) ∷ []))))) }) ⌝ }
 {
     let answer = run(
         entries,
@@ -247,7 +247,7 @@ pub fn minimise(
         next,
         heads,
         links,
-        shared,
+        envelopes,
     );
     let states = answer.states as usize;
     clearing::clear_tables(
@@ -260,7 +260,7 @@ pub fn minimise(
         next,
         heads,
         links,
-        shared,
+        envelopes,
     );
     answer
 }

@@ -14,9 +14,9 @@ pub extern "C" fn minimise_c(
     next: &mut [u32],
     heads: &mut [u32],
     links: &mut [u32],
-    shared: &mut [u32],
+    envelopes: &mut [u32],
 ) -> Minimised
-    ensures { λ r. ⌜ MinimiseOutcome (record { entries = now (entries .entry); flags = now (flags .entry); work = now (live .entry) ∷ (now (class .entry) ∷ (now (next .entry) ∷ (now (heads .entry) ∷ (now (links .entry) ∷ (now (shared .entry) ∷ []))))) }) letters rows (r .refusal) (r .states) (record { entries = now (entries .exit); flags = now (flags .exit); work = now (live .exit) ∷ (now (class .exit) ∷ (now (next .exit) ∷ (now (heads .exit) ∷ (now (links .exit) ∷ (now (shared .exit) ∷ []))))) }) ⌝ }
+    ensures { λ r. ⌜ MinimiseOutcome (record { entries = now (entries .entry); flags = now (flags .entry); work = now (live .entry) ∷ (now (class .entry) ∷ (now (next .entry) ∷ (now (heads .entry) ∷ (now (links .entry) ∷ (now (envelopes .entry) ∷ []))))) }) letters rows (r .refusal) (r .states) (record { entries = now (entries .exit); flags = now (flags .exit); work = now (live .exit) ∷ (now (class .exit) ∷ (now (next .exit) ∷ (now (heads .exit) ∷ (now (links .exit) ∷ (now (envelopes .exit) ∷ []))))) }) ⌝ }
 {
     minimise::minimise(
         entries,
@@ -28,6 +28,6 @@ pub extern "C" fn minimise_c(
         next,
         heads,
         links,
-        shared,
+        envelopes,
     )
 }

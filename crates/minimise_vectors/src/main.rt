@@ -1,6 +1,6 @@
 // Runs `minimise` on the graphs that standard input gives, and prints each answer with every table that was lent. tests/minimise_vectors/make.py
 // wrote the input and what is expected: eleven numbers of four bytes, low first (how many bytes follow, the letters, the rows, and the lengths of
-// entries, flags, live, class, next, heads, links and shared), then the flags, and the entries with two bytes each, low first, graph after graph.
+// entries, flags, live, class, next, heads, links and envelopes), then the flags, and the entries with two bytes each, low first, graph after graph.
 // A line has refusal and states, the entries, the flags, and how many numbers of the work tables are not 0.
 use cases::add_nonzero;
 use cases::number;
@@ -31,7 +31,7 @@ fn minimise_in(
     next: &mut [u32],
     heads: &mut [u32],
     links: &mut [u32],
-    shared: &mut [u32],
+    envelopes: &mut [u32],
 ) -> Minimised {
     let n1 = cases::entries_lent(heading, 12, entries);
     let n2 = cases::bytes_lent(heading, 16, flags);
@@ -40,7 +40,7 @@ fn minimise_in(
     let n5 = words_lent(heading, 28, next);
     let n6 = words_lent(heading, 32, heads);
     let n7 = words_lent(heading, 36, links);
-    let n8 = words_lent(heading, 40, shared);
+    let n8 = words_lent(heading, 40, envelopes);
     let letters = number(heading, 4) as usize;
     let rows = number(heading, 8) as usize;
     minimise::minimise(
@@ -53,7 +53,7 @@ fn minimise_in(
         &mut next[..n5],
         &mut heads[..n6],
         &mut links[..n7],
-        &mut shared[..n8],
+        &mut envelopes[..n8],
     )
 }
 
@@ -76,11 +76,16 @@ fn print_left(
     next: &[u32; 4112],
     heads: &[u32; 4112],
     links: &[u32; 4112],
-    shared: &[u32; 4112],
+    envelopes: &[u32; 4112],
 ) {
     let first = add_nonzero(add_nonzero(0, heading, 20, live), heading, 24, class);
     let second = add_nonzero(add_nonzero(first, heading, 28, next), heading, 32, heads);
-    let third = add_nonzero(add_nonzero(second, heading, 36, links), heading, 40, shared);
+    let third = add_nonzero(
+        add_nonzero(second, heading, 36, links),
+        heading,
+        40,
+        envelopes,
+    );
     io::write_all(STDOUT_FILENO, b": ");
     print(third, b"\n");
 }
@@ -93,7 +98,7 @@ fn run_case(heading: &[u8], text: &mut [u8]) {
     let mut next = work_room();
     let mut heads = work_room();
     let mut links = work_room();
-    let mut shared = work_room();
+    let mut envelopes = work_room();
     read_entries(heading, text, &mut entries);
     let answer = minimise_in(
         heading,
@@ -104,10 +109,10 @@ fn run_case(heading: &[u8], text: &mut [u8]) {
         &mut next,
         &mut heads,
         &mut links,
-        &mut shared,
+        &mut envelopes,
     );
     print_answer(answer, heading, &entries, text);
-    print_left(heading, &live, &class, &next, &heads, &links, &shared);
+    print_left(heading, &live, &class, &next, &heads, &links, &envelopes);
 }
 
 // One case; whether there was one.

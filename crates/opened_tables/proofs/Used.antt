@@ -2,11 +2,10 @@
 -- lent. From the one outcome of a compile in the rows lent (lend), and the streams that are told of a sheet (compiled_sheet).
 use Prim.Native.Nat.{ℕ, _-_, _*_, _≤_, min}
 use native.Mathlib.Omega.{arith}
-use native.Mathlib.Nat.{le-trans}
 use mathlib.Core.Path.{_≡_, refl, ap, _∙_}
 use mathlib.Core.List.{List, _++_}
 use mathlib.Core.Option.{none, some}
-use lib.ListN.{length, take, length-append, length-replicate}
+use lib.ListN.{length, take}
 use lib.Seq.{take-append-le, length-take-le}
 use Rattle.meaning.specs.Expression.{Sheet}
 use Rattle.meaning.specs.Letter.{letterCount}
@@ -22,10 +21,10 @@ use Rattle.compiled_sheet.proofs.Sheets.{stored-streams-fit}
 use Rattle.theorems.specs.UsedRows.{usedFinals}
 use Rattle.theorems.proofs.Demands.{table-stored, few-states}
 use Rattle.lend.specs.Lend.{CompiledLent}
-use Rattle.lend.proofs.Rows.{lent-entries, lent-rows}
 use Rattle.lend.proofs.Outcome.{compiled-held, stored-is}
 use Rattle.given_tables.specs.Given.{givenTable, IsFitTable}
 use Rattle.opening.specs.declared.OpenedTable.{OpenedTable}
+use Rattle.opening.proofs.Sizes.{few-rows, used-fits}
 use Rattle.opening.specs.Start.{startState}
 use Rattle.opening.specs.Opens.{openedAs, OpensTable, OpensTable.refusedSheet as givesNoTable, OpensTable.noStart as givesNoState, OpensTable.opened as table}
 use Rattle.opened_tables.specs.Used.{openedGiven, compiledGiven}
@@ -37,10 +36,6 @@ module _ {text : List ℕ} {s : Sheet} {a : CompileAnswer} {t : Tables} (c : Com
   pub compiled-fit : IsFitTable (compiledGiven s a t)
   compiled-fit = record { well-formed = used-well-formed (table-stored (c .call) (c .reads) z) (few-states (c .call) (c .reads) z); streams-fit = stored-streams-fit s (accepted-facts (c .reads)) }
 
-  -- There are no more states than rows lent.
-  pub few-rows : a .states ≤ 256
-  few-rows = let held = compiled-held c z in omega (arith, held .table .finals-fit, held .finalsSize, lent-rows k)
-
   pub finals-long : length (usedFinals a t) ≡ a .states
   finals-long = length-take-le (a .states) (t .finals) (compiled-held c z .table .finals-fit)
 
@@ -50,16 +45,13 @@ module _ {text : List ℕ} {s : Sheet} {a : CompileAnswer} {t : Tables} (c : Com
   letters-are : readingOf (answerTo text) .sheet .letters ≡ k
   letters-are = sheet-letters s stored
 
-  used-fits : a .states * k ≤ 32768
-  used-fits = let held = compiled-held c z in le-trans (held .table .entries-fit) (omega (arith, held .entriesSize, lent-entries k))
-
   -- With zeros behind them the rows lent have the same used rows, and the sheet's letters and streams.
   pub opened-given : (state m n : ℕ) → openedGiven (openedAs 0 (a .states) state text) (t .entries ++ zeros m) (t .finals ++ zeros n) ≡ compiledGiven s a t
   opened-given state m n =
       let held = compiled-held c z .table in
-      let rows : min (a .states) 256 ≡ a .states = omega (arith, few-rows) in
+      let rows : min (a .states) 256 ≡ a .states = omega (arith, few-rows c z) in
       let used : min (min (a .states) 256 * readingOf (answerTo text) .sheet .letters) 32768 ≡ a .states * k =
-      ap (λ r. min (r * readingOf (answerTo text) .sheet .letters) 32768) rows ∙ ap (λ l. min (a .states * l) 32768) letters-are ∙ omega (arith, used-fits) in
+      ap (λ r. min (r * readingOf (answerTo text) .sheet .letters) 32768) rows ∙ ap (λ l. min (a .states * l) 32768) letters-are ∙ omega (arith, used-fits c z) in
       let entries = ap (λ u. take u (t .entries ++ zeros m)) used ∙ take-append-le (a .states * k) (t .entries) (zeros m) (held .entries-fit) in
       let finals = ap (λ r. take r (t .finals ++ zeros n)) rows ∙ take-append-le (a .states) (t .finals) (zeros n) (held .finals-fit) in
       λ i. givenTable (entries i) (finals i) (letters-are i) (sheetStreams (stored i))
@@ -68,14 +60,3 @@ module _ {text : List ℕ} {s : Sheet} {a : CompileAnswer} {t : Tables} (c : Com
 pub start-none : (states : ℕ) → startState states none ≡ some 0
 unfolding startState
 start-none states = refl
-
--- The arrays are as long as they were lent.
-pub opened-sizes : {text : List ℕ} {x : OpenedTable} {entries finals : List ℕ} → OpensTable text none x entries finals → (length entries ≡ 32768) × (length finals ≡ 256)
-opened-sizes (givesNoTable r) = (length-replicate {A = ℕ} 32768 0, length-replicate {A = ℕ} 256 0)
-opened-sizes (givesNoState c z e) = (length-replicate {A = ℕ} 32768 0, length-replicate {A = ℕ} 256 0)
-opened-sizes (table {s} {a} {t} c z e) =
-    let held = compiled-held c z in
-    let k = letterCount (s .streams) in
-    let m = 32768 - length (t .entries) in
-    let n = 256 - length (t .finals) in
-    (omega (arith, length-append (t .entries) (zeros m), length-replicate {A = ℕ} m 0, held .entriesSize, lent-entries k), omega (arith, length-append (t .finals) (zeros n), length-replicate {A = ℕ} n 0, held .finalsSize, lent-rows k))

@@ -1,4 +1,4 @@
-// The used rows of a table that a program opened, as it passes them on to a call that takes two tables.
+// The used rows of a table that a program opened, as it passes them on.
 use basics::fewer;
 use opening::OpenedTable;
 ghost use mathlib.Core.Path.{_≡_};

@@ -3,3 +3,4 @@ pub mod Judged
 pub mod Opening
 pub mod Plays
 pub mod Printing
+pub mod Sizes

@@ -21,6 +21,13 @@ pub written-front : (out text : List ℕ) → length text ≤ length out → tak
 written-front out text h =
     ap (take (length text)) (sets-eq text out 0 (omega arith)) ∙ take-at text (drop (0 + length text) out) (length text) refl
 
+-- A text that was written to the front of lent bytes with room for it stands there.
+pub front-text : {text out out′ : List ℕ} {r : ℕ} → Appends 0 text out out′ r → length text ≤ length out → take r out′ ≡ text
+front-text {text} {out} p h =
+    let w = p .written (omega arith) in
+    let size = w .1 ∙ (let e : 0 + length text ≡ length text = omega arith in e) in
+    ap₂ take size (w .0) ∙ written-front out text h
+
 -- A text that is appended at the front of room for a line.
 pub appended-line : {text out out′ : List ℕ} {r : ℕ} → length out ≡ lineRoom → Appends 0 text out out′ r → HoldsLine text out′ r
 appended-line {text} {out} {out′} {r} l p =

@@ -142,9 +142,9 @@ fewest-hold n t (u ∷ us) h = (rows-fit n (t .perRow) (t .size) (omega arith), 
 
 -- ---- the outcome
 
-module _ (entries finals keys live class next heads links shared : List ℕ) where
+module _ (entries finals keys live class next heads links envelopes : List ℕ) where
   abbrev lentRoom : Room
-  lentRoom = joinRoom entries finals keys live class next heads links shared
+  lentRoom = joinRoom entries finals keys live class next heads links envelopes
 
   -- What the table is made of, and what that leaves; the sizes stay.
   module _ {T₀ : TwoTables} (W : StatesBelow T₀ mostRows) (some : 0 < T₀ .letters) (leftCuts rightCuts leftLetters rightLetters limit n refusal states : ℕ) (entries₁ finals₁ keys₁ heads₁ links₁ : List ℕ) (after : GraphTables)
@@ -157,13 +157,13 @@ module _ (entries finals keys live class next heads links shared : List ℕ) whe
     R = roomRows lentRoom k
 
     abbrev before : GraphTables
-    before = record { entries = entries₁; flags = finals₁; work = live ∷ (class ∷ (next ∷ (heads₁ ∷ (links₁ ∷ (shared ∷ []))))) }
+    before = record { entries = entries₁; flags = finals₁; work = live ∷ (class ∷ (next ∷ (heads₁ ∷ (links₁ ∷ (envelopes ∷ []))))) }
 
     abbrev left : Tables
     left = record { entries = after .entries; finals = after .flags; work = keys₁ ∷ after .work }
 
     work-zeros : after .work ≡ cleared (before .work) → left .work ≡ zeroTables (lentRoom .work)
-    work-zeros e i = kz i ∷ (e ∙ (λ j. zeros (length live) ∷ (zeros (length class) ∷ (zeros (length next) ∷ (zeros (hl j) ∷ (zeros (ll j) ∷ (zeros (length shared) ∷ []))))))) i
+    work-zeros e i = kz i ∷ (e ∙ (λ j. zeros (length live) ∷ (zeros (length class) ∷ (zeros (length next) ∷ (zeros (hl j) ∷ (zeros (ll j) ∷ (zeros (length envelopes) ∷ []))))))) i
 
     all-zeros : {number : ℕ} → IsRefusal number before refusal states after → allZero lentRoom ≡ left
     all-zeros y = sym (λ i. record { entries = (y .entries-zero ∙ ap zeros el) i; finals = (y .flags-zero ∙ ap zeros fl) i; work = work-zeros (y .work-zero) i })

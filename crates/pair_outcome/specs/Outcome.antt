@@ -15,17 +15,17 @@ abbrev pub rowTable : List ℕ → LentTable
 rowTable list = record { perRow = 1; size = length list }
 
 -- The lent tables in document 01's terms: a key takes one number, and so does a row in each of the other work tables.
-abbrev pub joinRoom : (entries finals keys live class next heads links shared : List ℕ) → Room
-joinRoom entries finals keys live class next heads links shared =
+abbrev pub joinRoom : (entries finals keys live class next heads links envelopes : List ℕ) → Room
+joinRoom entries finals keys live class next heads links envelopes =
     record {
       entries = length entries;
       finals = length finals;
-      work = rowTable keys ∷ (rowTable live ∷ (rowTable class ∷ (rowTable next ∷ (rowTable heads ∷ (rowTable links ∷ (rowTable shared ∷ []))))));
+      work = rowTable keys ∷ (rowTable live ∷ (rowTable class ∷ (rowTable next ∷ (rowTable heads ∷ (rowTable links ∷ (rowTable envelopes ∷ []))))));
     }
 
-abbrev pub joinTables : (entries finals keys live class next heads links shared : List ℕ) → Tables
-joinTables entries finals keys live class next heads links shared =
-    record { entries = entries; finals = finals; work = keys ∷ (live ∷ (class ∷ (next ∷ (heads ∷ (links ∷ (shared ∷ [])))))) }
+abbrev pub joinTables : (entries finals keys live class next heads links envelopes : List ℕ) → Tables
+joinTables entries finals keys live class next heads links envelopes =
+    record { entries = entries; finals = finals; work = keys ∷ (live ∷ (class ∷ (next ∷ (heads ∷ (links ∷ (envelopes ∷ [])))))) }
 
 pub data PairTableOutcome (T : TwoTables) (room : Room) : CompileAnswer → Tables → Type 0 where
   -- The pairs fit, and a pair with both states final leads to one without: no compile gave such tables, and for these document 02 leaves the outcome free.

@@ -57,7 +57,7 @@ digits-length (suc k) n h = by (digits-length k (n / 10)) (ltb n 10) refl
 pub natural-length : (n : ℕ) → n < 18446744073709551616 → length (digits n) ≤ 20
 natural-length n h = digits-length 19 n (omega arith)
 
-integer-length : (z : ℤ) → SFits w64 z → length (decimal z) ≤ 20
+pub integer-length : (z : ℤ) → SFits w64 z → length (decimal z) ≤ 20
 integer-length (pos n) f = natural-length n (omega arith)
 integer-length (negsuc n) f = let l = digits-length 18 (suc n) (omega arith) in omega arith
 

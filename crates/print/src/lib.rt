@@ -1,5 +1,6 @@
 // Writes lines to lent bytes: those that `sluice` prints (the heading, the line of an entry, and the line of a refusal), a line of two numbers,
-// and any text. An answer is how many bytes it takes, or one more than the lent bytes where it has no room there.
+// and any text; and pieces of a line, from a place on. An answer is the place behind the text, which for a line is how many bytes it takes, or one more than
+// the lent bytes where it has no room there.
 use basics::fewer;
 ghost use mathlib.Core.Path.{_≡_};
 ghost use mathlib.Core.List.{[], _∷_, _++_, map};
@@ -15,7 +16,6 @@ ghost use Rattle.sheet.specs.Names.{nameIn};
 // ---- pieces of a line, each from the place where the last one ended
 
 fn append_byte(out: &mut [u8], at: usize, byte: u8) -> usize
-    requires { ⌜ at ≤ suc (length (now out)) ⌝ }
     ensures { λ r. ⌜ Appends at (byte ∷ []) (now (out .entry)) (now (out .exit)) r ⌝ }
 {
     if at < out.len() {
@@ -25,10 +25,13 @@ fn append_byte(out: &mut [u8], at: usize, byte: u8) -> usize
     out.len() + 1
 }
 
-fn append_bytes(out: &mut [u8], at: usize, text: &[u8]) -> usize
-    requires { ⌜ at ≤ suc (length (now out)) ⌝ }
+// A text as it is given.
+pub fn append_bytes(out: &mut [u8], at: usize, text: &[u8]) -> usize
     ensures { λ r. ⌜ Appends at (now (text .entry)) (now (out .entry)) (now (out .exit)) r ⌝ }
 {
+    if out.len() < at {
+        return out.len() + 1;
+    }
     let mut to = at;
     let mut i = 0;
     while i < text.len() {
@@ -75,12 +78,11 @@ fn put_digits(out: &mut [u8], at: usize, count: usize, value: u64)
 }
 
 // The digits of a number.
-fn append_natural(out: &mut [u8], at: usize, value: u64) -> usize
-    requires { ⌜ at ≤ suc (length (now out)) ⌝ }
+pub fn append_natural(out: &mut [u8], at: usize, value: u64) -> usize
     ensures { λ r. ⌜ Appends at (digits value) (now (out .entry)) (now (out .exit)) r ⌝ }
 {
     let count = digit_count(value);
-    if out.len() < at + count {
+    if out.len() - fewer(at, out.len()) < count {
         return out.len() + 1;
     }
     put_digits(out, at, count, value);
@@ -97,8 +99,8 @@ fn magnitude(value: i64) -> u64
     value as u64
 }
 
-fn append_number(out: &mut [u8], at: usize, value: i64) -> usize
-    requires { ⌜ at ≤ suc (length (now out)) ⌝ }
+// An integer in decimal.
+pub fn append_number(out: &mut [u8], at: usize, value: i64) -> usize
     ensures { λ r. ⌜ Appends at (decimal value) (now (out .entry)) (now (out .exit)) r ⌝ }
 {
     let size = magnitude(value);

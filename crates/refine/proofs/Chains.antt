@@ -70,8 +70,8 @@ module _ {links : List ℕ} {P : ℕ → Type 0} where
   searching-end e I i d p = chain-empty links e (I .left i d p)
 
 -- what a search of the chain of bucket b finds for row s, where b is the row's bucket
-module _ (letters : ℕ) (entries class heads links : List ℕ) (s b : ℕ) (e : b ≡ rowBucket (length heads) letters entries class s) where
-  pub joins-found : (v : ℕ) → 0 < v → RowFound letters entries class links (getD heads b 0) s v → Joins letters entries class heads links heads links s v
+module _ (letters : ℕ) (entries class envelopes heads links : List ℕ) (s b : ℕ) (e : b ≡ rowBucket (length heads) letters entries class envelopes s) where
+  pub joins-found : (v : ℕ) → 0 < v → RowFound letters entries class links (getD heads b 0) s v → Joins letters entries class envelopes heads links heads links s v
   joins-found v h f = record {
     some = h;
     on-chain = subst (λ x. OnChain links (getD heads x 0) (v - 1)) e (f .hit h .0);
@@ -81,7 +81,7 @@ module _ (letters : ℕ) (entries class heads links : List ℕ) (s b : ℕ) (e :
   }
 
   pub begins-missed : (v : ℕ) → v ≡ 0 → RowFound letters entries class links (getD heads b 0) s v
-      → BeginsClass letters entries class heads links (set heads b (s + 1)) (set links s (getD heads b 0)) s (s + 1)
+      → BeginsClass letters entries class envelopes heads links (set heads b (s + 1)) (set links s (getD heads b 0)) s (s + 1)
   begins-missed v z f = record {
     own = add-one s;
     none = λ i d. f .miss z i (subst (λ x. OnChain links (getD heads x 0) i) (sym e) d);

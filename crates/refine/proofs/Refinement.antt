@@ -17,11 +17,12 @@ use Rattle.marks.specs.Marks.{Marked}
 use Rattle.marks.proofs.Laws.{marked-inside}
 use Rattle.marks.proofs.Tests.{marked-test, test-marked, unmarked-test}
 use Rattle.marks.specs.Tests.{isMarked}
-use Rattle.refine.specs.Classes.{edges, IsNamed, Refined, Sizes}
+use Rattle.row_envelopes.specs.Envelopes.{Enveloped}
+use Rattle.refine.specs.Classes.{edges, IsNamed, Refined}
 use Rattle.refine.specs.Signatures.{classAfter, SameSignature}
 use Rattle.refine.specs.Splitting.{IsFirst, ClassesMoved, Round, Falling}
-use Rattle.refine.specs.Steps.{ByFinals, Rounds}
-use Rattle.refine.proofs.Signatures.{signature-sym, signature-trans}
+use Rattle.refine.specs.Steps.{ByFinals, Rounds, Roundable}
+use Rattle.refine.proofs.Signatures.{signature-sym, signature-trans, enveloped-classes}
 use Rattle.refine.proofs.Splitting.{first-same}
 
 -- how far the classes are from n, all together
@@ -201,35 +202,38 @@ module _ {letters : ℕ} {entries live finals class next : List ℕ} {changed : 
           ext-getD 0 next class e λ s h. m s (omega (arith, e))
 
 -- the lists between two rounds
-pub record Going (letters : ℕ) (entries live finals class next heads links shared : List ℕ) : Type 0 where
+pub record Going (letters : ℕ) (entries live finals envelopes class next heads links : List ℕ) : Type 0 where
   pub classes : Classes letters entries live finals class
+  pub envelopes-fit : length envelopes ≡ length live
+  pub enveloped : Enveloped letters entries live envelopes (length live)
   pub next-fits : length next ≡ length live
   pub heads-fit : length heads ≡ length live
   pub links-fit : length links ≡ length live
-  pub shared-fits : length shared ≡ length live
   pub falling : Falling links
 
-module _ {letters : ℕ} {entries live finals class next heads links shared : List ℕ} (z : Sizes letters entries live finals class next heads links shared) where
+module _ {letters : ℕ} {entries live finals envelopes class next heads links : List ℕ} (z : Roundable letters entries live finals envelopes class next heads links) where
   pub going-start : (class′ links′ : List ℕ) → length class′ ≡ length class → length links′ ≡ length links → ((s : ℕ) → getD links′ s 0 ≡ 0) → ByFinals live finals class′
-      → Going letters entries live finals class′ next heads links′ shared
+      → Going letters entries live finals envelopes class′ next heads links′
   going-start class′ links′ e f cleared b = record {
-    classes = classes-start (e ∙ z .class-fits) b;
-    next-fits = z .next-fits;
-    heads-fit = z .heads-fit;
-    links-fit = f ∙ z .links-fit;
-    shared-fits = z .shared-fits;
+    classes = classes-start (e ∙ z .sizes .class-fits) b;
+    envelopes-fit = z .sizes .envelopes-fit;
+    enveloped = z .enveloped;
+    next-fits = z .sizes .next-fits;
+    heads-fit = z .sizes .heads-fit;
+    links-fit = f ∙ z .sizes .links-fit;
     falling = λ s. omega (arith, cleared s);
   }
 
-module _ {letters : ℕ} {entries live finals class next heads links shared : List ℕ} (I : Going letters entries live finals class next heads links shared) where
-  pub going-ready : length live < 65536 → length live * letters ≤ length entries → Rounds letters entries class next heads links shared
+module _ {letters : ℕ} {entries live finals envelopes class next heads links : List ℕ} (I : Going letters entries live finals envelopes class next heads links) where
+  pub going-ready : length live < 65536 → length live * letters ≤ length entries → Rounds letters entries class envelopes next heads links
   going-ready few fits = record {
     few = rw (I .classes .same) few;
     entries-fit = rw (I .classes .same) fits;
+    envelopes-fit = I .envelopes-fit ∙ sym (I .classes .same);
+    enveloped = enveloped-classes (I .classes .same) (I .classes .named) (I .enveloped);
     next-fits = I .next-fits ∙ sym (I .classes .same);
     heads-fit = I .heads-fit ∙ sym (I .classes .same);
     links-fit = I .links-fit ∙ sym (I .classes .same);
-    shared-fits = I .shared-fits ∙ sym (I .classes .same);
     low = I .classes .named .low;
     falling = I .falling;
   }
@@ -238,13 +242,14 @@ module _ {letters : ℕ} {entries live finals class next heads links shared : Li
   next-same = I .next-fits ∙ sym (I .classes .same)
 
   -- the round puts the new classes into `next`; the lists `class` and `next` change places
-  pub going-next : {next′ heads′ links′ shared′ : List ℕ} {changed : Bool} → length next′ ≡ length next → length heads′ ≡ length heads → length links′ ≡ length links → length shared′ ≡ length shared
-      → Round letters entries class next′ changed → Falling links′ → Going letters entries live finals next′ class heads′ links′ shared′
-  going-next b d e f r g = record {
+  pub going-next : {next′ heads′ links′ : List ℕ} {changed : Bool} → length next′ ≡ length next → length heads′ ≡ length heads → length links′ ≡ length links
+      → Round letters entries class next′ changed → Falling links′ → Going letters entries live finals envelopes next′ class heads′ links′
+  going-next b d e r g = record {
     classes = classes-round (I .classes) (b ∙ next-same) r;
+    envelopes-fit = I .envelopes-fit;
+    enveloped = I .enveloped;
     next-fits = I .classes .same;
     heads-fit = d ∙ I .heads-fit;
     links-fit = e ∙ I .links-fit;
-    shared-fits = f ∙ I .shared-fits;
     falling = g;
   }

@@ -34,7 +34,7 @@ pub record Refined (letters : ℕ) (entries live finals class : List ℕ) : Type
   pub partition : IsPartition (edges letters entries (length live)) (isMarked live) (isMarked finals) (λ s t. getD class s 0 ≡ getD class t 0)
 
 -- The lists of rows are of one length, and the entries and the final bytes have room for as many rows. A class is at most 65,535, which a stored number holds.
-pub record Sizes (letters : ℕ) (entries live finals class next heads links shared : List ℕ) : Type 0 where
+pub record Sizes (letters : ℕ) (entries live finals class next heads links envelopes : List ℕ) : Type 0 where
   pub few : length live < 65536
   pub entries-fit : length live * letters ≤ length entries
   pub finals-fit : length live ≤ length finals
@@ -42,4 +42,4 @@ pub record Sizes (letters : ℕ) (entries live finals class next heads links sha
   pub next-fits : length next ≡ length live
   pub heads-fit : length heads ≡ length live
   pub links-fit : length links ≡ length live
-  pub shared-fits : length shared ≡ length live
+  pub envelopes-fit : length envelopes ≡ length live

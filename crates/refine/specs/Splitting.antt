@@ -25,30 +25,30 @@ pub record RowFound (letters : ℕ) (entries class links : List ℕ) (head s v :
   pub miss : v ≡ 0 → (i : ℕ) → OnChain links head i → ¬ SameSignature letters entries class i s
 
 -- row s joins the new class that row v - 1 began
-pub record Joins (letters : ℕ) (entries class heads links heads′ links′ : List ℕ) (s v : ℕ) : Type 0 where
+pub record Joins (letters : ℕ) (entries class envelopes heads links heads′ links′ : List ℕ) (s v : ℕ) : Type 0 where
   pub some : 0 < v
-  pub on-chain : OnChain links (getD heads (rowBucket (length heads) letters entries class s) 0) (v - 1)
+  pub on-chain : OnChain links (getD heads (rowBucket (length heads) letters entries class envelopes s) 0) (v - 1)
   pub same : SameSignature letters entries class (v - 1) s
   pub heads-kept : heads′ ≡ heads
   pub links-kept : links′ ≡ links
 
 -- row s begins a new class, and is put into its bucket's chain
-pub record BeginsClass (letters : ℕ) (entries class heads links heads′ links′ : List ℕ) (s v : ℕ) : Type 0 where
+pub record BeginsClass (letters : ℕ) (entries class envelopes heads links heads′ links′ : List ℕ) (s v : ℕ) : Type 0 where
   pub own : v ≡ suc s
-  pub none : (i : ℕ) → OnChain links (getD heads (rowBucket (length heads) letters entries class s) 0) i → ¬ SameSignature letters entries class i s
-  pub heads-changed : heads′ ≡ set heads (rowBucket (length heads) letters entries class s) (suc s)
-  pub links-changed : links′ ≡ set links s (getD heads (rowBucket (length heads) letters entries class s) 0)
+  pub none : (i : ℕ) → OnChain links (getD heads (rowBucket (length heads) letters entries class envelopes s) 0) i → ¬ SameSignature letters entries class i s
+  pub heads-changed : heads′ ≡ set heads (rowBucket (length heads) letters entries class envelopes s) (suc s)
+  pub links-changed : links′ ≡ set links s (getD heads (rowBucket (length heads) letters entries class envelopes s) 0)
 
--- row s has a class with another row, and joins or begins a new class
-pub record Splits (letters : ℕ) (entries class shared heads links heads′ links′ : List ℕ) (s v : ℕ) : Type 0 where
+-- Row s has a class with another row, and joins or begins a new class. `mark` is that of row s.
+pub record Splits (letters : ℕ) (entries class envelopes : List ℕ) (mark : ℕ) (heads links heads′ links′ : List ℕ) (s v : ℕ) : Type 0 where
   pub some : 0 < getD class s 0
-  pub shares : Marked shared (getD class s 0 - 1)
-  pub way : Joins letters entries class heads links heads′ links′ s v ⊎ BeginsClass letters entries class heads links heads′ links′ s v
+  pub shares : getD class s 0 ≡ suc s → mark ≡ 1
+  pub way : Joins letters entries class envelopes heads links heads′ links′ s v ⊎ BeginsClass letters entries class envelopes heads links heads′ links′ s v
 
 -- row s keeps its class: it has none, or its class has no other row
-pub record Stays (class shared heads links heads′ links′ : List ℕ) (s v : ℕ) : Type 0 where
+pub record Stays (class : List ℕ) (mark : ℕ) (heads links heads′ links′ : List ℕ) (s v : ℕ) : Type 0 where
   pub kept : v ≡ getD class s 0
-  pub alone : 0 < getD class s 0 → ¬ Marked shared (getD class s 0 - 1)
+  pub alone : 0 < getD class s 0 → (getD class s 0 ≡ suc s) × (mark ≢ 1)
   pub heads-kept : heads′ ≡ heads
   pub links-kept : links′ ≡ links
 

@@ -1,14 +1,16 @@
 // Classes of the live rows of a stored graph: rows that no record tells apart have one class, named by its first row. Rounds of
-// splitting with hashed signatures, each against the classes of the round before.
+// splitting with hashed signatures, each against the classes of the round before. Only the envelope of a row is looked at: outside it no letter leads to a live row.
+use row_envelopes::envelope_of;
 ghost use mathlib.Core.Path.{_≡_};
 ghost use mathlib.Core.Logic.{_⊎_};
 ghost use Prim.Native.Nat.{ℕ, _+_, _*_, _<_, _≤_};
 ghost use lib.ListN.{length, getD};
 ghost use Rattle.basics.specs.Answers.{Says};
+ghost use Rattle.row_envelopes.specs.Envelopes.{Enveloped};
 ghost use Rattle.refine.specs.Classes.{Refined, Sizes};
-ghost use Rattle.refine.specs.Signatures.{classAfter, mixed, hash, signatureBucket};
+ghost use Rattle.refine.specs.Signatures.{classAfter, SameSignature, mixed, hash, rowHash, signatureBucket, EnvelopedClasses};
 ghost use Rattle.refine.specs.Splitting.{Falling, RowFound, Joins, BeginsClass, Splits, Stays, Sharing, Round};
-ghost use Rattle.refine.specs.Steps.{ByFinals, Searchable, Splittable, IsSized, Rounds, RefineOutcome};
+ghost use Rattle.refine.specs.Steps.{ByFinals, Searchable, Splittable, IsSized, Rounds, Roundable, RefineOutcome};
 
 // The name of a class: the name that it has, or `name` if it has none yet.
 fn first_of(old: u32, name: u32) -> u32
@@ -67,18 +69,30 @@ fn mix(h: u64, class: u32) -> u64
     (h * 2654435761 + class as u64) % 4294967296
 }
 
-// The hash of `first` and of the classes after the row that starts at `start`.
-fn hash_row(entries: &[u16], start: usize, letters: usize, class: &[u32], first: u32) -> u64
-    requires { ⌜ start + letters ≤ length (now entries) ⌝ }
-    ensures { λ r. ⌜ (r < 4294967296) × (r ≡ hash (classAfter (now (entries .entry)) (now (class .entry)) start) first letters) ⌝ }
+// The hash of `first` and of the classes after `count` entries from `start` on.
+fn hash_part(entries: &[u16], start: usize, count: usize, class: &[u32], first: u64) -> u64
+    requires { ⌜ (start + count ≤ length (now entries)) × (first < 4294967296) ⌝ }
+    ensures { λ r. ⌜ (r < 4294967296) × (r ≡ hash (classAfter (now (entries .entry)) (now (class .entry)) start) first count) ⌝ }
 {
-    let mut h = first as u64;
+    let mut h = first;
     let mut a = 0;
-    while a < letters {
+    while a < count {
         h = mix(h, marks::number_at(class, entries[start + a]));
         a += 1;
     }
     h
+}
+
+// The hash of a row's signature: of its class, its envelope and the classes after the letters of its envelope.
+fn hash_row(entries: &[u16], letters: usize, class: &[u32], envelopes: &[u32], row: usize) -> u64
+    requires { ⌜ (row < length (now class)) × (length (now class) * letters ≤ length (now entries)) × (length (now envelopes) ≡ length (now class)) ⌝ }
+    ensures { λ r. ⌜ (r < 4294967296) × (r ≡ rowHash letters (now (entries .entry)) (now (class .entry)) (now (envelopes .entry)) row) ⌝ }
+{
+    let number = envelopes[row];
+    let envelope = envelope_of(number, letters);
+    let start = row * letters + envelope.begin;
+    let count = envelope.end - envelope.begin;
+    hash_part(entries, start, count, class, mix(class[row] as u64, number))
 }
 
 // The bucket of a hash.
@@ -89,13 +103,13 @@ fn bucket(h: u64, count: usize) -> usize
     ((h / 32768 + h) % count as u64) as usize
 }
 
-// Whether the rows that start at `p` and `q` lead to the same classes.
-fn same_row(entries: &[u16], letters: usize, class: &[u32], p: usize, q: usize) -> bool
-    requires { ⌜ (p + letters ≤ length (now entries)) × (q + letters ≤ length (now entries)) ⌝ }
-    ensures { λ r. ⌜ Says r ((a : ℕ) → a < letters → classAfter (now (entries .entry)) (now (class .entry)) p a ≡ classAfter (now (entries .entry)) (now (class .entry)) q a) ⌝ }
+// Whether the `count` entries from `p` on and those from `q` on lead to the same classes.
+fn same_part(entries: &[u16], count: usize, class: &[u32], p: usize, q: usize) -> bool
+    requires { ⌜ (p + count ≤ length (now entries)) × (q + count ≤ length (now entries)) ⌝ }
+    ensures { λ r. ⌜ Says r ((a : ℕ) → a < count → classAfter (now (entries .entry)) (now (class .entry)) p a ≡ classAfter (now (entries .entry)) (now (class .entry)) q a) ⌝ }
 {
     let mut a = 0;
-    while a < letters {
+    while a < count {
         if marks::number_at(class, entries[p + a]) != marks::number_at(class, entries[q + a]) {
             return false;
         }
@@ -104,26 +118,54 @@ fn same_row(entries: &[u16], letters: usize, class: &[u32], p: usize, q: usize) 
     true
 }
 
+// Whether two rows have one signature. Rows with other envelopes have not.
+fn same_row(
+    entries: &[u16],
+    letters: usize,
+    class: &[u32],
+    envelopes: &[u32],
+    p: usize,
+    q: usize,
+) -> bool
+    requires { ⌜ (p < length (now class)) × (q < length (now class)) × (length (now class) * letters ≤ length (now entries)) × (length (now envelopes) ≡ length (now class)) × EnvelopedClasses letters (now entries) (now class) (now envelopes) ⌝ }
+    ensures { λ r. ⌜ Says r (SameSignature letters (now (entries .entry)) (now (class .entry)) p q) ⌝ }
+{
+    if class[p] != class[q] {
+        return false;
+    }
+    let number = envelopes[q];
+    if envelopes[p] != number {
+        return false;
+    }
+    let envelope = envelope_of(number, letters);
+    let from = envelope.begin;
+    same_part(
+        entries,
+        envelope.end - from,
+        class,
+        p * letters + from,
+        q * letters + from,
+    )
+}
+
 // One more than a row of the chain from `head` that has the signature of `row`, or 0.
 fn find(
     entries: &[u16],
     letters: usize,
     class: &[u32],
+    envelopes: &[u32],
     links: &[u32],
     head: usize,
     row: usize,
 ) -> usize
-    requires { ⌜ Searchable letters (now entries) (now class) (now links) head row ⌝ }
+    requires { ⌜ Searchable letters (now entries) (now class) (now envelopes) (now links) head row ⌝ }
     ensures { λ r. ⌜ (r ≤ row) × RowFound letters (now (entries .entry)) (now (class .entry)) (now (links .entry)) head row r ⌝ }
 {
-    let start = row * letters;
     let mut j = head;
     while j != 0 {
         let other = j - 1;
-        if class[other] == class[row] {
-            if same_row(entries, letters, class, other * letters, start) {
-                return j;
-            }
+        if same_row(entries, letters, class, envelopes, other, row) {
+            return j;
         }
         j = links[other] as usize;
     }
@@ -135,16 +177,25 @@ fn split_row(
     entries: &[u16],
     letters: usize,
     class: &[u32],
+    envelopes: &[u32],
     row: usize,
     heads: &mut [u32],
     links: &mut [u32],
 ) -> u32
-    requires { ⌜ Splittable letters (now entries) (now class) (now heads) (now links) row ⌝ }
-    ensures { λ r. ⌜ Joins letters (now (entries .entry)) (now (class .entry)) (now (heads .entry)) (now (links .entry)) (now (heads .exit)) (now (links .exit)) row r ⊎ BeginsClass letters (now (entries .entry)) (now (class .entry)) (now (heads .entry)) (now (links .entry)) (now (heads .exit)) (now (links .exit)) row r ⌝ }
+    requires { ⌜ Splittable letters (now entries) (now class) (now envelopes) (now heads) (now links) row ⌝ }
+    ensures { λ r. ⌜ Joins letters (now (entries .entry)) (now (class .entry)) (now (envelopes .entry)) (now (heads .entry)) (now (links .entry)) (now (heads .exit)) (now (links .exit)) row r ⊎ BeginsClass letters (now (entries .entry)) (now (class .entry)) (now (envelopes .entry)) (now (heads .entry)) (now (links .entry)) (now (heads .exit)) (now (links .exit)) row r ⌝ }
 {
-    let h = hash_row(entries, row * letters, letters, class, class[row]);
+    let h = hash_row(entries, letters, class, envelopes, row);
     let b = bucket(h, heads.len());
-    let found = find(entries, letters, class, links, heads[b] as usize, row);
+    let found = find(
+        entries,
+        letters,
+        class,
+        envelopes,
+        links,
+        heads[b] as usize,
+        row,
+    );
     if found != 0 {
         return found as u32;
     }
@@ -154,46 +205,59 @@ fn split_row(
     name
 }
 
-// The new class of a row.
+// The new class of a row. `mark` is 1 where the row is the first of a class that has another row.
 fn next_class(
     entries: &[u16],
     letters: usize,
     class: &[u32],
-    shared: &[u32],
+    envelopes: &[u32],
+    mark: u32,
     row: usize,
     heads: &mut [u32],
     links: &mut [u32],
 ) -> u32
-    requires { ⌜ Splittable letters (now entries) (now class) (now heads) (now links) row × (length (now shared) ≡ length (now class)) × (getD (now class) row 0 ≤ length (now class)) ⌝ }
-    ensures { λ r. ⌜ Stays (now (class .entry)) (now (shared .entry)) (now (heads .entry)) (now (links .entry)) (now (heads .exit)) (now (links .exit)) row r ⊎ Splits letters (now (entries .entry)) (now (class .entry)) (now (shared .entry)) (now (heads .entry)) (now (links .entry)) (now (heads .exit)) (now (links .exit)) row r ⌝ }
+    requires { ⌜ Splittable letters (now entries) (now class) (now envelopes) (now heads) (now links) row ⌝ }
+    ensures { λ r. ⌜ Stays (now (class .entry)) mark (now (heads .entry)) (now (links .entry)) (now (heads .exit)) (now (links .exit)) row r ⊎ Splits letters (now (entries .entry)) (now (class .entry)) (now (envelopes .entry)) mark (now (heads .entry)) (now (links .entry)) (now (heads .exit)) (now (links .exit)) row r ⌝ }
 {
     let old = class[row];
     if old == 0 {
         return 0;
     }
-    if shared[old as usize - 1] != 1 {
-        return old;
+    if old == row as u32 + 1 {
+        if mark != 1 {
+            return old;
+        }
     }
-    split_row(entries, letters, class, row, heads, links)
+    split_row(entries, letters, class, envelopes, row, heads, links)
 }
 
-// One round: each row gets the first row with its signature. Whether some class changed.
+// One round: each row gets the first row with its signature. Whether some class changed. `next` has the marks of the first rows of classes with another row,
+// each of which is read before the row's new class takes its place.
 fn split_round(
     entries: &[u16],
     letters: usize,
     class: &[u32],
-    shared: &[u32],
+    envelopes: &[u32],
     next: &mut [u32],
     heads: &mut [u32],
     links: &mut [u32],
 ) -> bool
-    requires { ⌜ IsSized letters (now entries) (now class) (now shared) (now next) (now heads) (now links) ⌝ }
+    requires { ⌜ IsSized letters (now entries) (now class) (now envelopes) (now next) (now heads) (now links) ⌝ }
     ensures { λ r. ⌜ Round letters (now (entries .entry)) (now (class .entry)) (now (next .exit)) r × Falling (now (links .exit)) ⌝ }
 {
     let mut changed = false;
     let mut row = 0;
     while row < class.len() {
-        let c = next_class(entries, letters, class, shared, row, heads, links);
+        let c = next_class(
+            entries,
+            letters,
+            class,
+            envelopes,
+            next[row],
+            row,
+            heads,
+            links,
+        );
         next[row] = c;
         let old = class[row];
         row += 1;
@@ -209,18 +273,18 @@ fn round(
     entries: &[u16],
     letters: usize,
     class: &[u32],
+    envelopes: &[u32],
     next: &mut [u32],
     heads: &mut [u32],
     links: &mut [u32],
-    shared: &mut [u32],
 ) -> bool
-    requires { ⌜ Rounds letters (now entries) (now class) (now next) (now heads) (now links) (now shared) ⌝ }
+    requires { ⌜ Rounds letters (now entries) (now class) (now envelopes) (now next) (now heads) (now links) ⌝ }
     ensures { λ r. ⌜ Round letters (now (entries .entry)) (now (class .entry)) (now (next .exit)) r × Falling (now (links .exit)) ⌝ }
 {
-    basics::fill(shared, 0);
-    mark_shared(class, shared);
+    basics::fill(next, 0);
+    mark_shared(class, next);
     basics::fill(heads, 0);
-    split_round(entries, letters, class, shared, next, heads, links)
+    split_round(entries, letters, class, envelopes, next, heads, links)
 }
 
 // Rounds until one changes no class, with the new classes in `next` and in `class` by turns. After a round that changes none both
@@ -231,22 +295,22 @@ fn rounds(
     letters: usize,
     live: &[u32],
     finals: &[u8],
+    envelopes: &[u32],
     class: &mut [u32],
     next: &mut [u32],
     heads: &mut [u32],
     links: &mut [u32],
-    shared: &mut [u32],
 )
-    requires { ⌜ Sizes letters (now entries) (now live) (now finals) (now class) (now next) (now heads) (now links) (now shared) ⌝ }
+    requires { ⌜ Roundable letters (now entries) (now live) (now finals) (now envelopes) (now class) (now next) (now heads) (now links) ⌝ }
     ensures { λ r. ⌜ Refined letters (now (entries .entry)) (now (live .entry)) (now (finals .entry)) (now (class .exit)) ⌝ }
 {
     first_classes(live, finals, class);
     basics::fill(links, 0);
     loop {
-        if !round(entries, letters, class, next, heads, links, shared) {
+        if !round(entries, letters, class, envelopes, next, heads, links) {
             break;
         }
-        if !round(entries, letters, next, class, heads, links, shared) {
+        if !round(entries, letters, next, envelopes, class, heads, links) {
             break;
         }
     }
@@ -260,9 +324,9 @@ fn sizes_agree(
     next: usize,
     heads: usize,
     links: usize,
-    shared: usize,
+    envelopes: usize,
 ) -> bool
-    ensures { λ r. ⌜ Says r ((rows ≤ finals) × (class ≡ rows) × (next ≡ rows) × (heads ≡ rows) × (links ≡ rows) × (shared ≡ rows)) ⌝ }
+    ensures { λ r. ⌜ Says r ((rows ≤ finals) × (class ≡ rows) × (next ≡ rows) × (heads ≡ rows) × (links ≡ rows) × (envelopes ≡ rows)) ⌝ }
 {
     if finals < rows {
         return false;
@@ -279,13 +343,13 @@ fn sizes_agree(
     if links != rows {
         return false;
     }
-    if shared != rows {
+    if envelopes != rows {
         return false;
     }
     true
 }
 
-// Gives each live row its class, 0 to each other row, and clears the work tables `next`, `heads`, `links` and `shared`, if the lists
+// Gives each live row its class, 0 to each other row, and clears the work tables `next`, `heads`, `links` and `envelopes`, if the lists
 // of rows hold as many, at most 65,535, and there is room for their entries and final bytes. Else nothing changes, and the answer is
 // false.
 pub fn refine(
@@ -297,9 +361,9 @@ pub fn refine(
     next: &mut [u32],
     heads: &mut [u32],
     links: &mut [u32],
-    shared: &mut [u32],
+    envelopes: &mut [u32],
 ) -> bool
-    ensures { λ r. ⌜ RefineOutcome letters (now (entries .entry)) (now (live .entry)) (now (finals .entry)) (now (class .entry)) (now (next .entry)) (now (heads .entry)) (now (links .entry)) (now (shared .entry)) r (now (class .exit)) (now (next .exit)) (now (heads .exit)) (now (links .exit)) (now (shared .exit)) ⌝ }
+    ensures { λ r. ⌜ RefineOutcome letters (now (entries .entry)) (now (live .entry)) (now (finals .entry)) (now (class .entry)) (now (next .entry)) (now (heads .entry)) (now (links .entry)) (now (envelopes .entry)) r (now (class .exit)) (now (next .exit)) (now (heads .exit)) (now (links .exit)) (now (envelopes .exit)) ⌝ }
 {
     if live.len() > 65535 {
         return false;
@@ -314,24 +378,25 @@ pub fn refine(
         next.len(),
         heads.len(),
         links.len(),
-        shared.len(),
+        envelopes.len(),
     ) {
         return false;
     }
+    row_envelopes::find_envelopes(entries, letters, live, envelopes);
     rounds(
         entries,
         letters,
         live,
         finals,
+        envelopes,
         class,
         next,
         heads,
         links,
-        shared,
     );
     basics::fill(next, 0);
     basics::fill(heads, 0);
     basics::fill(links, 0);
-    basics::fill(shared, 0);
+    basics::fill(envelopes, 0);
     true
 }

@@ -1,4 +1,3 @@
 pub mod Prints
-pub mod Sizes
 pub mod Printing
 pub mod Reading

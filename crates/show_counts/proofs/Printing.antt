@@ -4,7 +4,7 @@
 use Prim.Native.Nat.{ℕ, suc, _+_, _-_, _*_, _≤_, _<_, min}
 use native.Mathlib.Omega.{arith}
 use native.Mathlib.Decide.{decLe}
-use mathlib.Core.Path.{_≡_, refl, sym, _∙_, ap, ap₂, subst, transport}
+use mathlib.Core.Path.{_≡_, refl, sym, _∙_, ap, subst, transport}
 use mathlib.Core.Bool.{Bool, true, false, cond}
 use mathlib.Core.List.{List, _++_}
 use mathlib.Core.Option.{Option, none, some}
@@ -24,15 +24,14 @@ use Rattle.theorems.proofs.Courses.{compiled-well-formed}
 use Rattle.theorems.proofs.RecordCounts.{finals-fewer, counted-records, counted-finals, more-records}
 use Rattle.lend.specs.Lend.{CompiledLent, RefusedLent}
 use Rattle.lend.proofs.Outcome.{compiled-held, refused-positive, stored-is}
-use Rattle.print.specs.Append.{Appends}
 use Rattle.print.specs.Text.{refusalLine}
-use Rattle.pages.proofs.Lines.{written-front}
 use Rattle.opening.specs.declared.OpenedTable.{OpenedTable}
 use Rattle.opening.specs.Start.{startState}
 use Rattle.opening.specs.Opens.{OpensTable, OpensTable.refusedSheet as givesNoTable, OpensTable.noStart as givesNoState, OpensTable.opened as table}
 use Rattle.first_line.specs.declared.LineNumber.{LineNumber}
 use Rattle.first_line.specs.Machine.{earlyRefusal}
-use Rattle.counting.specs.Counting.{highestFigure, HasFigures, CountsRecords}
+use Rattle.figure_sums.specs.Sums.{highestFigure}
+use Rattle.counting.specs.Counting.{HasFigures, CountsRecords}
 use Rattle.counts_text.specs.Counts.{listedText}
 use Rattle.counts_text.proofs.Lines.{listed-figures}
 use Rattle.show_counts.specs.Prints.{TooMany, tooHigh, PrintsCounts, firstRefusal, secondRefusal, noNumber, refusedSheet, tooMany, counted}
@@ -204,10 +203,3 @@ module _ (text : List ℕ) (number : LineNumber) (figures finalFigures : List �
       (λ i j. bounded-figure x (omega arith) (f .records i (omega arith)))
       (λ i j. omega (arith, finals-fewer (f .finals i (omega arith)) (f .records i (omega arith)), bounded-figure x (omega arith) (f .records i (omega arith)))) in
       subst (PrintsCounts (numberGiven number) text) (sym (ap (listedText (take count figures) (take count finalFigures)) both ∙ lines)) (counted g c y x f)
-
--- A text that was written to the front of lent bytes with room for it stands there.
-pub front-text : {text out out′ : List ℕ} {r : ℕ} → Appends 0 text out out′ r → length text ≤ length out → take r out′ ≡ text
-front-text {text} {out} p h =
-    let w = p .written (omega arith) in
-    let size = w .1 ∙ (let e : 0 + length text ≡ length text = omega arith in e) in
-    ap₂ take size (w .0) ∙ written-front out text h

@@ -24,7 +24,7 @@ use Rattle.theorems.specs.RecordCounts.{IsCountedRecord}
 use Rattle.theorems.specs.UsedRows.{usedEntries, usedFinals}
 use Rattle.theorems.proofs.RecordCounts.{sheet-figure, sheet-final-figure}
 use Rattle.first_line.specs.Machine.{keptBytes, cutNumber}
-use Rattle.counting.specs.Counting.{highestFigure}
+use Rattle.figure_sums.specs.Sums.{highestFigure}
 use Rattle.counting.specs.Figures.{figureOf, finalFigureOf}
 use Rattle.counts_text.specs.Counts.{figuresText}
 use Rattle.counts_text.proofs.Lines.{same-figures}

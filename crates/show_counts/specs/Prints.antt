@@ -11,7 +11,7 @@ use Rattle.lend.specs.Lend.{CompiledLent, RefusedLent}
 use Rattle.print.specs.Text.{refusalLine}
 use Rattle.theorems.specs.RecordCounts.{IsCountedRecord, IsCountedFinal}
 use Rattle.first_line.specs.Input.{lineBefore, textBehind, numberIn}
-use Rattle.counting.specs.Counting.{highestFigure}
+use Rattle.figure_sums.specs.Sums.{highestFigure}
 use Rattle.counts_text.specs.Counts.{figuresText}
 
 -- "n from 0 to 64"

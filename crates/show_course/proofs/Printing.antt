@@ -1,13 +1,12 @@
 -- What `shortest` prints by its calls is what document 02 says of the sheet and the state: the table that `open_table` gives is passed to `course` cut to its
 -- used rows, and the names and values of the letters that it leaves, or the refusal, are printed page by page. Said in the terms of the calls' contracts. From
 -- what is given of a compiled sheet (Prints), and the text of a printout (course_text, Output).
-use Prim.Native.Nat.{ℕ, _-_, _*_, _≤_, _<_, min}
+use Prim.Native.Nat.{ℕ, _-_, _*_, _<_, min}
 use native.Mathlib.Omega.{arith}
-use native.Mathlib.Nat.{le-trans}
 use mathlib.Core.Path.{_≡_, refl, sym, _∙_, ap, subst, transport}
 use mathlib.Core.List.{List, _++_}
 use mathlib.Core.Option.{Option}
-use lib.ListN.{length, take, replicate, length-append, length-replicate}
+use lib.ListN.{length, take, replicate}
 use lib.Seq.{take-append-le}
 use Rattle.text.specs.Bytes.{Token}
 use Rattle.meaning.specs.Expression.{Sheet}
@@ -22,7 +21,6 @@ use Rattle.outcome.specs.Room.{zeros}
 use Rattle.outcome.specs.Compile.{CompileAnswer, Tables}
 use Rattle.theorems.specs.UsedRows.{usedEntries, usedFinals}
 use Rattle.lend.specs.Lend.{CompiledLent}
-use Rattle.lend.proofs.Rows.{lent-entries, lent-rows}
 use Rattle.lend.proofs.Outcome.{compiled-held, refused-positive, stored-is}
 use Rattle.print.specs.Text.{refusalLine}
 use Rattle.pages.proofs.Refused.{refused-text}
@@ -38,7 +36,7 @@ use Rattle.course_text.specs.Output.{courseLine, courseOutput}
 use Rattle.course_text.proofs.Output.{course-text}
 use Rattle.show_course.specs.Prints.{IsCourseFrom, PrintsCourse, refusedSheet, noStart, found}
 use Rattle.show_course.specs.Shows.{FindsCourse, coursePrintout}
-use Rattle.show_course.proofs.Prints.{few-rows, course-exists}
+use Rattle.show_course.proofs.Prints.{course-exists}
 
 -- ---- the used rows of what is opened
 
@@ -48,11 +46,6 @@ module _ {text : List ℕ} {s : Sheet} {a : CompileAnswer} {t : Tables} (c : Com
 
   letters-are : letters ≡ letterCount (s .streams)
   letters-are = sheet-letters s (stored-is text refl (c .reads))
-
-  used-fits : a .states * letters ≤ 32768
-  used-fits =
-      let held = compiled-held c z in
-      subst (λ k. a .states * k ≤ 32768) (sym letters-are) (le-trans (held .table .entries-fit) (omega (arith, held .entriesSize, lent-entries (letterCount (s .streams)))))
 
   -- With zeros behind them the rows lent have the same used rows.
   along-used : (m n : ℕ) {state refusal count room work : ℕ} {list : List ℕ}
@@ -92,30 +85,6 @@ refusal-printed opened r list e positive =
     refused-text (r .refusal) (courseLine (coursePrintout (opened .sheet) (r .refusal) (take (min (r .count) 256) list))) (λ z. omega arith) _ ∙ ap refusalLine e
 
 module _ {text : List ℕ} {start : Option Token} where
-  -- The arrays are as long as they were lent.
-  pub opened-sizes : {opened : OpenedTable} {entries finals : List ℕ} → OpensTable text start opened entries finals → (length entries ≡ 32768) × (length finals ≡ 256)
-  opened-sizes (givesNoTable r) = (length-replicate {A = ℕ} 32768 0, length-replicate {A = ℕ} 256 0)
-  opened-sizes (givesNoState c z e) = (length-replicate {A = ℕ} 32768 0, length-replicate {A = ℕ} 256 0)
-  opened-sizes (table {s} {a} {t} c z e) =
-      let held = compiled-held c z in
-      let k = letterCount (s .streams) in
-      let m = 32768 - length (t .entries) in
-      let n = 256 - length (t .finals) in
-      (omega (arith, length-append (t .entries) (zeros m), length-replicate {A = ℕ} m 0, held .entriesSize, lent-entries k), omega (arith, length-append (t .finals) (zeros n), length-replicate {A = ℕ} n 0, held .finalsSize, lent-rows k))
-
-  -- The rows that are passed to `course` lie within them.
-  pub rows-fit : {opened : OpenedTable} {entries finals : List ℕ} → OpensTable text start opened entries finals
-      → (opened .states ≤ length finals) × (opened .states * opened .sheet .letters ≤ length entries)
-  rows-fit {opened} o =
-      let sizes = opened-sizes o in
-      let fit = within o in
-      (subst (λ n. opened .states ≤ n) (sym (sizes .1)) (fit .0), subst (λ n. opened .states * opened .sheet .letters ≤ n) (sym (sizes .0)) (fit .1))
-    where
-      within : {opened : OpenedTable} {entries finals : List ℕ} → OpensTable text start opened entries finals → (opened .states ≤ 256) × (opened .states * opened .sheet .letters ≤ 32768)
-      within (givesNoTable r) = (omega arith, omega arith)
-      within (givesNoState c z e) = (omega arith, omega arith)
-      within (table c z e) = (few-rows c z, used-fits c z)
-
   -- The ranges of the sheet are numbers of the machine.
   pub opened-ranges : {opened : OpenedTable} {entries finals : List ℕ} → OpensTable text start opened entries finals → HasRanges (opened .sheet)
   opened-ranges (givesNoTable r) = read-ranges text refl

@@ -31,6 +31,7 @@ use Rattle.lend.specs.Lend.{CompiledLent, HasOutcome, isRefused, isCompiled}
 use Rattle.lend.proofs.Rows.{lent-entries, lent-rows}
 use Rattle.lend.proofs.Outcome.{compiled-unique, compiled-held, refused-unique, refused-not-compiled, lent-total}
 use Rattle.print.specs.Text.{refusalLine}
+use Rattle.opening.proofs.Sizes.{few-rows}
 use Rattle.opening.specs.Start.{startState}
 use Rattle.opening.proofs.Plays.{none≢some, same-start, same-state}
 use Rattle.course_text.specs.Course.{courseText}
@@ -47,11 +48,7 @@ front-best (short f b h) e = absurd (omega arith)
 front-best (best {r} f b h) e = rw (take-at r _ (length r) refl) b
 
 module _ {text : List ℕ} {s : Sheet} {a : CompileAnswer} {t : Tables} (c : CompiledLent text s a t) (z : a .refusal ≡ 0) where
-  -- There are no more states than rows lent.
-  pub few-rows : a .states ≤ 256
-  few-rows = let held = compiled-held c z in omega (arith, held .table .finals-fit, held .finalsSize, lent-rows (letterCount (s .streams)))
-
-  -- Nor more entries of them than numbers of work room lent.
+  -- There are no more entries of the used rows than numbers of work room lent.
   few-entries : length (usedEntries s a t) ≤ 32768
   few-entries =
       let held = compiled-held c z in
@@ -66,9 +63,9 @@ module _ {text : List ℕ} {s : Sheet} {a : CompileAnswer} {t : Tables} (c : Com
       let k = letterCount (s .streams) in
       let f = accepted-facts (c .reads) in
       let call : CourseCall k (usedEntries s a t) (usedFinals a t) (sheetStreams (storedSheet s)) state 256 32768 refusal count list (replicate 32768 0) = record { outcome = o; cleared = refl } in
-      let answered = state-answered (c .call) (c .reads) z call (start-is-state (c .call) (c .reads) z start e) (stored-streams-fit s f) (omega (arith, few-rows)) few-entries in (
+      let answered = state-answered (c .call) (c .reads) z call (start-is-state (c .call) (c .reads) z start e) (stored-streams-fit s f) (omega (arith, few-rows c z)) few-entries in (
         answered .0,
-        omega (arith, answered .1, few-rows),
+        omega (arith, answered .1, few-rows c z),
         subst (λ ss. IsBest (changed ss) k (entryAt k (usedEntries s a t)) (finalAt (usedFinals a t)) state (take count list)) (stored-description s f) (front-best o (answered .0)),
       )
 

@@ -50,12 +50,12 @@ use Rattle.show_join.specs.Shows.{Shows, PrintsBoth, firstIs, secondIs, 
 abbrev single : ℕ → LentTable
 single size = record { perRow = 1; size = size }
 
-abbrev sizedWork : (keys live class next heads links shared : ℕ) → List LentTable
-sizedWork keys live class next heads links shared = single keys ∷ (single live ∷ (single class ∷ (single next ∷ (single heads ∷ (single links ∷ (single shared ∷ []))))))
+abbrev sizedWork : (keys live class next heads links envelopes : ℕ) → List LentTable
+sizedWork keys live class next heads links envelopes = single keys ∷ (single live ∷ (single class ∷ (single next ∷ (single heads ∷ (single links ∷ (single envelopes ∷ []))))))
 
-pub in-rows : {a b : GivenTable} {r : JoinAnswer} {m n rows keys live class next heads links shared : ℕ} {entries finals : List ℕ} {work : List (List ℕ)}
-    → rows ≡ keys → rows ≡ live → rows ≡ class → rows ≡ next → rows ≡ heads → rows ≡ links → rows ≡ shared
-    → JoinOutcome a b (record { entries = m; finals = n; work = sizedWork keys live class next heads links shared }) r (record { entries = entries; finals = finals; work = work })
+pub in-rows : {a b : GivenTable} {r : JoinAnswer} {m n rows keys live class next heads links envelopes : ℕ} {entries finals : List ℕ} {work : List (List ℕ)}
+    → rows ≡ keys → rows ≡ live → rows ≡ class → rows ≡ next → rows ≡ heads → rows ≡ links → rows ≡ envelopes
+    → JoinOutcome a b (record { entries = m; finals = n; work = sizedWork keys live class next heads links envelopes }) r (record { entries = entries; finals = finals; work = work })
     → JoinOutcome a b (joinRoomOfRows m n rows) r (joinTablesOfRows rows entries finals)
 in-rows {a} {b} {r} {m} {n} {rows} {entries = entries} {finals} {work} hk hl hc hn hh hi hs call =
     let sized = subst (λ w. JoinOutcome a b (record { entries = m; finals = n; work = w }) r (record { entries = entries; finals = finals; work = work }))

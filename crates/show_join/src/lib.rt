@@ -42,7 +42,7 @@ fn join_in_rows(
     let mut next = lend::work_room();
     let mut heads = lend::work_room();
     let mut links = lend::work_room();
-    let mut shared = lend::work_room();
+    let mut envelopes = lend::work_room();
     join_tables::join_tables(
         left_entries,
         left_finals,
@@ -60,7 +60,7 @@ fn join_in_rows(
         &mut next[..rows],
         &mut heads[..rows],
         &mut links[..rows],
-        &mut shared[..rows],
+        &mut envelopes[..rows],
     )
 }
 

@@ -23,7 +23,8 @@ use Rattle.given_tables.specs.Given.{SameStreams}
 use Rattle.carry.specs.Carry.{LacksState, AreCarried, CarryOutcome, CarryOutcome.unfit as carryUnfit, CarryOutcome.otherStreams as carryStreams, CarryOutcome.lacking as carryLacking, CarryOutcome.short as carryShort, CarryOutcome.carried as carryGiven}
 use Rattle.carry.proofs.Outcome.{states-unique, carried-none-lacks, carry-total}
 use Rattle.opened_tables.specs.Used.{compiledGiven}
-use Rattle.opened_tables.proofs.Used.{compiled-fit, few-rows, finals-long}
+use Rattle.opening.proofs.Sizes.{few-rows}
+use Rattle.opened_tables.proofs.Used.{compiled-fit, finals-long}
 use Rattle.migration_text.specs.Migration.{mostStates, migrationText, migrationOutput}
 use Rattle.migration_text.proofs.Text.{refused-output, given-output}
 use Rattle.show_migration.specs.Prints.{usedEntry, PrintsStates, otherStreams, lacking, migrated, PrintsMigration, refusedOld, refusedNew, compared, HasMigrationOutput}

@@ -9,9 +9,9 @@ use Rattle.game.specs.Call.{ForceSheetCall}
 use Rattle.lend.specs.Lend.{roomOfRows, tablesOfRows}
 use Rattle.lend.proofs.Room.{sizedWork, work-of-rows}
 
-pub forced-in-rows : {text : List ℕ} {r : CompiledSheet} {m n rows keys live class next heads links shared size : ℕ} {entries finals play : List ℕ} {work : List (List ℕ)}
-    → rows * 16 ≡ keys → rows ≡ live → rows ≡ class → rows ≡ next → rows ≡ heads → rows ≡ links → rows ≡ shared
-    → ForceSheetCall text (record { entries = m; finals = n; work = sizedWork keys live class next heads links shared }) size r (record { entries = entries; finals = finals; work = work }) play
+pub forced-in-rows : {text : List ℕ} {r : CompiledSheet} {m n rows keys live class next heads links envelopes size : ℕ} {entries finals play : List ℕ} {work : List (List ℕ)}
+    → rows * 16 ≡ keys → rows ≡ live → rows ≡ class → rows ≡ next → rows ≡ heads → rows ≡ links → rows ≡ envelopes
+    → ForceSheetCall text (record { entries = m; finals = n; work = sizedWork keys live class next heads links envelopes }) size r (record { entries = entries; finals = finals; work = work }) play
     → ForceSheetCall text (roomOfRows m n rows) size r (tablesOfRows rows entries finals) play
 forced-in-rows {text} {r} {m} {n} {rows} {size = size} {entries} {finals} {play} {work} hk hl hc hn hh hi hs call =
     let sized = subst (λ w. ForceSheetCall text (record { entries = m; finals = n; work = w }) size r (record { entries = entries; finals = finals; work = work }) play) (work-of-rows hk hl hc hn hh hi hs) call in

@@ -32,7 +32,7 @@ fn force_in_rows(
     let mut next = lend::work_room();
     let mut heads = lend::work_room();
     let mut links = lend::work_room();
-    let mut shared = lend::work_room();
+    let mut envelopes = lend::work_room();
     game::force(
         text,
         entries,
@@ -43,7 +43,7 @@ fn force_in_rows(
         &mut next[..rows],
         &mut heads[..rows],
         &mut links[..rows],
-        &mut shared[..rows],
+        &mut envelopes[..rows],
         play,
     )
 }

@@ -60,7 +60,7 @@ returns c = record {
   next-zero = c .before .before .before .before .before .before .before .before .before .before .before .before .before .before .fill3 .ensures;
   heads-zero = c .before .before .before .before .before .before .before .before .before .before .fill4 .ensures;
   links-zero = c .before .before .before .before .before .before .fill5 .ensures;
-  shared-zero = c .before .before .fill6 .ensures;
+  envelopes-zero = c .before .before .fill6 .ensures;
 }
 
 pub clear-tables-spec : {M : Type 1} → statement M

@@ -84,9 +84,9 @@ returns c =
     sheet-call
     (text-outcome (d .before .before .before .before .before .before .before .before .before .before .before .before .before .before .before .before .before .before .before .before .before .before .before .before .before .before .before .before .before .before .before .before .before .before .before .before .before .before .before .before .before .before .before .before .before .before .before .before .read .ensures) (d .answered .ensures)
     (λ s accepted same.
-    let fits = limit-fits (args .entries .now) (args .finals .now) (args .keys .now) (args .live .now) (args .class .now) (args .next .now) (args .heads .now) (args .links .now) (args .shared .now) accepted (sheet-letters s same) work rows limit in
-    calls-outcome (args .entries .now) (args .finals .now) (args .keys .now) (args .live .now) (args .class .now) (args .next .now) (args .heads .now) (args .links .now) (args .shared .now) accepted (sheet-letters s same) work rows limit (found .kept .1 .1 .0) (found .kept .1 .1 .1 .0) (found .kept .1 .1 .1 .1 .1 .0) (found .kept .1 .1 .1 .1 .1 .1 .0) (leaves .workZero .keys-zero) (leaves .within) (explored-situations (found .ensures) s accepted same fits) table (d .before .made .ensures))
-    (calls-cleared (args .entries .now) (args .finals .now) (args .keys .now) (args .live .now) (args .class .now) (args .next .now) (args .heads .now) (args .links .now) (args .shared .now) (found .kept .1 .1 .0) (found .kept .1 .1 .1 .0) (found .kept .1 .1 .1 .1 .1 .0) (found .kept .1 .1 .1 .1 .1 .1 .0) (leaves .workZero .keys-zero) table))
+    let fits = limit-fits (args .entries .now) (args .finals .now) (args .keys .now) (args .live .now) (args .class .now) (args .next .now) (args .heads .now) (args .links .now) (args .envelopes .now) accepted (sheet-letters s same) work rows limit in
+    calls-outcome (args .entries .now) (args .finals .now) (args .keys .now) (args .live .now) (args .class .now) (args .next .now) (args .heads .now) (args .links .now) (args .envelopes .now) accepted (sheet-letters s same) work rows limit (found .kept .1 .1 .0) (found .kept .1 .1 .1 .0) (found .kept .1 .1 .1 .1 .1 .0) (found .kept .1 .1 .1 .1 .1 .1 .0) (leaves .workZero .keys-zero) (leaves .within) (explored-situations (found .ensures) s accepted same fits) table (d .before .made .ensures))
+    (calls-cleared (args .entries .now) (args .finals .now) (args .keys .now) (args .live .now) (args .class .now) (args .next .now) (args .heads .now) (args .links .now) (args .envelopes .now) (found .kept .1 .1 .0) (found .kept .1 .1 .1 .0) (found .kept .1 .1 .1 .1 .1 .0) (found .kept .1 .1 .1 .1 .1 .1 .0) (leaves .workZero .keys-zero) table))
     (ap (λ y. y .sheet) (d .before .before .before .before .before .before .before .before .before .before .before .before .before .before .before .before .before .before .before .before .before .before .before .before .before .before .before .before .before .before .before .before .before .before .before .before .before .before .before .before .before .before .before .before .before .before .before .before .read .ensures))
     (c .with-sheet .ensures)
 

@@ -7,7 +7,8 @@ use lib.ListN.{length, getD, length-set}
 use borrow.Author.Needs.{needs}
 use Rattle.basics.proofs.Lists.{below-set, row-fits}
 use Rattle.automaton.specs.Stored.{entryAt}
-use Rattle.counting.specs.Figures.{letterSum, figureCut, NextCounts}
+use Rattle.figure_sums.specs.Sums.{letterSum, figureCut}
+use Rattle.counting.specs.Figures.{NextCounts}
 use Rattle.counting.proofs.Figures.{row-counted, next-start}
 use Rattle.counting.proofs.next_counts.Statement.{statement}
 use Rattle.counting.proofs.next_counts.Tie as tie

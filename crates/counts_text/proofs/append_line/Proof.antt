@@ -1,4 +1,4 @@
--- `counts_text::append_line` meets its contract: the line is written to the part from the place on (Lines).
+-- `counts_text::append_line` meets its contract: the line is written to the part from the place on (pages, Placed).
 use Prim.Native.Nat.{ℕ}
 use native.Mathlib.Omega.{arith}
 use mathlib.Core.Path.{_≡_}
@@ -8,7 +8,8 @@ use borrow.Rule.Slice.PartMut.{mid-len}
 use borrow.Author.Needs.{needs}
 use Rattle.print.specs.Text.{decimal, tokensLine}
 use Rattle.print.proofs.Append.{appends-same, reached}
-use Rattle.counts_text.proofs.Lines.{placed-line, no-place, shown-value}
+use Rattle.pages.proofs.Placed.{placed-line, no-place}
+use Rattle.counts_text.proofs.Lines.{shown-value}
 use Rattle.counts_text.proofs.append_line.Statement.{statement}
 use Rattle.counts_text.proofs.append_line.Tie as tie
 

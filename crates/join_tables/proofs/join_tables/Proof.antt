@@ -80,11 +80,11 @@ returns c =
     let args = d .before .before .before .before .before .before .before .before .before .before .before .before .before .before .before .before .before .before .args in
     let left : GivenTable = givenTable (args .left-entries .now) (args .left-finals .now) (args .left-letters) (args .left-streams) in
     let right : GivenTable = givenTable (args .right-entries .now) (args .right-finals .now) (args .right-letters) (args .right-streams) in
-    let room = joinRoom (args .entries .now) (args .finals .now) (args .keys .now) (args .live .now) (args .class .now) (args .next .now) (args .heads .now) (args .links .now) (args .shared .now) in
+    let room = joinRoom (args .entries .now) (args .finals .now) (args .keys .now) (args .live .now) (args .class .now) (args .next .now) (args .heads .now) (args .links .now) (args .envelopes .now) in
     let streams = d .before .before .before .before .join-streams in
     let fit = d .before .before .before .well-formed in
     let judged = subst (TablesJudged left right room (streams .result)) (sym (d .before .before .first-refusal .ensures)) (tables-judged {a = left} {b = right} {room = room} {s = streams .result} (fit .result) (fit .ensures) (streams .ensures)) in
-    joined-outcome (args .entries .now) (args .finals .now) (args .keys .now) (args .live .now) (args .class .now) (args .next .now) (args .heads .now) (args .links .now) (args .shared .now) judged (d .before .letters-of .ensures) (d .rows-lent .ensures) (c .before .before .before .before .before .before .before .before .before .before .before .before .before .before .before .before .before .before .before .before .before .before .before .before .before .before .before .before .before .before .before .before .before .before .before .before .before .before .before .before .before .before .most-situations .ensures)
+    joined-outcome (args .entries .now) (args .finals .now) (args .keys .now) (args .live .now) (args .class .now) (args .next .now) (args .heads .now) (args .links .now) (args .envelopes .now) judged (d .before .letters-of .ensures) (d .rows-lent .ensures) (c .before .before .before .before .before .before .before .before .before .before .before .before .before .before .before .before .before .before .before .before .before .before .before .before .before .before .before .before .before .before .before .before .before .before .before .before .before .before .before .before .before .before .most-situations .ensures)
     (search-of c .find-pairs .kept .1 .1 .1 .1 .1 .1 .1 .0) (search-of c .find-pairs .kept .1 .1 .1 .1 .1 .1 .1 .1 .0) (search-of c .find-pairs .kept .1 .1 .1 .1 .1 .1 .1 .1 .1 .1 .0) (search-of c .find-pairs .kept .1 .1 .1 .1 .1 .1 .1 .1 .1 .1 .1 .0) (search-of c .find-pairs .ensures) (table-of c .minimise .ensures) (c .answered .ensures)
 
 pub join-tables-spec : {M : Type 1} → statement M

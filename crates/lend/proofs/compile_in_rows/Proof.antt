@@ -67,11 +67,11 @@ array-borrow-prefix-links c = search needs
 slice-aggregate-compile-6 : tie.Need-slice-aggregate-compile-6
 slice-aggregate-compile-6 c = sym (length-take-le _ _ (array-borrow-prefix-links (c .before)))
 
-array-borrow-prefix-shared : tie.Need-array-borrow-prefix-shared
-array-borrow-prefix-shared c = search needs
+array-borrow-prefix-envelopes : tie.Need-array-borrow-prefix-envelopes
+array-borrow-prefix-envelopes c = search needs
 
 slice-aggregate-compile-7 : tie.Need-slice-aggregate-compile-7
-slice-aggregate-compile-7 c = sym (length-take-le _ _ (array-borrow-prefix-shared (c .before)))
+slice-aggregate-compile-7 c = sym (length-take-le _ _ (array-borrow-prefix-envelopes (c .before)))
 
 compile-requires : tie.Need-compile-requires
 compile-requires c κs = tt
@@ -121,7 +121,7 @@ compile-in-rows-spec =
     slice-aggregate-compile-5
     array-borrow-prefix-links
     slice-aggregate-compile-6
-    array-borrow-prefix-shared
+    array-borrow-prefix-envelopes
     slice-aggregate-compile-7
     compile-requires
     answer-requires

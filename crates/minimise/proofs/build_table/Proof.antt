@@ -23,7 +23,7 @@ refined c =
       next-fits = find .kept .1 .1 .1 .0 ∙ start .pre .1 .1;
       heads-fit = start .pre .1 .2;
       links-fit = start .pre .1 .3;
-      shared-fits = start .pre .1 .4;
+      envelopes-fit = start .pre .1 .4;
     }) .refined
 
 -- the lists that go on hold as many rows

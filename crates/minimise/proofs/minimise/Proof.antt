@@ -49,7 +49,7 @@ returns c =
     let run = c .before .before .before .before .before .before .before .before .before .before .before .before .before .before .before .before .before .before .before .before .before .before .before .before .before .before .before .before .before .before .before .before .before .before .before .before .before .before .before .before .before .before .run in
     let clear = c .before .before .before .before .before .before .before .before .before .before .before .before .before .before .before .before .clear-tables .ensures in
     ran-outcome (run .ensures) (run .kept .0) (run .kept .1 .0) (clear .entries-beyond) (clear .flags-beyond)
-    (ap₂ _∷_ (zeroed (clear .live-zero) (run .kept .1 .1 .1 .1 .0)) (ap₂ _∷_ (zeroed (clear .class-zero) (run .kept .1 .1 .1 .1 .1 .0)) (ap₂ _∷_ (zeroed (clear .next-zero) (run .kept .1 .1 .1 .1 .1 .1 .0)) (ap₂ _∷_ (zeroed (clear .heads-zero) (run .kept .1 .1 .1 .1 .1 .1 .1 .0)) (ap₂ _∷_ (zeroed (clear .links-zero) (run .kept .1 .1 .1 .1 .1 .1 .1 .1 .0)) (ap₂ _∷_ (zeroed (clear .shared-zero) (run .kept .1 .1 .1 .1 .1 .1 .1 .1 .1 .0)) refl))))))
+    (ap₂ _∷_ (zeroed (clear .live-zero) (run .kept .1 .1 .1 .1 .0)) (ap₂ _∷_ (zeroed (clear .class-zero) (run .kept .1 .1 .1 .1 .1 .0)) (ap₂ _∷_ (zeroed (clear .next-zero) (run .kept .1 .1 .1 .1 .1 .1 .0)) (ap₂ _∷_ (zeroed (clear .heads-zero) (run .kept .1 .1 .1 .1 .1 .1 .1 .0)) (ap₂ _∷_ (zeroed (clear .links-zero) (run .kept .1 .1 .1 .1 .1 .1 .1 .1 .0)) (ap₂ _∷_ (zeroed (clear .envelopes-zero) (run .kept .1 .1 .1 .1 .1 .1 .1 .1 .1 .0)) refl))))))
 
 pub minimise-spec : {M : Type 1} → statement M
 minimise-spec =

@@ -17,7 +17,7 @@ use Rattle.minimise.proofs.run.Statement.{statement}
 use Rattle.minimise.proofs.run.Tie as tie
 
 -- every work table has room for the rows
-room : (c : tie.Else1) → let args = c .before .before .before .before .before .before .before .before .before .before .args in WorkHasRoom (args .rows) (args .live .now ∷ (args .class .now ∷ (args .next .now ∷ (args .heads .now ∷ (args .links .now ∷ (args .shared .now ∷ []))))))
+room : (c : tie.Else1) → let args = c .before .before .before .before .before .before .before .before .before .before .args in WorkHasRoom (args .rows) (args .live .now ∷ (args .class .now ∷ (args .next .now ∷ (args .heads .now ∷ (args .links .now ∷ (args .envelopes .now ∷ []))))))
 room c =
     let h = says-yes (not-false (c .before .have-room .result) (c .if1 .left)) (c .before .have-room .ensures) in
     (h .0, (h .1, (h .2, (h .3, (h .4, (h .5, tt))))))
@@ -93,7 +93,7 @@ slice-relend-prefix-build-table-5 : tie.Need-slice-relend-prefix-build-table-5
 slice-relend-prefix-build-table-5 c = room (c .before .before .before .before .before .before .before .before .before .before .before .before .before .before) .1 .1 .1 .1 .1 .0
 
 slice-aggregate-build-table-6 : tie.Need-slice-aggregate-build-table-6
-slice-aggregate-build-table-6 c = cut (c .before .before .before .before .before .before .before .before .before .before .before .before .before .before .before .before .before .before .before .before .before .before .before .before .before .args .rows) (c .before .before .before .before .before .before .before .before .before .before .before .before .before .before .before .before .before .before .before .before .before .before .before .before .before .args .shared .now) (room (c .before .before .before .before .before .before .before .before .before .before .before .before .before .before .before) .1 .1 .1 .1 .1 .0)
+slice-aggregate-build-table-6 c = cut (c .before .before .before .before .before .before .before .before .before .before .before .before .before .before .before .before .before .before .before .before .before .before .before .before .before .args .rows) (c .before .before .before .before .before .before .before .before .before .before .before .before .before .before .before .before .before .before .before .before .before .before .before .before .before .args .envelopes .now) (room (c .before .before .before .before .before .before .before .before .before .before .before .before .before .before .before) .1 .1 .1 .1 .1 .0)
 
 build-table-requires : tie.Need-build-table-requires
 build-table-requires c κs =
@@ -108,7 +108,7 @@ build-table-requires c κs =
         sym (cut (args .rows) (args .next .now) (h .1 .1 .0)) ∙ same,
         sym (cut (args .rows) (args .heads .now) (h .1 .1 .1 .0)) ∙ same,
         sym (cut (args .rows) (args .links .now) (h .1 .1 .1 .1 .0)) ∙ same,
-        sym (cut (args .rows) (args .shared .now) (h .1 .1 .1 .1 .1 .0)) ∙ same,
+        sym (cut (args .rows) (args .envelopes .now) (h .1 .1 .1 .1 .1 .0)) ∙ same,
       ),
     )
 
@@ -137,7 +137,7 @@ same-length-10 : tie.Need-same-length-10
 same-length-10 c = let args = c .before .before .before .before .before .before .before .before .before .before .before .before .before .before .before .before .before .before .before .before .before .before .before .before .before .before .before .before .before .before .before .before .before .before .before .before .before .before .before .before .args in same-len (args .rows) (args .links .now) (c .before .before .before .before .before .before .before .before .before .before .before .before .before .before .build-table .last .1 .1 .1 .1 .1 .1 .1 .0) (c .before .before .before .before .before .before .before .before .before .before .before .before .before .before .build-table .kept .1 .1 .1 .1 .1 .1 .1 .0)
 
 same-length-11 : tie.Need-same-length-11
-same-length-11 c = let args = c .before .before .before .before .before .before .before .before .before .before .before .before .before .before .before .before .before .before .before .before .before .before .before .before .before .before .before .before .before .before .before .before .before .before .before .before .before .before .before .before .args in same-len (args .rows) (args .shared .now) (c .before .before .before .before .before .before .before .before .before .before .before .before .before .before .build-table .last .1 .1 .1 .1 .1 .1 .1 .1 .0) (c .before .before .before .before .before .before .before .before .before .before .before .before .before .before .build-table .kept .1 .1 .1 .1 .1 .1 .1 .1 .0)
+same-length-11 c = let args = c .before .before .before .before .before .before .before .before .before .before .before .before .before .before .before .before .before .before .before .before .before .before .before .before .before .before .before .before .before .before .before .before .before .before .before .before .before .before .before .before .args in same-len (args .rows) (args .envelopes .now) (c .before .before .before .before .before .before .before .before .before .before .before .before .before .before .build-table .last .1 .1 .1 .1 .1 .1 .1 .1 .0) (c .before .before .before .before .before .before .before .before .before .before .before .before .before .before .build-table .kept .1 .1 .1 .1 .1 .1 .1 .1 .0)
 
 returns-3 : tie.Need-returns-3
 returns-3 c =

@@ -1,4 +1,4 @@
--- `print::append_bytes` meets its contract: after i turns the first i bytes are appended.
+-- `print::append_bytes` meets its contract: after i turns the first i bytes are appended; from a place beyond the bytes there is no room.
 use Prim.Native.Nat.{_≤_, _<_, _-_}
 use native.Mathlib.Numerals.{add-one}
 use native.Mathlib.Omega.{arith}
@@ -6,7 +6,7 @@ use mathlib.Core.Path.{sym, _∙_, ap}
 use lib.ListN.{length, take}
 use lib.Seq.{take-suc, take-all}
 use Rattle.print.specs.Append.{Appends}
-use Rattle.print.proofs.Append.{appends-nothing, appends-then, appends-same, reached}
+use Rattle.print.proofs.Append.{appends-nothing, text-left, appends-then, appends-same}
 use Rattle.print.proofs.append_bytes.Statement.{statement}
 use Rattle.print.proofs.append_bytes.Tie as tie
 
@@ -16,14 +16,20 @@ Inv-loop out₀ at text to₀ i₀ out to i = (i ≤ length text) × Appends at 
 abbrev μ-loop : tie.MeasureT-loop
 μ-loop out₀ at text to₀ i₀ out to i = length text - i
 
+add-result : tie.Need-add-result Inv-loop μ-loop
+add-result c = omega arith
+
+returns : tie.Need-returns Inv-loop μ-loop
+returns c = let a = c .before .before .before .args in text-left (a .out .now) (a .text .now) (omega arith)
+
 loop-holds : tie.Need-loop-holds Inv-loop μ-loop
-loop-holds c = (omega arith, appends-nothing (c .before .before .pre))
+loop-holds c = (omega arith, appends-nothing (omega arith))
 
 shared-slice-read-append-byte : tie.Need-shared-slice-read-append-byte Inv-loop μ-loop
 shared-slice-read-append-byte c = omega arith
 
 append-byte-requires : tie.Need-append-byte-requires Inv-loop μ-loop
-append-byte-requires c κs = reached (c .before .before .before .loop .inv .1)
+append-byte-requires c κs = tt
 
 add-i : tie.Need-add-i Inv-loop μ-loop
 add-i c = omega arith
@@ -33,7 +39,7 @@ loop-less c = omega arith
 
 loop-again : tie.Need-loop-again Inv-loop μ-loop
 loop-again c =
-    let s = c .before .before .before .before .before .before .before .before .before in
+    let s = c .before .before .before .before .before .before .before .before .before .before in
     let t = c .before .before .before .before .before .before in
     let text = s .args .text .now in
     let h : t .loop .i < length text = omega arith in
@@ -43,9 +49,9 @@ loop-again c =
 same-length : tie.Need-same-length Inv-loop μ-loop
 same-length c = c .before .loop .inv .1 .same-length
 
-returns : tie.Need-returns Inv-loop μ-loop
-returns c =
-    let text = c .before .before .before .before .args .text .now in
+returns-2 : tie.Need-returns-2 Inv-loop μ-loop
+returns-2 c =
+    let text = c .before .before .before .before .before .args .text .now in
     appends-same (c .before .loop .inv .1) (take-all (c .before .loop .i) text (omega arith))
 
 pub append-bytes-spec : {M : Type 1} → statement M
@@ -54,6 +60,8 @@ append-bytes-spec =
     (tie.spec
     Inv-loop
     μ-loop
+    add-result
+    returns
     loop-holds
     shared-slice-read-append-byte
     append-byte-requires
@@ -61,4 +69,4 @@ append-bytes-spec =
     loop-less
     loop-again
     same-length
-    returns)
+    returns-2)

@@ -1,14 +1,14 @@
 -- `print::append_count` meets its contract: the digits and then the space.
 use borrow.Author.Needs.{needs}
-use Rattle.print.proofs.Append.{appends-then, reached}
+use Rattle.print.proofs.Append.{appends-then}
 use Rattle.print.proofs.append_count.Statement.{statement}
 use Rattle.print.proofs.append_count.Tie as tie
 
 append-natural-requires : tie.Need-append-natural-requires
-append-natural-requires c κs = search needs
+append-natural-requires c κs = tt
 
 append-byte-requires : tie.Need-append-byte-requires
-append-byte-requires c κs = reached (c .before .before .before .append-natural .ensures)
+append-byte-requires c κs = tt
 
 same-length : tie.Need-same-length
 same-length c = search needs

@@ -1,5 +1,5 @@
 -- `print::append_name` meets its contract: the name, and then the space.
-use Rattle.print.proofs.Append.{appends-then, reached}
+use Rattle.print.proofs.Append.{appends-then}
 use borrow.Author.Needs.{needs}
 use Rattle.print.proofs.append_name.Statement.{statement}
 use Rattle.print.proofs.append_name.Tie as tie
@@ -8,7 +8,7 @@ append-stored-requires : tie.Need-append-stored-requires
 append-stored-requires c κs = search needs
 
 append-byte-requires : tie.Need-append-byte-requires
-append-byte-requires c κs = reached (c .before .before .before .append-stored .ensures)
+append-byte-requires c κs = tt
 
 same-length : tie.Need-same-length
 same-length c = search needs

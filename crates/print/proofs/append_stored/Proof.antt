@@ -42,7 +42,7 @@ part-append-bytes-end : tie.Need-part-append-bytes-end
 part-append-bytes-end c = search needs
 
 append-bytes-requires : tie.Need-append-bytes-requires
-append-bytes-requires c κs = search needs
+append-bytes-requires c κs = tt
 
 same-length : tie.Need-same-length
 same-length c = search needs

@@ -11,7 +11,7 @@ use mir.Syntax.{w64}
 use mir.ValLaws.{toZ-ofZ}
 use Rattle.print.specs.Append.{Appends}
 use Rattle.print.specs.Text.{decimal, spaced}
-use Rattle.print.proofs.Append.{appends-nothing, appends-then, appends-same, reached}
+use Rattle.print.proofs.Append.{appends-nothing, appends-then, appends-same}
 use Rattle.print.proofs.Lines.{values-more}
 use Rattle.print.proofs.append_values.Statement.{statement}
 use Rattle.print.proofs.append_values.Tie as tie
@@ -32,10 +32,10 @@ shared-slice-copy-out-append-number : tie.Need-shared-slice-copy-out-append-numb
 shared-slice-copy-out-append-number c = omega arith
 
 append-number-requires : tie.Need-append-number-requires Inv-loop μ-loop
-append-number-requires c κs = reached (c .before .before .before .loop .inv .1)
+append-number-requires c κs = tt
 
 append-byte-requires : tie.Need-append-byte-requires Inv-loop μ-loop
-append-byte-requires c κs = reached (c .before .before .before .append-number .ensures)
+append-byte-requires c κs = tt
 
 add-i : tie.Need-add-i Inv-loop μ-loop
 add-i c = omega arith

@@ -15,10 +15,10 @@ append-values-requires : tie.Need-append-values-requires
 append-values-requires c κs = reached (c .before .before .before .append-count2 .ensures)
 
 append-natural-requires : tie.Need-append-natural-requires
-append-natural-requires c κs = reached (c .before .before .before .append-values .ensures)
+append-natural-requires c κs = tt
 
 append-byte-requires : tie.Need-append-byte-requires
-append-byte-requires c κs = reached (c .before .before .before .append-natural .ensures)
+append-byte-requires c κs = tt
 
 same-length : tie.Need-same-length
 same-length c = search needs

@@ -13,7 +13,7 @@ slice-aggregate-append-bytes : tie.Need-slice-aggregate-append-bytes
 slice-aggregate-append-bytes c = search needs
 
 append-bytes-requires : tie.Need-append-bytes-requires
-append-bytes-requires c κs = search needs
+append-bytes-requires c κs = tt
 
 fewer-requires : tie.Need-fewer-requires
 fewer-requires c κs = search needs
@@ -25,7 +25,7 @@ slice-aggregate-append-bytes-2 : tie.Need-slice-aggregate-append-bytes-2
 slice-aggregate-append-bytes-2 c = search needs
 
 append-bytes-requires-2 : tie.Need-append-bytes-requires-2
-append-bytes-requires-2 c κs = reached (c .before .before .before .before .append-names .ensures)
+append-bytes-requires-2 c κs = tt
 
 same-length : tie.Need-same-length
 same-length c = search needs

@@ -6,19 +6,19 @@ use Rattle.print.proofs.named_line.Statement.{statement}
 use Rattle.print.proofs.named_line.Tie as tie
 
 append-bytes-requires : tie.Need-append-bytes-requires
-append-bytes-requires c κs = search needs
+append-bytes-requires c κs = tt
 
 append-byte-requires : tie.Need-append-byte-requires
-append-byte-requires c κs = reached (c .before .before .before .append-bytes .ensures)
+append-byte-requires c κs = tt
 
 append-values-requires : tie.Need-append-values-requires
 append-values-requires c κs = reached (c .before .before .before .append-byte .ensures)
 
 append-natural-requires : tie.Need-append-natural-requires
-append-natural-requires c κs = reached (c .before .before .before .append-values .ensures)
+append-natural-requires c κs = tt
 
 append-byte-requires-2 : tie.Need-append-byte-requires-2
-append-byte-requires-2 c κs = reached (c .before .before .before .append-natural .ensures)
+append-byte-requires-2 c κs = tt
 
 same-length : tie.Need-same-length
 same-length c = search needs

@@ -15,7 +15,7 @@ fewer-requires : tie.Need-fewer-requires
 fewer-requires c κs = search needs
 
 append-byte-requires : tie.Need-append-byte-requires
-append-byte-requires c κs = search needs
+append-byte-requires c κs = tt
 
 same-length : tie.Need-same-length
 same-length c = search needs
@@ -36,7 +36,7 @@ append-stored-requires : tie.Need-append-stored-requires
 append-stored-requires c κs = (reached (c .before .before .before .append-names .ensures), omega (arith, c .before .before .before .before .before .before .fewer .ensures))
 
 append-byte-requires-2 : tie.Need-append-byte-requires-2
-append-byte-requires-2 c κs = reached (c .before .before .before .append-stored .ensures)
+append-byte-requires-2 c κs = tt
 
 same-length-2 : tie.Need-same-length-2
 same-length-2 c = search needs

@@ -1,6 +1,6 @@
 -- `print::refusal_line` meets its contract: the word, the number and the line's end.
 use borrow.Author.Needs.{needs}
-use Rattle.print.proofs.Append.{appends-then, appends-same, reached}
+use Rattle.print.proofs.Append.{appends-then, appends-same}
 use Rattle.print.proofs.Lines.{refusal-parts}
 use Rattle.print.proofs.refusal_line.Statement.{statement}
 use Rattle.print.proofs.refusal_line.Tie as tie
@@ -9,13 +9,13 @@ slice-aggregate-append-bytes : tie.Need-slice-aggregate-append-bytes
 slice-aggregate-append-bytes c = search needs
 
 append-bytes-requires : tie.Need-append-bytes-requires
-append-bytes-requires c κs = search needs
+append-bytes-requires c κs = tt
 
 append-natural-requires : tie.Need-append-natural-requires
-append-natural-requires c κs = reached (c .before .before .before .append-bytes .ensures)
+append-natural-requires c κs = tt
 
 append-byte-requires : tie.Need-append-byte-requires
-append-byte-requires c κs = reached (c .before .before .before .append-natural .ensures)
+append-byte-requires c κs = tt
 
 same-length : tie.Need-same-length
 same-length c = search needs

@@ -1,72 +1,73 @@
--- `refine::hash_row` meets its contract: `h` is the hash of the first `a` classes.
-use Prim.Native.Nat.{_≤_, _<_, _-_}
-use mathlib.Core.Path.{_≡_, sym, ap₂, _∙_}
+-- `refine::hash_row` meets its contract: the envelope's part of the row is hashed, after its class and its envelope.
+use Prim.Native.Nat.{_≤_, _+_, _*_, _-_}
+use mathlib.Core.Path.{_≡_, refl, _∙_}
 use native.Mathlib.Omega.{arith}
-use native.Mathlib.Numerals.{add-one}
-use Rattle.refine.specs.Signatures.{classAfter, mixed, hash}
-use Rattle.refine.proofs.Signatures.{hash-step, hash-start}
+use lib.ListN.{length, getD}
+use Rattle.row_envelopes.specs.Envelopes.{envelopeBegin, envelopeEnd}
+use Rattle.row_envelopes.proofs.Laws.{envelope-ordered, envelope-within, envelope-fits}
+use Rattle.refine.specs.Signatures.{classAfter, hash, mixed}
 use borrow.Author.Needs.{needs}
 use Rattle.refine.proofs.hash_row.Statement.{statement}
 use Rattle.refine.proofs.hash_row.Tie as tie
 
-abbrev Inv-loop : tie.InvT-loop
-Inv-loop entries start letters class first h₀ a₀ h a = (a ≤ letters) × (h < 4294967296) × (h ≡ hash (classAfter entries class start) first a)
+-- the part lies within the entries
+fits : (c : tie.Start) → c .args .row * c .args .letters + envelopeBegin (c .args .letters) (getD (c .args .envelopes .now) (c .args .row) 0) + (envelopeEnd (c .args .letters) (getD (c .args .envelopes .now) (c .args .row) 0) - envelopeBegin (c .args .letters) (getD (c .args .envelopes .now) (c .args .row) 0)) ≤ length (c .args .entries .now)
+fits c = envelope-fits (c .args .row) (length (c .args .class .now)) (c .args .letters) (length (c .args .entries .now)) (getD (c .args .envelopes .now) (c .args .row) 0) (c .pre .0) (c .pre .1)
 
-abbrev μ-loop : tie.MeasureT-loop
-μ-loop entries start letters class first h₀ a₀ h a = letters - a
+mul-number : tie.Need-mul-number
+mul-number c = search needs
 
-loop-holds : tie.Need-loop-holds Inv-loop μ-loop
-loop-holds c = (search needs, search needs, sym (hash-start (classAfter (c .before .before .args .entries .now) (c .before .before .args .class .now) (c .before .before .args .start)) (c .before .before .args .first)))
+shared-slice-read-number : tie.Need-shared-slice-read-number
+shared-slice-read-number c = search needs
 
-add-number-at : tie.Need-add-number-at Inv-loop μ-loop
-add-number-at c = search needs
+envelope-of-requires : tie.Need-envelope-of-requires
+envelope-of-requires c κs = search needs
 
-mul-number-at : tie.Need-mul-number-at Inv-loop μ-loop
-mul-number-at c = search needs
+mul-start : tie.Need-mul-start
+mul-start c = omega (arith, fits (c .before .before .before .before .before), c .before .before .before .before .before .good)
 
-shared-slice-read-number-at : tie.Need-shared-slice-read-number-at Inv-loop μ-loop
-shared-slice-read-number-at c = search needs
+add-start : tie.Need-add-start
+add-start c = omega (arith, fits (c .before .before .before .before .before .before), c .before .before .before .before .before .before .good, c .before .envelope-of .ensures .0)
 
-number-at-requires : tie.Need-number-at-requires Inv-loop μ-loop
-number-at-requires c κs = search needs
+sub-count : tie.Need-sub-count
+sub-count c = omega (arith, c .before .before .envelope-of .ensures .0, c .before .before .envelope-of .ensures .1, envelope-ordered (c .before .before .before .before .before .before .before .args .letters) (getD (c .before .before .before .before .before .before .before .args .envelopes .now) (c .before .before .before .before .before .before .before .args .row) 0))
 
-mix-requires : tie.Need-mix-requires Inv-loop μ-loop
-mix-requires c κs = search needs
+mul-mix : tie.Need-mul-mix
+mul-mix c = search needs
 
-add-a : tie.Need-add-a Inv-loop μ-loop
-add-a c = search needs
+shared-slice-read-mix : tie.Need-shared-slice-read-mix
+shared-slice-read-mix c = search needs
 
-loop-less : tie.Need-loop-less Inv-loop μ-loop
-loop-less c = search needs
+cast-mix : tie.Need-cast-mix
+cast-mix c = omega (arith, c .shared-slice-known5 .given (c .before .before .before .before .before .before .before .before .args .row))
 
-loop-again : tie.Need-loop-again Inv-loop μ-loop
-loop-again c =
-    let args = c .before .before .before .before .before .before .before .args in
-    let loop = c .before .before .before .before .loop in
-    let f = classAfter (args .entries .now) (args .class .now) (args .start) in (
-      omega arith,
-      omega (arith, c .mix .ensures),
-      c .mix .ensures ∙ (ap₂ mixed (loop .inv .2) (c .before .number-at .ensures) ∙ rw add-one (sym (hash-step f (args .first) (loop .a)))),
-    )
+mix-requires : tie.Need-mix-requires
+mix-requires c κs = omega (arith, c .shared-slice-known5 .given (c .before .before .before .before .before .before .before .before .args .row))
 
-returns : tie.Need-returns Inv-loop μ-loop
+hash-part-requires : tie.Need-hash-part-requires
+hash-part-requires c κs = (omega (arith, fits (c .before .before .before .before .before .before .before .before .before), c .before .before .before .before .envelope-of .ensures .0, c .before .before .before .before .envelope-of .ensures .1), omega (arith, c .mix .ensures))
+
+returns : tie.Need-returns
 returns c =
-    let end : c .before .loop .a ≡ c .before .before .before .before .args .letters = omega arith in
-    (c .before .loop .inv .1, rw (← end) (c .before .loop .inv .2))
+    let args = c .before .before .before .before .before .before .before .before .before .before .args in
+    let envelope = c .before .before .before .before .before .envelope-of in
+    let e = envelope .ensures .0 in
+    let f = envelope .ensures .1 in
+    (c .hash-part .ensures .0, c .hash-part .ensures .1 ∙ (rw (e, f, c .before .mix .ensures) refl))
 
 pub hash-row-spec : {M : Type 1} → statement M
 hash-row-spec =
     tie.close
     (tie.spec
-    Inv-loop
-    μ-loop
-    loop-holds
-    add-number-at
-    mul-number-at
-    shared-slice-read-number-at
-    number-at-requires
+    mul-number
+    shared-slice-read-number
+    envelope-of-requires
+    mul-start
+    add-start
+    sub-count
+    mul-mix
+    shared-slice-read-mix
+    cast-mix
     mix-requires
-    add-a
-    loop-less
-    loop-again
+    hash-part-requires
     returns)

@@ -18,38 +18,36 @@ fill-requires : tie.Need-fill-requires
 fill-requires c κs = search needs
 
 mark-shared-requires : tie.Need-mark-shared-requires
-mark-shared-requires c κs = (c .before .before .before .fill .kept .0 ∙ c .before .before .before .before .before .before .before .before .before .before .before .pre .shared-fits, class-most (c .before .before .before .before .before .before .before .before .before .before .before .args .class .now) (c .before .before .before .before .before .before .before .before .before .before .before .pre .low))
+mark-shared-requires c κs = (c .before .before .before .fill .kept .0 ∙ c .before .before .before .before .before .before .before .before .before .before .before .pre .next-fits, class-most (c .before .before .before .before .before .before .before .before .before .before .before .args .class .now) (c .before .before .before .before .before .before .before .before .before .before .before .pre .low))
 
 fill-requires-2 : tie.Need-fill-requires-2
 fill-requires-2 c κs = search needs
 
 split-round-requires : tie.Need-split-round-requires
 split-round-requires c κs =
-    let pre = c .before .before .before .before .before .before .before .before .before .before .before .before .before .before .before .before .before .before .before .before .before .before .pre in
+    let pre = c .before .before .before .before .before .before .before .before .before .before .before .before .before .before .before .before .before .before .before .before .before .pre in
     record {
       few = pre .few;
       entries-fit = pre .entries-fit;
-      shared-fits = c .before .before .before .before .before .before .before .before .before .before .mark-shared .kept .1 .0 ∙ (c .before .before .before .before .before .before .before .before .before .before .before .before .before .before .fill .kept .0 ∙ pre .shared-fits);
-      next-fits = pre .next-fits;
-      heads-fit = c .before .before .before .before .before .before .fill2 .kept .0 ∙ pre .heads-fit;
+      envelopes-fit = pre .envelopes-fit;
+      enveloped = pre .enveloped;
+      next-fits = c .before .before .before .before .before .before .before .before .before .mark-shared .kept .1 .0 ∙ (c .before .before .before .before .before .before .before .before .before .before .before .before .before .fill .kept .0 ∙ pre .next-fits);
+      heads-fit = c .before .before .before .before .before .fill2 .kept .0 ∙ pre .heads-fit;
       links-fit = pre .links-fit;
       low = pre .low;
-      sharing = c .before .before .before .before .before .before .before .before .before .before .mark-shared .ensures;
-      empty = λ k. rw (c .before .before .before .before .before .before .fill2 .ensures) (zeros (length (c .before .before .before .before .before .before .before .before .before .before .before .before .before .before .before .before .before .before .before .before .before .before .args .heads .now)) k);
+      sharing = c .before .before .before .before .before .before .before .before .before .mark-shared .ensures;
+      empty = λ k. rw (c .before .before .before .before .before .fill2 .ensures) (zeros (length (c .before .before .before .before .before .before .before .before .before .before .before .before .before .before .before .before .before .before .before .before .before .args .heads .now)) k);
       falling = pre .falling;
     }
 
 same-length : tie.Need-same-length
-same-length c = c .before .before .before .before .before .before .split-round .kept .1 .1 .1 .1 .0
+same-length c = c .before .before .before .before .before .before .split-round .kept .1 .1 .1 .1 .0 ∙ (c .before .before .before .before .before .before .before .before .before .before .before .before .before .before .before .before .mark-shared .kept .1 .0 ∙ c .before .before .before .before .before .before .before .before .before .before .before .before .before .before .before .before .before .before .before .before .fill .kept .0)
 
 same-length-2 : tie.Need-same-length-2
-same-length-2 c = c .before .before .before .before .before .before .split-round .kept .1 .1 .1 .1 .1 .0 ∙ c .before .before .before .before .before .before .before .before .before .before .before .before .before .fill2 .kept .0
+same-length-2 c = c .before .before .before .before .before .before .split-round .kept .1 .1 .1 .1 .1 .0 ∙ c .before .before .before .before .before .before .before .before .before .before .before .before .fill2 .kept .0
 
 same-length-3 : tie.Need-same-length-3
 same-length-3 c = c .before .before .before .before .before .before .split-round .kept .1 .1 .1 .1 .1 .1 .0
-
-same-length-4 : tie.Need-same-length-4
-same-length-4 c = c .before .before .before .before .before .before .before .before .before .before .before .before .before .before .before .before .before .mark-shared .kept .1 .0 ∙ c .before .before .before .before .before .before .before .before .before .before .before .before .before .before .before .before .before .before .before .before .before .fill .kept .0
 
 returns : tie.Need-returns
 returns c = c .before .before .before .before .before .before .split-round .ensures
@@ -65,5 +63,4 @@ round-spec =
     same-length
     same-length-2
     same-length-3
-    same-length-4
     returns)

@@ -10,20 +10,22 @@ use Rattle.refine.proofs.split_round.Statement.{statement}
 use Rattle.refine.proofs.split_round.Tie as tie
 
 abbrev Inv-loop : tie.InvT-loop
-Inv-loop entries letters class shared next₀ heads₀ links₀ changed₀ row₀ next heads links changed row = Splitting letters entries class shared next heads links changed row
+Inv-loop entries letters class envelopes next₀ heads₀ links₀ changed₀ row₀ next heads links changed row = Splitting letters entries class envelopes next₀ next heads links changed row
 
 abbrev μ-loop : tie.MeasureT-loop
-μ-loop entries letters class shared next₀ heads₀ links₀ changed₀ row₀ next heads links changed row = length class - row
+μ-loop entries letters class envelopes next₀ heads₀ links₀ changed₀ row₀ next heads links changed row = length class - row
 
 loop-holds : tie.Need-loop-holds Inv-loop μ-loop
 loop-holds c = splitting-start (c .before .before .before .before .before .before .pre)
 
+mul-next-class : tie.Need-mul-next-class Inv-loop μ-loop
+mul-next-class c = search needs
+
+slice-read-next-class : tie.Need-slice-read-next-class Inv-loop μ-loop
+slice-read-next-class c = omega (arith, c .before .before .loop .inv .next-fits, c .before .loop-test .taken)
+
 next-class-requires : tie.Need-next-class-requires Inv-loop μ-loop
-next-class-requires c κs = (
-  splitting-splittable (c .before .before .before .loop .inv) (c .before .before .loop-test .taken) (c .before .before .before .before .before .before .before .before .before .before .pre),
-  c .before .before .before .before .before .before .before .before .before .before .pre .shared-fits,
-  omega (arith, c .before .before .before .before .before .before .before .before .before .before .pre .low (c .before .before .before .loop .row), c .before .before .loop-test .taken),
-)
+next-class-requires c κs = splitting-splittable (c .before .before .before .before .loop .inv) (c .before .before .before .loop-test .taken) (c .before .before .before .before .before .before .before .before .before .before .before .pre)
 
 mul-next : tie.Need-mul-next Inv-loop μ-loop
 mul-next c = search needs
@@ -46,9 +48,9 @@ loop-less c = search needs
 loop-again : tie.Need-loop-again Inv-loop μ-loop
 loop-again c =
     let call = c .before .before .before .before .before .before .next-class in
-    let loop = c .before .before .before .before .before .before .before .before .before .before .loop in
-    let lt = c .before .before .before .before .before .before .before .before .before .loop-test .taken in
-    splitting-next (loop .inv) lt (c .before .before .before .before .before .before .before .before .before .before .before .before .before .before .before .before .before .pre) (call .result) (call .last .1 .1 .1 .1 .1 .0) (call .last .1 .1 .1 .1 .1 .1 .0) true (call .ensures) (moved-new (loop .inv) lt (call .result) (c .if1 .taken))
+    let loop = c .before .before .before .before .before .before .before .before .before .before .before .loop in
+    let lt = c .before .before .before .before .before .before .before .before .before .before .loop-test .taken in
+    splitting-next (loop .inv) lt (c .before .before .before .before .before .before .before .before .before .before .before .before .before .before .before .before .before .before .pre) (call .result) (call .last .1 .1 .1 .1 .1 .1 .0) (call .last .1 .1 .1 .1 .1 .1 .1 .0) true (call .ensures) (moved-new (loop .inv) lt (call .result) (c .if1 .taken))
 
 loop-less-2 : tie.Need-loop-less-2 Inv-loop μ-loop
 loop-less-2 c = search needs
@@ -56,9 +58,9 @@ loop-less-2 c = search needs
 loop-again-2 : tie.Need-loop-again-2 Inv-loop μ-loop
 loop-again-2 c =
     let call = c .before .before .before .before .before .before .next-class in
-    let loop = c .before .before .before .before .before .before .before .before .before .before .loop in
-    let lt = c .before .before .before .before .before .before .before .before .before .loop-test .taken in
-    splitting-next (loop .inv) lt (c .before .before .before .before .before .before .before .before .before .before .before .before .before .before .before .before .before .pre) (call .result) (call .last .1 .1 .1 .1 .1 .0) (call .last .1 .1 .1 .1 .1 .1 .0) (loop .changed) (call .ensures) (moved-same (loop .inv) lt (call .result) (c .if1 .left))
+    let loop = c .before .before .before .before .before .before .before .before .before .before .before .loop in
+    let lt = c .before .before .before .before .before .before .before .before .before .before .loop-test .taken in
+    splitting-next (loop .inv) lt (c .before .before .before .before .before .before .before .before .before .before .before .before .before .before .before .before .before .before .pre) (call .result) (call .last .1 .1 .1 .1 .1 .1 .0) (call .last .1 .1 .1 .1 .1 .1 .1 .0) (loop .changed) (call .ensures) (moved-same (loop .inv) lt (call .result) (c .if1 .left))
 
 same-length : tie.Need-same-length Inv-loop μ-loop
 same-length c = c .before .loop .inv .next-fits ∙ sym (c .before .before .before .before .before .before .before .before .pre .next-fits)
@@ -79,6 +81,8 @@ split-round-spec =
     Inv-loop
     μ-loop
     loop-holds
+    mul-next-class
+    slice-read-next-class
     next-class-requires
     mul-next
     slice-write-next

@@ -1,36 +1,21 @@
 -- `refine::split_row` meets its contract: the chain of the row's bucket is searched, and the row is put into it if no row of it
 -- has its signature.
-use Prim.Native.Nat.{_≤_, _-_, _+_, _*_}
 use mathlib.Core.Path.{_≡_, refl, ap, _∙_}
 use mathlib.Core.Logic.{inl, inr}
 use native.Mathlib.Omega.{arith}
 use lib.ListN.{length, length-set}
-use Rattle.basics.proofs.Lists.{row-fits}
 use Rattle.refine.specs.Signatures.{signatureBucket, rowBucket}
 use Rattle.refine.proofs.Chains.{joins-found, begins-missed}
 use borrow.Author.Needs.{needs}
 use Rattle.refine.proofs.split_row.Statement.{statement}
 use Rattle.refine.proofs.split_row.Tie as tie
 
--- the row lies within the entries
-fits : (c : tie.Start) → c .args .row * c .args .letters + c .args .letters ≤ length (c .args .entries .now)
-fits c = row-fits (c .args .row) (length (c .args .class .now)) (c .args .letters) (length (c .args .entries .now)) (c .pre .inside) (c .pre .entries-fit)
-
 -- the bucket that was found is the row's
-its-bucket : (c : tie.After-bucket) → c .bucket .result ≡ rowBucket (length (c .before .before .before .before .before .before .before .args .heads .now)) (c .before .before .before .before .before .before .before .args .letters) (c .before .before .before .before .before .before .before .args .entries .now) (c .before .before .before .before .before .before .before .args .class .now) (c .before .before .before .before .before .before .before .args .row)
+its-bucket : (c : tie.After-bucket) → c .bucket .result ≡ rowBucket (length (c .before .before .before .before .before .before .before .args .heads .now)) (c .before .before .before .before .before .before .before .args .letters) (c .before .before .before .before .before .before .before .args .entries .now) (c .before .before .before .before .before .before .before .args .class .now) (c .before .before .before .before .before .before .before .args .envelopes .now) (c .before .before .before .before .before .before .before .args .row)
 its-bucket c = c .bucket .ensures .1 ∙ ap (signatureBucket (length (c .before .before .before .before .before .before .before .args .heads .now))) (c .before .hash-row .ensures .1)
 
-mul-hash-row : tie.Need-mul-hash-row
-mul-hash-row c = omega (arith, fits (c .before .before .before .before), c .before .before .before .before .good)
-
-mul-hash-row-2 : tie.Need-mul-hash-row-2
-mul-hash-row-2 c = search needs
-
-shared-slice-read-hash-row : tie.Need-shared-slice-read-hash-row
-shared-slice-read-hash-row c = search needs
-
 hash-row-requires : tie.Need-hash-row-requires
-hash-row-requires c κs = fits (c .before .before .before .before .before)
+hash-row-requires c κs = (c .before .before .before .before .before .pre .inside, c .before .before .before .before .before .pre .entries-fit, c .before .before .before .before .before .pre .envelopes-fit)
 
 bucket-requires : tie.Need-bucket-requires
 bucket-requires c κs = search needs
@@ -51,6 +36,8 @@ find-requires c κs =
       inside = start .pre .inside;
       head-most = start .pre .heads-most (c .before .before .bucket .result);
       entries-fit = start .pre .entries-fit;
+      envelopes-fit = start .pre .envelopes-fit;
+      enveloped = start .pre .enveloped;
       links-fit = start .pre .links-fit;
       falling = start .pre .falling;
     }
@@ -64,7 +51,7 @@ same-length c = refl
 returns : tie.Need-returns
 returns c =
     let args = c .before .before .before .before .before .before .before .before .before .before .before .args in
-    inl (joins-found (args .letters) (args .entries .now) (args .class .now) (args .heads .now) (args .links .now) (args .row) (c .before .before .before .before .bucket .result) (its-bucket (c .before .before .before .before)) (c .before .find .result) (omega (arith, c .if1 .taken)) (c .before .find .ensures .1))
+    inl (joins-found (args .letters) (args .entries .now) (args .class .now) (args .envelopes .now) (args .heads .now) (args .links .now) (args .row) (c .before .before .before .before .bucket .result) (its-bucket (c .before .before .before .before)) (c .before .find .result) (omega (arith, c .if1 .taken)) (c .before .find .ensures .1))
 
 cast-name : tie.Need-cast-name
 cast-name c = search needs
@@ -99,15 +86,12 @@ same-length-3 c = simp length-set
 returns-2 : tie.Need-returns-2
 returns-2 c =
     let args = c .before .before .before .before .before .before .before .before .before .before .before .before .args in
-    inr (begins-missed (args .letters) (args .entries .now) (args .class .now) (args .heads .now) (args .links .now) (args .row) (c .before .before .before .before .before .bucket .result) (its-bucket (c .before .before .before .before .before)) (c .before .before .find .result) (c .before .if1 .left) (c .before .before .find .ensures .1))
+    inr (begins-missed (args .letters) (args .entries .now) (args .class .now) (args .envelopes .now) (args .heads .now) (args .links .now) (args .row) (c .before .before .before .before .before .bucket .result) (its-bucket (c .before .before .before .before .before)) (c .before .before .find .result) (c .before .if1 .left) (c .before .before .find .ensures .1))
 
 pub split-row-spec : {M : Type 1} → statement M
 split-row-spec =
     tie.close
     (tie.spec
-    mul-hash-row
-    mul-hash-row-2
-    shared-slice-read-hash-row
     hash-row-requires
     bucket-requires
     mul-find

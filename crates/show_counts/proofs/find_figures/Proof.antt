@@ -1,7 +1,7 @@
 -- `show_counts::find_figures` meets its contract: the refusal of the sheet or of the line, or what counting the used rows gives (Printing, Sizes).
 use mathlib.Core.Path.{sym}
 use borrow.Author.Needs.{needs}
-use Rattle.show_counts.proofs.Sizes.{opened-sizes, rows-fit}
+use Rattle.opening.proofs.Sizes.{opened-sizes, rows-fit}
 use Rattle.show_counts.proofs.Printing.{early-found, counted-found, counted-lack}
 use Rattle.show_counts.proofs.find_figures.Statement.{statement}
 use Rattle.show_counts.proofs.find_figures.Tie as tie

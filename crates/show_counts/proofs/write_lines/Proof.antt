@@ -7,7 +7,7 @@ use lib.ListN.{length, length-replicate}
 use Rattle.output.specs.Output.{Hands}
 use Rattle.counts_text.proofs.Lines.{listed-short}
 use borrow.Author.Needs.{needs}
-use Rattle.show_counts.proofs.Printing.{front-text}
+use Rattle.pages.proofs.Lines.{front-text}
 use Rattle.show_counts.proofs.write_lines.Statement.{statement}
 use Rattle.show_counts.proofs.write_lines.Tie as tie
 

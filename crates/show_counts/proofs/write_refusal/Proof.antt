@@ -6,7 +6,7 @@ use lib.ListN.{length-replicate}
 use Rattle.print.proofs.Lengths.{refusal-length}
 use Rattle.output.specs.Output.{Hands}
 use borrow.Author.Needs.{needs}
-use Rattle.show_counts.proofs.Printing.{front-text}
+use Rattle.pages.proofs.Lines.{front-text}
 use Rattle.show_counts.proofs.write_refusal.Statement.{statement}
 use Rattle.show_counts.proofs.write_refusal.Tie as tie
 

@@ -1,6 +1,7 @@
 -- `show_course::show_course` meets its contract: what the calls print is what the texts print (Printing).
 use mathlib.Core.Path.{refl, sym}
-use Rattle.show_course.proofs.Printing.{opened-sizes, rows-fit, opened-ranges, calls-print}
+use Rattle.opening.proofs.Sizes.{opened-sizes, rows-fit}
+use Rattle.show_course.proofs.Printing.{opened-ranges, calls-print}
 use borrow.Author.Needs.{needs}
 use Rattle.show_course.proofs.show_course.Statement.{statement}
 use Rattle.show_course.proofs.show_course.Tie as tie

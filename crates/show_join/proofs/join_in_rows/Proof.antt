@@ -63,11 +63,11 @@ array-borrow-prefix-links c = search needs
 slice-aggregate-join-tables-6 : tie.Need-slice-aggregate-join-tables-6
 slice-aggregate-join-tables-6 c = sym (length-take-le _ _ (array-borrow-prefix-links (c .before)))
 
-array-borrow-prefix-shared : tie.Need-array-borrow-prefix-shared
-array-borrow-prefix-shared c = search needs
+array-borrow-prefix-envelopes : tie.Need-array-borrow-prefix-envelopes
+array-borrow-prefix-envelopes c = search needs
 
 slice-aggregate-join-tables-7 : tie.Need-slice-aggregate-join-tables-7
-slice-aggregate-join-tables-7 c = sym (length-take-le _ _ (array-borrow-prefix-shared (c .before)))
+slice-aggregate-join-tables-7 c = sym (length-take-le _ _ (array-borrow-prefix-envelopes (c .before)))
 
 join-tables-requires : tie.Need-join-tables-requires
 join-tables-requires c κs = tt
@@ -113,7 +113,7 @@ join-in-rows-spec =
     slice-aggregate-join-tables-5
     array-borrow-prefix-links
     slice-aggregate-join-tables-6
-    array-borrow-prefix-shared
+    array-borrow-prefix-envelopes
     slice-aggregate-join-tables-7
     join-tables-requires
     same-length

@@ -1,7 +1,7 @@
 -- `show_join::show_from` meets its contract: what is printed of both opened tables is what the first one and the second text print (Printing).
 use mathlib.Core.Path.{sym}
 use borrow.Author.Needs.{needs}
-use Rattle.opened_tables.proofs.Used.{opened-sizes}
+use Rattle.opening.proofs.Sizes.{opened-sizes}
 use Rattle.show_join.proofs.Printing.{both-print}
 use Rattle.show_join.proofs.show_from.Statement.{statement}
 use Rattle.show_join.proofs.show_from.Tie as tie

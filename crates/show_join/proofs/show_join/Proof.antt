@@ -1,7 +1,7 @@
 -- `show_join::show_join` meets its contract: what is printed of the opened table and the second text is what both texts print (Printing).
 use mathlib.Core.Path.{sym}
 use borrow.Author.Needs.{needs}
-use Rattle.opened_tables.proofs.Used.{opened-sizes}
+use Rattle.opening.proofs.Sizes.{opened-sizes}
 use Rattle.show_join.proofs.Printing.{calls-print}
 use Rattle.show_join.proofs.show_join.Statement.{statement}
 use Rattle.show_join.proofs.show_join.Tie as tie

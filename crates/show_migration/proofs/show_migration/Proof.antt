@@ -2,7 +2,7 @@
 -- of both sheets (Printing).
 use mathlib.Core.Path.{sym}
 use borrow.Author.Needs.{needs}
-use Rattle.opened_tables.proofs.Used.{opened-sizes}
+use Rattle.opening.proofs.Sizes.{opened-sizes}
 use Rattle.show_migration.proofs.Printing.{calls-print}
 use Rattle.show_migration.proofs.show_migration.Statement.{statement}
 use Rattle.show_migration.proofs.show_migration.Tie as tie

@@ -6,7 +6,7 @@ use lib.Seq.{length-take-le, take-all}
 use borrow.Author.Needs.{needs}
 use Rattle.output.specs.Output.{Hands}
 use Rattle.migration_text.specs.Migration.{mostStates, migrationOutput}
-use Rattle.opened_tables.proofs.Used.{opened-sizes}
+use Rattle.opening.proofs.Sizes.{opened-sizes}
 use Rattle.show_migration.proofs.Printing.{finds-prints}
 use Rattle.show_migration.proofs.show_opened.Statement.{statement}
 use Rattle.show_migration.proofs.show_opened.Tie as tie

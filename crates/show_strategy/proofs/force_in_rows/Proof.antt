@@ -66,11 +66,11 @@ array-borrow-prefix-links c = search needs
 slice-aggregate-force-6 : tie.Need-slice-aggregate-force-6
 slice-aggregate-force-6 c = sym (length-take-le _ _ (array-borrow-prefix-links (c .before)))
 
-array-borrow-prefix-shared : tie.Need-array-borrow-prefix-shared
-array-borrow-prefix-shared c = search needs
+array-borrow-prefix-envelopes : tie.Need-array-borrow-prefix-envelopes
+array-borrow-prefix-envelopes c = search needs
 
 slice-aggregate-force-7 : tie.Need-slice-aggregate-force-7
-slice-aggregate-force-7 c = sym (length-take-le _ _ (array-borrow-prefix-shared (c .before)))
+slice-aggregate-force-7 c = sym (length-take-le _ _ (array-borrow-prefix-envelopes (c .before)))
 
 force-requires : tie.Need-force-requires
 force-requires c κs = tt
@@ -120,7 +120,7 @@ force-in-rows-spec =
     slice-aggregate-force-5
     array-borrow-prefix-links
     slice-aggregate-force-6
-    array-borrow-prefix-shared
+    array-borrow-prefix-envelopes
     slice-aggregate-force-7
     force-requires
     same-length
