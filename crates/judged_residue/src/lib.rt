@@ -1,0 +1,1 @@
+// This crate holds laws (proofs/), and no function.

@@ -1,0 +1,5 @@
+pub mod Residue
+pub mod Written
+pub mod Size
+pub mod Writing
+pub mod Blocks

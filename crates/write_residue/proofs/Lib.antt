@@ -1,0 +1,3 @@
+pub mod Recursion
+pub mod Answers
+pub mod Joined
