@@ -33,7 +33,7 @@ END = """\
 
 def checksum(text):
     """The CRC-32 of the bytes (polynomial 0x04C11DB7, bits taken from the
-    lowest on, begun with and exchanged by ones)."""
+    lowest on, begun with ones, and each bit turned into the other at the end)."""
     rest = 0xFFFFFFFF
     for byte in text:
         rest ^= byte
