@@ -1,5 +1,5 @@
 -- The checksum CRC-32 of a text, the one of zlib and gzip (RFC 1952, section 8): a register of 32 bits that begins with ones takes the bytes in turn, the
--- lowest bit of each first, and its bits are exchanged at the end.
+-- lowest bit of each first, and at the end each bit is turned into the other.
 use Prim.Native.Nat.{ℕ, zero, suc, _/_, _%_}
 use mathlib.Core.Bool.{cond}
 use mathlib.Core.List.{List, [], _∷_}

@@ -39,7 +39,7 @@ pub record BeginsClass (letters : ℕ) (entries class envelopes heads links head
   pub heads-changed : heads′ ≡ set heads (rowBucket (length heads) letters entries class envelopes s) (suc s)
   pub links-changed : links′ ≡ set links s (getD heads (rowBucket (length heads) letters entries class envelopes s) 0)
 
--- Row s has a class with another row, and joins or begins a new class. `mark` is that of row s.
+-- Row s has a class, and joins or begins a new one; where it is the first row of its class, `mark`, which is that of row s, says that there is another.
 pub record Splits (letters : ℕ) (entries class envelopes : List ℕ) (mark : ℕ) (heads links heads′ links′ : List ℕ) (s v : ℕ) : Type 0 where
   pub some : 0 < getD class s 0
   pub shares : getD class s 0 ≡ suc s → mark ≡ 1

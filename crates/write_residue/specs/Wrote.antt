@@ -35,7 +35,7 @@ abbrev pub varyingAt : ℕ → WrittenResidue
 varyingAt end = record { known = false; value = coded noValue; end = end }
 
 -- The residue r was written from the place `at` on: the answer says whether its value is known, and then the number of that value, and where its nodes
--- end. What stood before stays. Where there is no room for them, what stands from `at` on is left open.
+-- end. What stood before stays. What stands behind them is left open, and where there is no room for them, what stands from `at` on.
 pub record Wrote (old new : Nodes) (at : ℕ) (r : Residue) (a : WrittenResidue) : Type 0 where
   pub known : a .known ≡ isKnown r
   pub value : a .value ≡ coded (knownValue r)
