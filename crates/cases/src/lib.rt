@@ -34,7 +34,7 @@ pub fn number(bytes: &[u8], at: usize) -> u32
 }
 
 // Whether a whole case was read, how many bytes it has behind its heading, and the heading. Without one the size is 0.
-#[derive(Drop)]
+#[derive(Clone, Copy)]
 pub struct Case {
     pub found: bool,
     pub size: usize,

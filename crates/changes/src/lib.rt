@@ -11,7 +11,7 @@ use basics::fewer;
 use streams::StreamsDescription;
 
 // How many values each of the first `count` streams has, and its kind.
-#[derive(Drop)]
+#[derive(Clone, Copy)]
 pub struct Shape {
     pub count: usize,
     pub sizes: [u32; 8],

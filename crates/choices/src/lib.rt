@@ -9,7 +9,7 @@ ghost use Rattle.choices.specs.Counted.{letters_made, CanCount, IsChosen, Choice
 use streams::StreamsDescription;
 
 // The number of a letter's choice, and how many choices there are.
-#[derive(Drop)]
+#[derive(Clone, Copy)]
 struct ChoiceRead {
     number: u32,
     count: u32,

@@ -8,7 +8,7 @@ use basics::fewer;
 // The refusal's number or 0, "the number of states and the number of distinct situations". Laid out as in C, so that an exported function can give
 // it back.
 #[repr(C)]
-#[derive(Drop)]
+#[derive(Clone, Copy)]
 pub struct Compiled {
     pub refusal: u32,
     pub states: u32,

@@ -8,7 +8,7 @@ use streams::StreamsDescription;
 // The refusal's number or 0, the numbers of states and situations, and with refusal 0 the number of letters and the streams. Laid out as in C, so that an
 // exported function can give it back.
 #[repr(C)]
-#[derive(Drop)]
+#[derive(Clone, Copy)]
 pub struct CompiledSheet {
     pub refusal: u32,
     pub states: u32,

@@ -27,7 +27,7 @@ use streams::StreamsDescription;
 
 // The answer: 0 or the refusal, and how many letters the course has.
 #[repr(C)]
-#[derive(Drop)]
+#[derive(Clone, Copy)]
 pub struct CourseAnswer {
     pub refusal: u32,
     pub count: u32,
@@ -101,7 +101,7 @@ fn meet_rows(
 }
 
 // How many rows are met, and the goal layer.
-#[derive(Drop)]
+#[derive(Clone, Copy)]
 struct MetRows {
     count: usize,
     goal: u16,

@@ -106,7 +106,7 @@ fn leaf(
 }
 
 // A part, by where it ends, and a place at which its value is asked for.
-#[derive(Drop)]
+#[derive(Clone, Copy)]
 struct Part {
     end: usize,
     place: usize,
@@ -154,7 +154,7 @@ fn shifted(kinds: &[u8; 1024], count: usize, end: usize, place: usize) -> Part
 }
 
 // Where the part ends that `not`s stand before, and whether a `not` before them negates it a second time.
-#[derive(Drop)]
+#[derive(Clone, Copy)]
 struct NegatedPart {
     end: usize,
     again: bool,

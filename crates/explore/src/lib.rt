@@ -16,14 +16,14 @@ use prepare::{Dimensions, prepare};
 use sizes::{KEY_SIZE, Lengths, MARKS_PLACE, PREPARED_SIZE, is_lent, is_ready};
 
 // The number of situations, or that there are more than the limit.
-#[derive(Drop)]
+#[derive(Clone, Copy)]
 struct Explored {
     full: bool,
     count: usize,
 }
 
 // How many letters there are, how many rows there may be, and the marks of all untils.
-#[derive(Drop)]
+#[derive(Clone, Copy)]
 struct Bounds {
     letters: usize,
     limit: usize,
@@ -31,7 +31,7 @@ struct Bounds {
 }
 
 // The answer: whether the sheet and the tables have the sizes that the search depends on, and what it finds if so.
-#[derive(Drop)]
+#[derive(Clone, Copy)]
 pub struct Exploration {
     pub ready: bool,
     pub full: bool,

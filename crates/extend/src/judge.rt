@@ -6,14 +6,14 @@ ghost use Rattle.extend.specs.Step.{unlawful, judged_from};
 ghost use Rattle.extend.specs.Marking.{IsSmall, begun, grown};
 
 // Whether a lawful record stays lawful, and the marks of the untils that are done then.
-#[derive(Drop)]
+#[derive(Clone, Copy)]
 pub struct Judged {
     pub ok: bool,
     pub marks: u32,
 }
 
 // The marks that are told so far, what the next one counts for, and the marks of the untils that are still to be judged.
-#[derive(Drop)]
+#[derive(Clone, Copy)]
 struct Marking {
     told: u64,
     weight: u64,

@@ -10,7 +10,7 @@ const HIGHEST_FIGURE: u64 = 9223372036854775807;
 const FIGURE_CUT: u64 = 9223372036854775808;
 
 // The two sums of a row: over all records, and over those that end in a final state.
-#[derive(Drop)]
+#[derive(Clone, Copy)]
 pub struct RowSums {
     pub all: u64,
     pub ending: u64,

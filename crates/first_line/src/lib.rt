@@ -8,7 +8,7 @@ ghost use Rattle.first_line.specs.Machine.{first_digit, phase_byte, phase_end, c
 use basics::either;
 
 // What the bytes of the line are so far: no token yet, `0` alone, digits, one number that has ended, or no number alone.
-#[derive(Drop)]
+#[derive(Clone, Copy)]
 pub enum NumberPhase {
     Start,
     Zero,
@@ -18,14 +18,14 @@ pub enum NumberPhase {
 }
 
 // The same, and the number so far, cut at 65.
-#[derive(Drop)]
+#[derive(Clone, Copy)]
 pub struct NumberState {
     pub phase: NumberPhase,
     pub value: u32,
 }
 
 // The line so far: whether a byte was barred, and whether a token is begun.
-#[derive(Drop)]
+#[derive(Clone, Copy)]
 pub struct NumberLine {
     pub barred: bool,
     pub begun: bool,
@@ -33,14 +33,14 @@ pub struct NumberLine {
 }
 
 // Whether the line is a number, and the number, cut at 65, or 0.
-#[derive(Drop)]
+#[derive(Clone, Copy)]
 pub struct LineNumber {
     pub found: bool,
     pub value: u32,
 }
 
 // What is kept of an input: the line, whether it has ended, and how many of the lent bytes hold bytes of the sheet.
-#[derive(Drop)]
+#[derive(Clone, Copy)]
 pub struct Taken {
     pub line: NumberLine,
     pub behind: bool,

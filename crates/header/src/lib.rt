@@ -7,7 +7,7 @@ ghost use Rattle.header.specs.Streams.{stream_tables, no_stream_tables, StreamsO
 use basics::{either, fewer};
 
 // Whether the header lines have the form, how many streams they give, and whether a range is refused.
-#[derive(Drop)]
+#[derive(Clone, Copy)]
 pub struct StreamsRead {
     pub ok: bool,
     pub count: usize,
@@ -15,7 +15,7 @@ pub struct StreamsRead {
 }
 
 // What is stored of the streams: eight bytes for each name, the names' lengths, the ranges, and the kinds, 0 for `set` and 1 for `read`.
-#[derive(Drop)]
+#[derive(Clone, Copy)]
 pub struct StreamArrays {
     pub names: [u8; 64],
     pub lengths: [u8; 8],
@@ -25,7 +25,7 @@ pub struct StreamArrays {
 }
 
 // What is read of the header lines, whether the line of kinds says nothing or a kind for each stream, and what is stored.
-#[derive(Drop)]
+#[derive(Clone, Copy)]
 pub struct HeaderRead {
     pub streams: StreamsRead,
     pub said: bool,

@@ -5,14 +5,14 @@ ghost use Rattle.input.specs.Input.{after_read, IsInput};
 use basics::fewer;
 
 // How many bytes were read, and whether a read failed.
-#[derive(Drop)]
+#[derive(Clone, Copy)]
 pub struct Input {
     pub size: usize,
     pub failed: bool,
 }
 
 // The same after one read, and whether there may be more to read.
-#[derive(Drop)]
+#[derive(Clone, Copy)]
 pub struct Progress {
     pub size: usize,
     pub failed: bool,

@@ -6,7 +6,7 @@ ghost use Rattle.scan.specs.Integer.{with_sign};
 ghost use Rattle.integer_bytes.specs.Phases.{digit_phase, next_phase, ends_integer, is_negative, next_magnitude};
 
 // What the bytes of a token are so far: none, `-` alone, `0` alone, digits, digits behind `-`, or no beginning of an integer.
-#[derive(Drop)]
+#[derive(Clone, Copy)]
 pub enum Phase {
     Empty,
     Minus,

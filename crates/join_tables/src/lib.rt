@@ -15,7 +15,7 @@ use streams::StreamsDescription;
 // The refusal's number or 0; with 0 the number of states, of reachable pairs of states, of joined letters, and the joined streams. Laid out as in C, so that
 // an exported function can give it back.
 #[repr(C)]
-#[derive(Drop)]
+#[derive(Clone, Copy)]
 pub struct JoinAnswer {
     pub refusal: u32,
     pub states: u32,
@@ -25,7 +25,7 @@ pub struct JoinAnswer {
 }
 
 // The lengths of the tables that are lent with one number a row.
-#[derive(Drop)]
+#[derive(Clone, Copy)]
 struct RowTables {
     finals: usize,
     keys: usize,

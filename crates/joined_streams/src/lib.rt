@@ -16,7 +16,7 @@ use basics::fewer;
 use streams::StreamsDescription;
 
 // The refusal or 0; with 0 the number of joined letters, the joined streams, and the number of each joined letter's cut to the left and to the right streams.
-#[derive(Drop)]
+#[derive(Clone, Copy)]
 pub struct JoinedStreams {
     pub refusal: u32,
     pub letters: u32,

@@ -4,7 +4,7 @@ ghost use Rattle.std.specs.Int.Signed.{lt_z};
 ghost use Rattle.lowest_refusal.specs.Tested.{form_refusal, failed_as, tested_with};
 
 // A refusal 4 to 7 with zeros, or 0 with the number of letters, D and B.
-#[derive(Drop)]
+#[derive(Clone, Copy)]
 pub struct Tested {
     pub refusal: u32,
     pub letters: u32,

@@ -8,7 +8,7 @@ ghost use Rattle.minimise.specs.Reducing.{RowsJudged, HasWord, Tabled, Ran};
 
 // The answer: 0 and the number of states, or a refusal and 0. Laid out as in C, so that an exported function can give it back.
 #[repr(C)]
-#[derive(Drop)]
+#[derive(Clone, Copy)]
 pub struct Minimised {
     pub refusal: u32,
     pub states: u32,

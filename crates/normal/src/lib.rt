@@ -15,7 +15,7 @@ use nodes::{Range, left_end};
 use normal_entries::{Entry, Made, NormalForm, fill, put_spans, refused, wide};
 
 // The row and the stream behind the last.
-#[derive(Drop)]
+#[derive(Clone, Copy)]
 struct RowsWritten {
     row: usize,
     stream: usize,

@@ -6,7 +6,7 @@ ghost use Rattle.normal_entries.specs.Entries.{refused_made, with_spans, blank, 
 // One entry of the normal form (`normal/specs/Encoded` says what its fields are). Laid out as in C, so that an exported function can be lent a list of them;
 // twelve numbers of two bytes and two of eight, with no bytes between them.
 #[repr(C)]
-#[derive(Drop)]
+#[derive(Clone, Copy)]
 pub struct Entry {
     pub kind: u16,
     pub relation: u16,
@@ -26,7 +26,7 @@ pub struct Entry {
 
 // The refusal's number or 0, the number of entries and of added streams. Laid out as in C, so that an exported function can give it back.
 #[repr(C)]
-#[derive(Drop)]
+#[derive(Clone, Copy)]
 pub struct NormalForm {
     pub refusal: u32,
     pub entries: u32,
@@ -34,7 +34,7 @@ pub struct NormalForm {
 }
 
 // The answer; seven numbers for each entry, and behind those of all entries two for the span of each node; and the ends of the ranges.
-#[derive(Drop)]
+#[derive(Clone, Copy)]
 pub struct Made {
     pub answer: NormalForm,
     pub numbers: [u16; 30944],

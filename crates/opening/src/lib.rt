@@ -6,7 +6,7 @@ ghost use Rattle.opening.specs.Start.{start_text, start_state, state_below, judg
 ghost use Rattle.opening.specs.Opens.{OpensTable};
 
 // The refusal's number, or 0 with the number of states and the state to start from; and the sheet as it is read.
-#[derive(Drop)]
+#[derive(Clone, Copy)]
 pub struct OpenedTable {
     pub refusal: u32,
     pub states: u32,
@@ -15,7 +15,7 @@ pub struct OpenedTable {
 }
 
 // Whether a start is a state of the table, and the state, or 0.
-#[derive(Drop)]
+#[derive(Clone, Copy)]
 struct Start {
     ok: bool,
     state: u32,

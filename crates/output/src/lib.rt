@@ -7,7 +7,7 @@ use basics::fewer;
 use libc::STDOUT_FILENO;
 
 // How many bytes were taken by writes, and whether each write took all of its bytes.
-#[derive(Drop)]
+#[derive(Clone, Copy)]
 pub struct Handed {
     pub size: usize,
     pub whole: bool,

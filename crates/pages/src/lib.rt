@@ -8,7 +8,7 @@ ghost use Rattle.pages.specs.Output.{output_at, place_count};
 use basics::fewer;
 
 // How many of the lent bytes hold lines, and the place after them.
-#[derive(Drop)]
+#[derive(Clone, Copy)]
 pub struct Page {
     pub size: usize,
     pub next: usize,

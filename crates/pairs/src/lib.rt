@@ -10,7 +10,7 @@ ghost use Rattle.pairs.specs.Found.{pair_tables, RowsFilled, PairsOutcome};
 use automaton::NO_STATE;
 
 // How many letters either table and the joined one have, and how many rows there may be.
-#[derive(Drop)]
+#[derive(Clone, Copy)]
 pub struct PairSizes {
     pub left_letters: usize,
     pub right_letters: usize,
@@ -19,7 +19,7 @@ pub struct PairSizes {
 }
 
 // The lengths of the cuts and of the lent tables.
-#[derive(Drop)]
+#[derive(Clone, Copy)]
 struct PairRoom {
     left_cuts: usize,
     right_cuts: usize,

@@ -16,7 +16,7 @@ use basics::either;
 
 // What reading a part or an expression gives: whether there is one, the number of the token after it, the numbers of nodes and of `first`s
 // stored so far, and whether an integer in it is beyond the magnitude bound.
-#[derive(Drop)]
+#[derive(Clone, Copy)]
 struct Read {
     ok: bool,
     next: usize,
@@ -27,7 +27,7 @@ struct Read {
 
 // Where the token with some number begins and ends in a text, and the next number; both places are the text's length where the text has no
 // token with that number.
-#[derive(Drop)]
+#[derive(Clone, Copy)]
 struct NumberedToken {
     start: usize,
     end: usize,
@@ -35,7 +35,7 @@ struct NumberedToken {
 }
 
 // The number of the token that stands behind prefixes, and that of the first `first` behind them.
-#[derive(Drop)]
+#[derive(Clone, Copy)]
 struct Passed {
     at: usize,
     firsts: usize,
@@ -43,7 +43,7 @@ struct Passed {
 
 // What reading a constraint line gives: whether the stored have room for it, whether it is a constraint, and then its relation, the places
 // of the last nodes of its sides, the numbers of nodes and of `first`s stored so far, and whether an integer in it is beyond the bound.
-#[derive(Drop)]
+#[derive(Clone, Copy)]
 pub struct ConstraintRead {
     pub fits: bool,
     pub ok: bool,

@@ -7,7 +7,7 @@ ghost use Rattle.playback.specs.Written.{highest_count, WritesChunk};
 use replaying::Replay;
 
 // Where the reading stands, how many bytes were taken by writes, and whether each write took all of its bytes.
-#[derive(Drop)]
+#[derive(Clone, Copy)]
 pub struct Written {
     pub replay: Replay,
     pub size: usize,

@@ -15,7 +15,7 @@ use sizes::{
 };
 
 // How many streams a sheet has, D, and D+B.
-#[derive(Drop)]
+#[derive(Clone, Copy)]
 pub struct Dimensions {
     pub streams: usize,
     pub ahead: usize,

@@ -19,7 +19,7 @@ use basics::{either, larger};
 use header::{StreamArrays, StreamsRead};
 
 // The stored sheet. Room beyond what is given is zero.
-#[derive(Drop)]
+#[derive(Clone, Copy)]
 pub struct StoredSheet {
     // streams: eight bytes for each name, the names' lengths, the ranges, and the kinds, 0 for `set` and 1 for `read`
     pub streams: usize,
@@ -49,14 +49,14 @@ pub struct StoredSheet {
 }
 
 // A refusal 1 to 7 with a sheet of zeros, or 0 with the sheet.
-#[derive(Drop)]
+#[derive(Clone, Copy)]
 pub struct Reading {
     pub refusal: u32,
     pub sheet: StoredSheet,
 }
 
 // What is stored of the constraints.
-#[derive(Drop)]
+#[derive(Clone, Copy)]
 struct ConstraintArrays {
     kinds: [u8; 1024],
     values: [i64; 1024],
@@ -67,7 +67,7 @@ struct ConstraintArrays {
 }
 
 // Whether every interval is within the bound; D and B.
-#[derive(Drop)]
+#[derive(Clone, Copy)]
 struct Extent {
     ok: bool,
     ahead: u32,
@@ -75,7 +75,7 @@ struct Extent {
 }
 
 // Whether the constraint lines have the form, how many they are, what was stored of them, and whether an integer is beyond the bound.
-#[derive(Drop)]
+#[derive(Clone, Copy)]
 struct ConstraintsRead {
     ok: bool,
     count: usize,

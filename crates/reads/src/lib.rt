@@ -3,7 +3,7 @@ ghost use Rattle.std.specs.Prelude.{◌≡◌};
 ghost use Rattle.reads.specs.Chunks.{ended_as, reads_so_far};
 
 // How reading an input ended: at its end; where nothing behind matters; or before both.
-#[derive(Drop)]
+#[derive(Clone, Copy)]
 pub enum ReadEnd {
     Complete,
     Stopped,
@@ -11,7 +11,7 @@ pub enum ReadEnd {
 }
 
 // How the reading ends if nothing more is read, and whether there may be more to read.
-#[derive(Drop)]
+#[derive(Clone, Copy)]
 pub struct ReadsSoFar {
     pub ended: ReadEnd,
     pub more: bool,

@@ -13,14 +13,14 @@ use tally::{LineCounts, Tally, TallyStage};
 const READS: u64 = 140737488355329;
 
 // The tally of what was read, and how the reading ended.
-#[derive(Drop)]
+#[derive(Clone, Copy)]
 struct ReadTally {
     tally: Tally,
     progress: ReadsSoFar,
 }
 
 // What is counted, and how the reading ended.
-#[derive(Drop)]
+#[derive(Clone, Copy)]
 pub struct FileCounts {
     pub counted: LineCounts,
     pub ended: ReadEnd,

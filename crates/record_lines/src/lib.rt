@@ -13,14 +13,14 @@ use record_names::NamesState;
 use records::LineState;
 
 // The line of names, read to a place.
-#[derive(Drop)]
+#[derive(Clone, Copy)]
 pub struct NamesRun {
     pub names: NamesState,
     pub next: usize,
 }
 
 // A line of values, read to a place.
-#[derive(Drop)]
+#[derive(Clone, Copy)]
 pub struct ValuesRun {
     pub line: LineState,
     pub next: usize,

@@ -8,7 +8,7 @@ ghost use Rattle.record_names.specs.Machine.{next_count, is_byte_at, name_byte, 
 use basics::{both, either, fewer};
 
 // Whether the tokens are the names so far, how many have ended, and the place in the token that is begun.
-#[derive(Drop)]
+#[derive(Clone, Copy)]
 pub struct NameState {
     pub same: bool,
     pub count: usize,
@@ -16,7 +16,7 @@ pub struct NameState {
 }
 
 // The line of names so far: whether a byte was barred, and whether a token is begun.
-#[derive(Drop)]
+#[derive(Clone, Copy)]
 pub struct NamesState {
     pub barred: bool,
     pub begun: bool,

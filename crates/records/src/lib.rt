@@ -8,7 +8,7 @@ use basics::{both, either, fewer};
 use integer_bytes::Phase;
 
 // The token that is begun, how many tokens have ended, whether all of them are integers, and the number of the letter so far.
-#[derive(Drop)]
+#[derive(Clone, Copy)]
 pub struct ValuesState {
     pub phase: Phase,
     pub magnitude: u32,
@@ -18,7 +18,7 @@ pub struct ValuesState {
 }
 
 // A line of values so far: whether a byte was barred, and whether a token is begun.
-#[derive(Drop)]
+#[derive(Clone, Copy)]
 pub struct LineState {
     pub barred: bool,
     pub begun: bool,
@@ -26,7 +26,7 @@ pub struct LineState {
 }
 
 // 13 or 14, or 0 with the number of the letter.
-#[derive(Drop)]
+#[derive(Clone, Copy)]
 pub struct LineEnd {
     pub refusal: u32,
     pub letter: u32,

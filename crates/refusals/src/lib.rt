@@ -12,7 +12,7 @@ use basics::{both, either};
 
 // Where the three header lines and the line of kinds stand and the constraint lines begin, whether quotients are rounded down, and whether the
 // release is known and there are three header lines.
-#[derive(Drop)]
+#[derive(Clone, Copy)]
 pub struct Header {
     pub names_start: usize,
     pub names_end: usize,
@@ -28,7 +28,7 @@ pub struct Header {
 }
 
 // Whether the release is one that is known, whether it is the one whose quotients are rounded down, and where the names line begins.
-#[derive(Drop)]
+#[derive(Clone, Copy)]
 struct Release {
     known: bool,
     floors: bool,

@@ -11,7 +11,7 @@ use replaying::{Replay, Stage};
 const READS: u64 = 140737488355328;
 
 // Whether all lines were written, and whether a read failed.
-#[derive(Drop)]
+#[derive(Clone, Copy)]
 struct Played {
     whole: bool,
     failed: bool,

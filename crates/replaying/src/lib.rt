@@ -10,7 +10,7 @@ use record_names::NamesState;
 use records::LineState;
 
 // What is read next: the line of names, a line of values, or nothing, behind a refusal.
-#[derive(Drop)]
+#[derive(Clone, Copy)]
 pub enum Stage {
     Names,
     Values,
@@ -18,7 +18,7 @@ pub enum Stage {
 }
 
 // Where the reading stands, whether bytes stand since the last byte 10, what is kept of the line, its number, and the state reached so far.
-#[derive(Drop)]
+#[derive(Clone, Copy)]
 pub struct Replay {
     pub stage: Stage,
     pub begun: bool,
@@ -29,7 +29,7 @@ pub struct Replay {
 }
 
 // The place in the chunk that is reached, and how many of the lent bytes are written.
-#[derive(Drop)]
+#[derive(Clone, Copy)]
 pub struct Advanced {
     pub replay: Replay,
     pub next: usize,
@@ -37,14 +37,14 @@ pub struct Advanced {
 }
 
 // The refusal that a line of values leads to, or 0 and the state.
-#[derive(Drop)]
+#[derive(Clone, Copy)]
 struct Led {
     refusal: u32,
     state: u32,
 }
 
 // Whether a line of values is refused, or the state that it leads to; and how many of the lent bytes its line takes.
-#[derive(Drop)]
+#[derive(Clone, Copy)]
 struct LinePlayed {
     ended: bool,
     state: u32,

@@ -9,7 +9,7 @@ use basics::fewer;
 use marks::number_at;
 
 // The first letter of an envelope, and the one after the last.
-#[derive(Drop)]
+#[derive(Clone, Copy)]
 pub struct Envelope {
     pub begin: usize,
     pub end: usize,

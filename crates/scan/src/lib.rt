@@ -11,21 +11,21 @@ ghost use Rattle.scan.specs.Start.{begins_token};
 ghost use Rattle.scan.specs.Integer.{integer_read, natural_read, signed_read, with_sign, cut};
 
 // The bytes from `start` to before `end`.
-#[derive(Drop)]
+#[derive(Clone, Copy)]
 pub struct Span {
     pub start: usize,
     pub end: usize,
 }
 
 // A line's end, without the byte 10 that ends it, and the place where the next line begins.
-#[derive(Drop)]
+#[derive(Clone, Copy)]
 pub struct LineSpan {
     pub end: usize,
     pub next: usize,
 }
 
 // Whether a token is an integer, whether its magnitude is beyond the bound, and its value, which is 0 in both other cases.
-#[derive(Drop)]
+#[derive(Clone, Copy)]
 pub struct IntegerRead {
     pub ok: bool,
     pub beyond: bool,
@@ -33,7 +33,7 @@ pub struct IntegerRead {
 }
 
 // Whether bytes are digits without a leading zero, and the number that they write, or the bound's successor where it is beyond the bound.
-#[derive(Drop)]
+#[derive(Clone, Copy)]
 struct NaturalRead {
     ok: bool,
     value: u64,

@@ -10,7 +10,7 @@ use basics::fewer;
 use pages::Page;
 
 // The number of the refusal that is printed, or 0; how many bytes were taken by writes, and whether each write took all of its bytes.
-#[derive(Drop)]
+#[derive(Clone, Copy)]
 pub struct Printed {
     pub refusal: u32,
     pub size: usize,

@@ -20,14 +20,14 @@ use reads::{ReadEnd, ReadsSoFar};
 const READS: u64 = 140737488355329;
 
 // What was taken of an input, and what the reads of it have come to.
-#[derive(Drop)]
+#[derive(Clone, Copy)]
 struct TakenInput {
     taken: Taken,
     progress: ReadsSoFar,
 }
 
 // How many bytes were taken by writes, and how the reading of the input ended.
-#[derive(Drop)]
+#[derive(Clone, Copy)]
 pub struct ShownInput {
     pub handed: Handed,
     pub ended: ReadEnd,

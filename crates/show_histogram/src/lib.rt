@@ -15,7 +15,7 @@ use reads::ReadEnd;
 
 // How many bytes were taken by writes, and how the reading of the record ended; where the sheet is refused the record is not opened, since nothing of it
 // matters.
-#[derive(Drop)]
+#[derive(Clone, Copy)]
 pub struct ShownCounts {
     pub handed: Handed,
     pub ended: ReadEnd,

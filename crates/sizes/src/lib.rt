@@ -30,7 +30,7 @@ pub const WINDOW_ROOM: usize = 56;
 pub const PREPARED_SIZE: usize = 64;
 
 // The lengths of the lent tables.
-#[derive(Drop)]
+#[derive(Clone, Copy)]
 pub struct Lengths {
     pub keys: usize,
     pub heads: usize,

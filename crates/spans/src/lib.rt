@@ -6,7 +6,7 @@ ghost use Rattle.spans.specs.Spans.{part_span_to, branches_by, expression_span, 
 ghost use Rattle.spans.specs.Stored.{span_bound, put_spans, span_table, PlaceIn, StoresSpans};
 
 // The place behind a phrase, and how many spans are stored so far.
-#[derive(Drop)]
+#[derive(Clone, Copy)]
 struct Reached {
     next: usize,
     count: usize,

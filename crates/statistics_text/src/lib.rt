@@ -6,7 +6,7 @@ ghost use Rattle.statistics_text.specs.Text.{sizes_known, situations_known, know
 use basics::either;
 
 // The refusal's number or 0, the letters, D and B of a sheet, its situations, the states of its table, and the rows lent.
-#[derive(Drop)]
+#[derive(Clone, Copy)]
 pub struct Statistics {
     pub refusal: u32,
     pub letters: u64,

@@ -19,14 +19,14 @@ const MOST_STEPS: u32 = 4294967295;
 
 // The running place: the state, and the steps taken, which stay at their top.
 #[repr(C)]
-#[derive(Drop)]
+#[derive(Clone, Copy)]
 pub struct Place {
     pub state: u32,
     pub steps: u32,
 }
 
 // What a step from a running place gives.
-#[derive(Drop)]
+#[derive(Clone, Copy)]
 pub struct Stepped {
     pub answer: u32,
     pub place: Place,

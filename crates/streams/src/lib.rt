@@ -6,7 +6,7 @@ ghost use Rattle.streams.specs.Description.{IsNewName, NameFits, RangeFits, Stre
 // So many streams: eight bytes for each name, the names' lengths, the lowest and highest values, and the kinds, 0 for `set` and 1 for `read`. Laid out
 // as in C, so that exported functions can take it and give it back.
 #[repr(C)]
-#[derive(Drop)]
+#[derive(Clone, Copy)]
 pub struct StreamsDescription {
     pub count: usize,
     pub names: [u8; 64],

@@ -8,7 +8,7 @@ use record_names::NamesState;
 use records::LineState;
 
 // What is read next, with what is kept of it: the line of names; a line of values, behind so many; or nothing, behind a refusal.
-#[derive(Drop)]
+#[derive(Clone, Copy)]
 pub enum TallyStage {
     Names(NamesState),
     Values(LineState, u64),
@@ -16,21 +16,21 @@ pub enum TallyStage {
 }
 
 // Where the reading stands, and whether bytes stand since the last byte 10.
-#[derive(Drop)]
+#[derive(Clone, Copy)]
 pub struct Tally {
     pub begun: bool,
     pub stage: TallyStage,
 }
 
 // 13 or 14, or 0 with the number of value lines.
-#[derive(Drop)]
+#[derive(Clone, Copy)]
 pub struct LineCounts {
     pub refusal: u32,
     pub total: u64,
 }
 
 // A part of a chunk, read to a place.
-#[derive(Drop)]
+#[derive(Clone, Copy)]
 struct Part {
     tally: Tally,
     next: usize,

@@ -15,7 +15,7 @@ use nodes::left_end;
 
 // What was written of a residue: whether its value is known, then the number of that value, and the place behind its nodes; 1025 where there was no
 // room for them. A value that is known is written too, as one node.
-#[derive(Drop)]
+#[derive(Clone, Copy)]
 pub struct WrittenResidue {
     pub known: bool,
     pub value: i64,
@@ -23,7 +23,7 @@ pub struct WrittenResidue {
 }
 
 // What is known before the newest letter: how many streams a letter has, how many letters there are, and whether they are a whole record.
-#[derive(Drop)]
+#[derive(Clone, Copy)]
 struct Older {
     streams: usize,
     letters: usize,
@@ -31,7 +31,7 @@ struct Older {
 }
 
 // A part, by where it ends, the place at which its residue is asked for, and the place from which on its nodes are written.
-#[derive(Drop)]
+#[derive(Clone, Copy)]
 struct Part {
     end: usize,
     place: usize,
@@ -39,7 +39,7 @@ struct Part {
 }
 
 // Where a node leads that only changes the place: to a value that is known, or to a part and a place.
-#[derive(Drop)]
+#[derive(Clone, Copy)]
 struct Moved {
     known: bool,
     value: i64,

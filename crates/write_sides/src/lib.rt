@@ -8,14 +8,14 @@ use sizes::CONSTRAINT_BOUND;
 use write_residue::write_residue;
 
 // Places of nodes that belong to the two sides of a constraint.
-#[derive(Drop)]
+#[derive(Clone, Copy)]
 struct SideNodes {
     left: usize,
     right: usize,
 }
 
 // Where the sides are asked for: how many streams a letter of the window has, the place in the window, and whether it is a whole record.
-#[derive(Drop)]
+#[derive(Clone, Copy)]
 pub struct Asked {
     pub streams: usize,
     pub place: usize,
