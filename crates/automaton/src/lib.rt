@@ -1,5 +1,6 @@
 // This crate holds definitions (specs/) and laws (proofs/) of endless words, tables and finite graphs, and the numbers by which code tests
 // stored tables.
+#![tactic(auto)]
 
 // The entry for none.
 pub const NO_STATE: u16 = 65535;

@@ -1,4 +1,6 @@
 // What several crates share: small functions on numbers, tests and lists here, counts and lists in specs/, laws of tests, lists and counts in proofs/.
+#![tactic(auto)]
+
 ghost use Rattle.std.specs.Prelude.{◌≡◌, ◌&&◌, ◌||◌, ◌*◌, ◌≤◌, min, max, length, replicate};
 ghost use Rattle.basics.specs.Answers.{Says};
 ghost use Rattle.basics.specs.Clearing.{ClearedFrom};

@@ -1,3 +1,5 @@
+#![tactic(auto)]
+
 ghost use Rattle.std.specs.Prelude.{◌≡◌, true, suc, ◌+◌, ◌-◌, ◌≤◌, ◌<◌, pos, nat_abs, length};
 ghost use Rattle.meaning.specs.Arithmetic.{least, greatest, hull, around, magnitude, remainder_bound, remainder_interval, operator_interval};
 ghost use Rattle.nodes.specs.Bounded.{in_bound, operator_at};

@@ -3,6 +3,8 @@
 // A queue over the old rows, from state 0 on, with the new state that the letters so far lead to. Each entry of an old row is held against the entry
 // of its new state for the same letter: a row that is met first gets the new entry, and one that is met again must have it. So the entries of both tables
 // are looked at in one pass. A row's new state is the one that every record leads to, or some row has none.
+#![tactic(auto)]
+
 ghost use Rattle.std.specs.Prelude.{◌≡◌, ℕ, ◌<◌, ◌≤◌, length, replicate};
 ghost use Rattle.std.proofs.Math.Seq.{paste};
 ghost use Rattle.automaton.specs.Table.{no_state};

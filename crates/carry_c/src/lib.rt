@@ -1,4 +1,6 @@
 // The entry by which C programs call `carry`. A slice is a pointer and a length there.
+#![tactic(auto)]
+
 ghost use Rattle.std.specs.Prelude.{length};
 ghost use Rattle.given_tables.specs.Given.{given_table};
 ghost use Rattle.carry.specs.Carry.{CarryOutcome};

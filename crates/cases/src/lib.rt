@@ -1,5 +1,7 @@
 // What the programs on stored vectors share: a case read from standard input, counts in tables, and numbers printed to standard output. A case is
 // a heading of numbers of four bytes, low first, and then as many bytes as the heading's first number says.
+#![tactic(auto)]
+
 ghost use Rattle.std.specs.Prelude.{◌≡◌, ◌+◌, ◌%◌, ◌^◌, ◌<◌, ◌≤◌, [], ◌∷◌, length, take, replicate, slice_index, unsigned_abs};
 ghost use Rattle.io.specs.Counts.{IsPrefixLen};
 ghost use Rattle.stored.specs.Number.{number_at};

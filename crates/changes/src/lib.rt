@@ -1,5 +1,7 @@
 // Changes of set streams between letters, for rows that hold one number for each letter (document 02, S-8): "a change being a set stream whose value
 // differs from the letter before". The streams are taken one after the other, the last one first, so that no two letters are compared.
+#![tactic(auto)]
+
 ghost use Rattle.std.specs.Prelude.{◌≡◌, ◌⊎◌, ℕ, ◌+◌, ◌*◌, ◌≤◌, ◌<◌, length};
 ghost use Rattle.basics.specs.Lists.{at};
 ghost use Rattle.basics.specs.Answers.{Says};

@@ -1,4 +1,6 @@
 // The checksum CRC-32 of a text, bit by bit.
+#![tactic(auto)]
+
 ghost use Rattle.std.specs.Prelude.{◌≡◌};
 ghost use Rattle.checksum.specs.Checksum.{after_bit, after_byte, checksum_of};
 

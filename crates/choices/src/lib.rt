@@ -1,5 +1,7 @@
 // The choices of the river (document 02, S-7): how many there are, and the choice that each letter has. A letter's number is taken apart stream by stream, the
 // last one first, and the digits of the read streams make the number of its choice.
+#![tactic(auto)]
+
 ghost use Rattle.std.specs.Prelude.{◌<◌, ◌≡◌};
 ghost use Rattle.meaning.specs.Letter.{size};
 ghost use Rattle.letters.specs.Described.{cut_count};

@@ -1,4 +1,6 @@
 // Clears the lent tables of a graph or a table, but for the rows that are used.
+#![tactic(auto)]
+
 ghost use Rattle.clearing.specs.Tables.{AreCleared};
 
 // Sets every entry from `used` on, every flag from `states` on and every number of the work tables to 0.

@@ -1,4 +1,6 @@
 // From a sheet's bytes to its table.
+#![tactic(auto)]
+
 ghost use Rattle.std.specs.Prelude.{◌≡◌, ◌/◌, min};
 ghost use Rattle.compiled_sheet.specs.Told.{SheetCall};
 ghost use Rattle.compile.specs.Lent.{room_of, tables_of};

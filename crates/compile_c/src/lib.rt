@@ -1,4 +1,6 @@
 // The entry by which C programs call `compile`. A slice is a pointer and a length there.
+#![tactic(auto)]
+
 ghost use Rattle.compile.specs.Lent.{room_of, tables_of};
 ghost use Rattle.compiled_sheet.specs.Told.{SheetCall};
 

@@ -1,4 +1,6 @@
 // The answer of a compile: a refusal's number, or the numbers of states and situations.
+#![tactic(auto)]
+
 ghost use Rattle.std.specs.Prelude.{◌≡◌, min};
 ghost use Rattle.outcome.specs.Compile.{situation_bound};
 ghost use Rattle.compiled.specs.Answer.{refused_with, answered, made_of};

@@ -1,4 +1,6 @@
 // The answer of a compile with what a host needs of the sheet to follow its table: the number of letters, and the streams.
+#![tactic(auto)]
+
 ghost use Rattle.std.specs.Prelude.{◌≡◌};
 ghost use Rattle.compiled_sheet.specs.Told.{no_streams, sheet_streams, told_with, told, told_with_play, compiled_in};
 

@@ -4,6 +4,8 @@
 // Each row has two numbers, its counts for the records from it on. With one letter more, the count of a row is the sum over its letters of the counts of
 // the rows that they lead to. Both columns are summed in one pass over the entries. Sums are cut at 2^63, so that none wraps: the count of another row
 // may pass the highest figure though that of the start does not.
+#![tactic(auto)]
+
 ghost use Rattle.std.specs.Prelude.{◌≡◌, List, ℕ, ◌*◌, ◌<◌, ◌≤◌, length, replicate};
 ghost use Rattle.basics.specs.Answers.{Says};
 ghost use Rattle.automaton.specs.WellFormed.{IsWellFormed};

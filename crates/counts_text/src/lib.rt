@@ -1,4 +1,6 @@
 // Writes the lines that `record_counts` prints to lent bytes: a number of letters, its figure, and that of the last column.
+#![tactic(auto)]
+
 ghost use Rattle.std.specs.Prelude.{◌≡◌, suc, ◌≤◌, min, pos, length};
 ghost use Rattle.print.specs.Append.{Appends};
 ghost use Rattle.counts_text.specs.Counts.{shown_number, figures_line, listed_text};

@@ -6,6 +6,8 @@
 // behind each letter, and from these, stream by stream, the least with the changes to the letter (crate changes). From the start on, the
 // first of the cheapest letters is the next one. So the entries are looked at in three passes, the stored costs in one pass for each
 // stream, and both once more along the course.
+#![tactic(auto)]
+
 ghost use Rattle.std.specs.Prelude.{◌≡◌, ◌≢◌, List, ℕ, ◌*◌, ◌<◌, ◌≤◌, length, replicate};
 ghost use Rattle.basics.specs.Lists.{at};
 ghost use Rattle.automaton.specs.Stored.{entry_at, final_at};

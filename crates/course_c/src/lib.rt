@@ -1,4 +1,6 @@
 // The entry by which C programs call `course`. A slice is a pointer and a length there, and the streams are passed by value.
+#![tactic(auto)]
+
 ghost use Rattle.std.specs.Prelude.{length};
 ghost use Rattle.course.specs.Outcome.{CourseCall};
 

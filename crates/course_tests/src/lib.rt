@@ -1,4 +1,6 @@
 // What a call for a course tests, and what it adds up, apart from its tables: the refusals 11, 15 and 10, the goal layer, and what a letter costs.
+#![tactic(auto)]
+
 ghost use Rattle.std.specs.Prelude.{◌≡◌, length};
 ghost use Rattle.basics.specs.Lists.{at};
 ghost use Rattle.basics.specs.Answers.{Says};

@@ -1,5 +1,7 @@
 // Fills lent bytes with whole lines of what `shortest` prints, from a place on, so that a program only has to write the filled bytes. Place 0 has the
 // names of the streams, or the line of a refusal, and the places after it have the values of the course's letters.
+#![tactic(auto)]
+
 ghost use Rattle.std.specs.Prelude.{◌≡◌, length};
 ghost use Rattle.print.specs.Append.{Appends};
 ghost use Rattle.pages.specs.Lines.{line_room, HoldsLine, IsPage};

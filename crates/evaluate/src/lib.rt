@@ -1,3 +1,5 @@
+#![tactic(auto)]
+
 ghost use Rattle.std.specs.Prelude.{◌≡◌, ◌/◌, ◌≤◌, ◌<◌, length};
 ghost use Rattle.nodes.specs.Bounded.{bounded};
 ghost use Rattle.nodes.specs.Evaluate.{stored, view, places, numbered, stream_evaluated, negated_result, part_value, node_value};

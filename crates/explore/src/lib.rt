@@ -1,4 +1,6 @@
 // Finds all situations of a sheet: their keys in rows, and the graph of their successors.
+#![tactic(auto)]
+
 mod chains;
 
 ghost use Rattle.std.specs.Prelude.{◌≡◌, false, ◌+◌, ◌*◌, ◌≤◌, ◌<◌, eqb, length};

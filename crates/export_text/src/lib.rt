@@ -1,5 +1,7 @@
 // Writes the C header that `export` prints of a table to lent bytes. Each function appends its text from a place on; an answer is the place behind it, or
 // one more than the lent bytes where it has no room there.
+#![tactic(auto)]
+
 ghost use Rattle.std.specs.Prelude.{suc, ◌≤◌, min, ◌++◌, length, take};
 ghost use Rattle.text.specs.Bytes.{bytes_of};
 ghost use Rattle.stored.specs.Number.{table_bytes};

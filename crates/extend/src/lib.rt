@@ -1,4 +1,6 @@
 // One more letter after the record of a key.
+#![tactic(auto)]
+
 mod judge;
 mod keys;
 

@@ -1,5 +1,7 @@
 // The sums by which records of a lent table are counted (document 02, S-13): over the letters of one row, cut at 2^63, so that none wraps; and whether figures are
 // within their bound.
+#![tactic(auto)]
+
 ghost use Rattle.std.specs.Prelude.{◌≡◌, cond, ◌+◌, min, eqb, length, get_or};
 ghost use Rattle.basics.specs.Answers.{Says};
 ghost use Rattle.figure_sums.specs.Sums.{figure_cut, row_sum, AreBounded};

@@ -1,5 +1,7 @@
 // Takes an input byte by byte: a line that holds a number, and the bytes of a sheet behind it. What is kept of the line is a struct of scalars, so that a
 // line of any length takes the same memory; of the sheet as many bytes are kept as lent bytes have room for.
+#![tactic(auto)]
+
 ghost use Rattle.std.specs.Prelude.{◌≡◌, cond, ◌+◌, ◌-◌, ◌*◌};
 ghost use Rattle.std.proofs.Math.Option.{none};
 ghost use Rattle.text.specs.Fold.{run_bytes};

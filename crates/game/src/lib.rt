@@ -1,5 +1,7 @@
 // The compile with a play table (document 02, S-7): "Say from which states the keeper can make every endless play a solution, and give a play table". The
 // compile is the one of the crate compile, in tables that hold no more rows than the play table does.
+#![tactic(auto)]
+
 ghost use Rattle.std.specs.Prelude.{length};
 ghost use Rattle.compile.specs.Lent.{room_of, tables_of};
 ghost use Rattle.game.specs.Call.{ForceSheetCall};

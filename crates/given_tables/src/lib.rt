@@ -1,5 +1,7 @@
 // Tables as a host gives them to a call, each with a description of its streams: which of them are turned away with 11, and whether two have the same
 // streams (document 02, S-9 and S-10).
+#![tactic(auto)]
+
 ghost use Rattle.std.specs.Prelude.{◌≡◌, ◌<◌};
 ghost use Rattle.basics.specs.Answers.{Says};
 ghost use Rattle.sheet.specs.Names.{name_in};

@@ -1,4 +1,6 @@
 // Counts lines by the letters that they are, and gives how many of them hold a value of a stream. Every public function takes any counts and any slices.
+#![tactic(auto)]
+
 ghost use Rattle.std.specs.Prelude.{◌≡◌, ◌+◌, ◌^◌, ◌≤◌, ◌<◌, get_or};
 ghost use Rattle.letters.specs.Described.{described};
 ghost use Rattle.held_lines.specs.Held.{raised_count, cut_lines, block_lines, blocks_lines, held_lines};

@@ -1,6 +1,8 @@
 // Prints how many lines of a record hold each value of each stream of a sheet: `histogram SHEET RECORD`, the names of two files. A file that cannot be read
 // counts as empty. The record is read in chunks of a fixed size, so that a record of any length takes the same memory. Failed reads and writes are told on
 // standard error.
+#![tactic(auto)]
+
 use libc::STDERR_FILENO;
 use reads::ReadEnd;
 

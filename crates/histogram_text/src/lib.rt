@@ -1,5 +1,7 @@
 // Fills lent bytes with whole lines of what `histogram` prints, from a place on, so that a program only has to write the filled bytes. Place 0 has the
 // heading, or the line of a refusal; then 1,024 places for each stream have a line for each of its values, or nothing; and the last has the total.
+#![tactic(auto)]
+
 ghost use Rattle.std.specs.Prelude.{◌≡◌, ℕ, ◌<◌, min, length};
 ghost use Rattle.print.specs.Append.{Appends};
 ghost use Rattle.pages.specs.Lines.{line_room, HoldsLine, IsPage};

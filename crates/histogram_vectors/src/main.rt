@@ -1,6 +1,8 @@
 // Reads cases from standard input and prints what `histogram` prints for each, with the record in chunks of 1, 3 and 64 bytes, one after the other. The
 // enumerator wrote the input and what is expected: two numbers of four bytes, low first, for the length of both texts and that of the sheet, and then the
 // bytes of the sheet and of the record.
+#![tactic(auto)]
+
 ghost use Rattle.std.specs.Prelude.{◌<◌};
 
 use basics::fewer;

@@ -1,5 +1,7 @@
 // Reads a token that may be an integer byte by byte: whether it is one, its sign, and its magnitude, cut beyond every range, so that a token of any length
 // takes the same memory. Every public function takes any phase, any magnitude and any byte.
+#![tactic(auto)]
+
 ghost use Rattle.std.specs.Prelude.{◌≡◌, ◌-◌};
 ghost use Rattle.text.specs.Token.{is_digit};
 ghost use Rattle.scan.specs.Integer.{with_sign};

@@ -1,5 +1,7 @@
 // Prints the joined table of two sheets on one river: `join SHEET SHEET`, the names of two files. A file that cannot be read counts as empty. Failed reads and
 // writes are told on standard error.
+#![tactic(auto)]
+
 ghost use Rattle.std.specs.Prelude.{◌≤◌, length};
 
 use libc::STDERR_FILENO;

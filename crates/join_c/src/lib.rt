@@ -1,4 +1,6 @@
 // The entry by which C programs call `join_tables`. A slice is a pointer and a length there.
+#![tactic(auto)]
+
 ghost use Rattle.given_tables.specs.Given.{given_table};
 ghost use Rattle.pair_outcome.specs.Outcome.{join_room, join_tables};
 ghost use Rattle.join_tables.specs.Outcome.{JoinOutcome};

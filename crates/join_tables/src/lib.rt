@@ -1,4 +1,6 @@
 // Joins two tables with their streams' descriptions (document 02, S-9).
+#![tactic(auto)]
+
 ghost use Rattle.std.specs.Prelude.{◌≡◌, cond, ◌/◌, min, eqb};
 ghost use Rattle.basics.specs.Answers.{Says};
 ghost use Rattle.automaton.specs.WellFormed.{IsWellFormed};

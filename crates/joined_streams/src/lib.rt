@@ -1,5 +1,7 @@
 // The streams of two sheets on one river (document 02, S-9): whether they can be one river's, the joined streams, and the letter of either sheet that each
 // joined letter has.
+#![tactic(auto)]
+
 ghost use Rattle.std.specs.Prelude.{◌≡◌, ℕ, ◌*◌, ◌<◌, ◌≤◌, get_or};
 ghost use Rattle.std.proofs.lemmas.List.Edits.{sets};
 ghost use Rattle.basics.specs.Answers.{Says};

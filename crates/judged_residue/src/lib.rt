@@ -1,1 +1,2 @@
 // This crate holds laws (proofs/), and no function.
+#![tactic(auto)]

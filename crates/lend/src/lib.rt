@@ -1,4 +1,6 @@
 // Lends the rows in which programs compile a sheet.
+#![tactic(auto)]
+
 ghost use Rattle.std.specs.Prelude.{◌≡◌, ◌≤◌, length, replicate};
 ghost use Rattle.outcome.specs.Compile.{CompileCall};
 ghost use Rattle.compiled.specs.Answer.{answer_of};

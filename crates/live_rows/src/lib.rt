@@ -1,5 +1,7 @@
 // The live rows of a graph in lent tables: those from which a path leads to a flagged row that has an endless path. And the final rows:
 // live rows from which no endless path leads through live rows that are not flagged.
+#![tactic(auto)]
+
 ghost use Rattle.std.specs.Prelude.{◌≡◌, ◌*◌, ◌≤◌, length};
 ghost use Rattle.basics.specs.Answers.{Says};
 ghost use Rattle.live_rows.specs.Sets.{IsSet, LiveWithout, SameBeyond, LiveOutcome, FinalsOutcome};

@@ -1,4 +1,6 @@
 // The lowest refusal 3 to 7, from what is told of a sheet's parts.
+#![tactic(auto)]
+
 ghost use Rattle.std.specs.Prelude.{◌≡◌, ◌||◌, ◌+◌, ltb};
 ghost use Rattle.std.specs.Int.Signed.{lt_z};
 ghost use Rattle.lowest_refusal.specs.Tested.{form_refusal, failed_as, tested_with};

@@ -1,4 +1,6 @@
 // From a compiled table to its play table, with what is told of the sheet.
+#![tactic(auto)]
+
 ghost use Rattle.std.specs.Prelude.{◌≡◌};
 ghost use Rattle.make_play.specs.Parts.{kept_if, PlayMade};
 

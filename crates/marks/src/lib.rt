@@ -1,5 +1,7 @@
 // Sets of rows of a stored graph: a number for each row, 1 where the row is marked. Each row of the graph has one entry for each
 // letter; an entry that is no row's number names no row.
+#![tactic(auto)]
+
 ghost use Rattle.std.specs.Prelude.{◌≡◌, ◌+◌, ◌*◌, ◌<◌, ◌≤◌, length, get_or, replicate};
 ghost use Rattle.basics.specs.Answers.{Says};
 ghost use Rattle.marks.specs.Marks.{HasMarked, Pruned, Grown, IsFlagged, IfFits};

@@ -1,5 +1,7 @@
 // Prints for each state of an old sheet's table the state of a new sheet's table to go on from: `migrate OLD NEW`, the names of two files. A file that cannot
 // be read counts as empty. Failed reads and writes are told on standard error.
+#![tactic(auto)]
+
 ghost use Rattle.std.specs.Prelude.{◌≤◌, length};
 
 use libc::STDERR_FILENO;

@@ -1,5 +1,7 @@
 // Fills lent bytes with what `migrate` prints: a heading and a line for each old state with the new one, or the line of a refusal. A program only has to
 // write them.
+#![tactic(auto)]
+
 ghost use Rattle.std.specs.Prelude.{◌≡◌, ◌≤◌, length, take};
 ghost use Rattle.print.specs.Append.{Appends};
 ghost use Rattle.migration_text.specs.Migration.{most_states, text_room, migration_heading, migrated_from, migration_output, Writes};

@@ -1,5 +1,7 @@
 // Turns a graph in lent tables into the one table of its language. Each entry of a graph is a successor or 65,535, each flag 1 or 0;
 // the work tables have one number a row.
+#![tactic(auto)]
+
 ghost use Rattle.std.specs.Prelude.{◌≡◌, [], ◌∷◌, ◌+◌, ◌*◌, ◌<◌, ◌≤◌, length};
 ghost use Rattle.basics.specs.Answers.{Says};
 ghost use Rattle.minimise.specs.Outcome.{MinimiseOutcome};

@@ -1,4 +1,6 @@
 // The entry by which the benchmark's C program calls `minimise`. A slice is a pointer and a length there.
+#![tactic(auto)]
+
 ghost use Rattle.std.specs.Prelude.{[], ◌∷◌};
 ghost use Rattle.minimise.specs.Outcome.{MinimiseOutcome};
 

@@ -2,6 +2,8 @@
 // wrote the input and what is expected: eleven numbers of four bytes, low first (how many bytes follow, the letters, the rows, and the lengths of
 // entries, flags, live, class, next, heads, links and envelopes), then the flags, and the entries with two bytes each, low first, graph after graph.
 // A line has refusal and states, the entries, the flags, and how many numbers of the work tables are not 0.
+#![tactic(auto)]
+
 use cases::{add_nonzero, number, print, words_lent, work_room};
 use libc::STDOUT_FILENO;
 use minimise::Minimised;

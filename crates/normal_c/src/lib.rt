@@ -1,4 +1,6 @@
 // The entry by which C programs call `normal_form`. A slice is a pointer and a length there.
+#![tactic(auto)]
+
 ghost use Rattle.std.specs.Prelude.{length};
 ghost use Rattle.outcome.specs.NormalForm.{NormalOutcome};
 ghost use Rattle.normal.specs.Encoded.{normal_entries, normal_answer_of};

@@ -1,4 +1,6 @@
 // Entries of the normal form: read from tables of numbers, and stored as records in a lent list.
+#![tactic(auto)]
+
 ghost use Rattle.std.specs.Prelude.{◌≡◌, cond, suc, ◌<◌, length};
 ghost use Rattle.normal_entries.specs.Fields.{left_is_node, right_is_node, replaces_in};
 ghost use Rattle.normal_entries.specs.Entries.{refused_made, with_spans, blank, stored_place, stored_entry, listed};

@@ -1,4 +1,6 @@
 // The used rows of a table that a program opened, as it passes them on.
+#![tactic(auto)]
+
 ghost use Rattle.std.specs.Prelude.{◌≡◌, ◌*◌, ◌≤◌, min};
 ghost use Rattle.opened_tables.specs.Used.{used_rows};
 

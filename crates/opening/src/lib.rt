@@ -1,4 +1,6 @@
 // What comes before a record is played or a course is found: the sheet is read and compiled, and the start is judged.
+#![tactic(auto)]
+
 ghost use Rattle.std.specs.Prelude.{◌≡◌, ◌≤◌};
 ghost use Rattle.std.proofs.Math.Option.{none};
 ghost use Rattle.sheet.specs.Refusal.{magnitude_bound};

@@ -1,5 +1,7 @@
 // Writes bytes to standard output and counts them. No contract can say what reaches standard output, so a program that prints a text in parts counts the
 // bytes of the writes that were whole.
+#![tactic(auto)]
+
 ghost use Rattle.std.specs.Prelude.{take};
 ghost use Rattle.output.specs.Output.{Hands};
 

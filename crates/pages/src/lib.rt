@@ -1,5 +1,7 @@
 // Fills lent bytes with whole lines of what `sluice` prints, from a place on, so that a program only has to write the filled bytes. Place 0 has the
 // heading, or the line of a refusal, and the places after it have the lines of the entries, or nothing where an entry is 65,535.
+#![tactic(auto)]
+
 ghost use Rattle.std.specs.Prelude.{◌≡◌, ℕ, ◌+◌, ◌≤◌, ◌<◌, length, take};
 ghost use Rattle.std.proofs.lemmas.List.Edits.{sets};
 ghost use Rattle.pages.specs.Lines.{line_room, HoldsLine, IsPage};

@@ -1,5 +1,7 @@
 // Finds all pairs of states that two tables reach together: their keys in rows, and the graph of their successors. The key of a pair is the left state times
 // 4,096, and the right one.
+#![tactic(auto)]
+
 ghost use Rattle.std.specs.Prelude.{◌≡◌, cond, ◌&&◌, ◌+◌, ◌*◌, ◌/◌, ◌%◌, ◌≤◌, ◌<◌, eqb, length};
 ghost use Rattle.basics.specs.Answers.{Says};
 ghost use Rattle.basics.specs.Lists.{at};

@@ -1,5 +1,7 @@
 // Reads pairs of lines from standard input, the names of a sheet and one constraint, and prints what the constraint is read as: the
 // answer's numbers and then each node's kind, value and start.
+#![tactic(auto)]
+
 use cases::print;
 use libc::{STDIN_FILENO, STDOUT_FILENO};
 

@@ -1,6 +1,8 @@
 // Fills lent bytes with whole lines of what `strategy` prints, from a place on, so that a program only has to write the filled bytes. Place 0 has the
 // heading, or the line of a refusal, and the places after it have, by state and choice, the line of the letter that the play table holds, or nothing where it
 // holds 65,535.
+#![tactic(auto)]
+
 ghost use Rattle.std.specs.Prelude.{◌≡◌, ◌/◌, ◌<◌, length};
 ghost use Rattle.print.specs.Append.{Appends};
 ghost use Rattle.pages.specs.Lines.{line_room, HoldsLine, IsPage};

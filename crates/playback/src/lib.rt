@@ -1,5 +1,7 @@
 // Writes what `replay` prints for a chunk of a record to standard output. The crate `replaying` gives the bytes; what is left here is the loop that writes
 // them, by way of lent bytes, and counts those that it hands over.
+#![tactic(auto)]
+
 ghost use Rattle.std.specs.Prelude.{◌≡◌, ◌+◌, min};
 ghost use Rattle.replaying.specs.Machine.{played_sheet};
 ghost use Rattle.playback.specs.Written.{highest_count, WritesChunk};

@@ -1,4 +1,6 @@
 // What the letters after a key need: the values of the key's letters and of its firsts, read from the key once for all of them.
+#![tactic(auto)]
+
 ghost use Rattle.std.specs.Prelude.{◌≡◌, ◌++◌, map, ℕ, ◌+◌, ◌*◌, ◌<◌, ◌≤◌, min, length, get_or, drop};
 ghost use Rattle.std.proofs.Math.Seq.{paste};
 ghost use Rattle.sheet.specs.Refusal.{stream_bound};

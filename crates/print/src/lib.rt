@@ -1,6 +1,8 @@
 // Writes lines to lent bytes: those that `sluice` prints (the heading, the line of an entry, and the line of a refusal), a line of two numbers,
 // and any text; and pieces of a line, from a place on. An answer is the place behind the text, which for a line is how many bytes it takes, or one more than
 // the lent bytes where it has no room there.
+#![tactic(auto)]
+
 ghost use Rattle.std.specs.Prelude.{◌≡◌, [], ◌∷◌, ◌++◌, map, suc, ◌+◌, ◌<◌, ◌≤◌, min, pos, nat_abs, length, get_or};
 ghost use Rattle.std.proofs.lemmas.List.Edits.{sets};
 ghost use Rattle.print.specs.Append.{Appends};

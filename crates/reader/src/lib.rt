@@ -1,4 +1,6 @@
 // Reads a sheet's bytes: gives the lowest refusal 1 to 7, or the stored sheet.
+#![tactic(auto)]
+
 ghost use Rattle.std.specs.Prelude.{◌≡◌, false, cond, ◌+◌, ◌*◌, ◌<◌, ◌≤◌, pos, nat_abs, length, set, replicate, eqb};
 ghost use Rattle.std.proofs.lemmas.List.Edits.{sets};
 ghost use Rattle.reader.specs.Constraints.{state, counts, LinesFit, ConstraintsOutcome};

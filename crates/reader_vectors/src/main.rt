@@ -1,6 +1,8 @@
 // Reads sheets from standard input and prints a line for each: the refusal, how many streams, the letters, D, B, the untils and the firsts, and
 // then each stream's name, low, high and kind. The enumerator wrote the input and what is expected: a number of four bytes, low first, and then as
 // many bytes of a sheet, sheet after sheet.
+#![tactic(auto)]
+
 use cases::{print, print_signed};
 use libc::STDOUT_FILENO;
 

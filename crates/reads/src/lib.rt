@@ -1,4 +1,6 @@
 // What the reads of an input in chunks come to: at its end, at bytes behind which nothing matters, or before both. What is made of the bytes is a caller's.
+#![tactic(auto)]
+
 ghost use Rattle.std.specs.Prelude.{◌≡◌};
 ghost use Rattle.reads.specs.Chunks.{ended_as, reads_so_far};
 

@@ -1,5 +1,7 @@
 // Reads inputs of `record_counts` from standard input and prints what it prints for each, with the input in chunks of 1, 7 and 65,536 bytes, one after the other.
 // The enumerator wrote the input and what is expected: a number of four bytes, low first, for the length of an input, and then its bytes.
+#![tactic(auto)]
+
 ghost use Rattle.std.specs.Prelude.{◌<◌};
 
 use basics::fewer;

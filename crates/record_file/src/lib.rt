@@ -1,5 +1,7 @@
 // Counts the lines of a record in a file: the loop that reads chunks, over the crates `reads`, which says what a read comes to, and `tally`, which counts the
 // lines.
+#![tactic(auto)]
+
 ghost use Rattle.std.specs.Prelude.{◌≡◌};
 ghost use Rattle.reads.specs.Chunks.{ReadsAll};
 ghost use Rattle.tally.specs.Machine.{counted_sheet, counting, start_tally, count_byte, is_refused_tally};

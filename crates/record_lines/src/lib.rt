@@ -1,5 +1,7 @@
 // Reads the bytes of one line of a record within a chunk, from a place on to the line's byte 10 or to the end of the chunk; and counts lines. Every
 // public function takes any state, any place and any slices.
+#![tactic(auto)]
+
 ghost use Rattle.std.specs.Prelude.{◌≡◌};
 ghost use Rattle.std.proofs.Math.Seq.{slice};
 ghost use Rattle.text.specs.Fold.{run_bytes};

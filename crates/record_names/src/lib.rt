@@ -1,5 +1,7 @@
 // Reads the line with the sheet's names byte by byte. What is kept of it is a struct of scalars, so that a line of any length takes the same memory. Every
 // public function takes any state, any byte and any slices.
+#![tactic(auto)]
+
 ghost use Rattle.std.specs.Prelude.{◌≡◌, cond, length};
 ghost use Rattle.sheet.specs.Names.{name_in};
 ghost use Rattle.record_names.specs.Line.{is_plain};

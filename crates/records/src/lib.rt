@@ -1,5 +1,7 @@
 // Reads a line of values of a record byte by byte. What is kept of a line is a struct of scalars, so that a line of any length takes the same memory. Every
 // public function takes any state, any byte and any slices.
+#![tactic(auto)]
+
 ghost use Rattle.std.specs.Prelude.{◌≡◌, cond, take, drop};
 ghost use Rattle.letters.specs.Described.{described};
 ghost use Rattle.records.specs.Machine.{next_number, value_byte, value_end, refused_end, end_of, values_end, line_start, line_byte, line_end};

@@ -1,5 +1,7 @@
 // Classes of the live rows of a stored graph: rows that no record tells apart have one class, named by its first row. Rounds of
 // splitting with hashed signatures, each against the classes of the round before. Only the envelope of a row is looked at: outside it no letter leads to a live row.
+#![tactic(auto)]
+
 ghost use Rattle.std.specs.Prelude.{◌≡◌, ◌⊎◌, ℕ, ◌+◌, ◌*◌, ◌<◌, ◌≤◌, length, get_or};
 ghost use Rattle.basics.specs.Answers.{Says};
 ghost use Rattle.row_envelopes.specs.Envelopes.{Enveloped};

@@ -1,4 +1,6 @@
 // The tests behind refusals 1 to 4 that need no stored sheet: of bytes, lines and names.
+#![tactic(auto)]
+
 ghost use Rattle.std.specs.Prelude.{◌≡◌, ◌≤◌, length};
 ghost use Rattle.text.specs.Bytes.{lines, tokens};
 ghost use Rattle.text.specs.Token.{is_one_of};

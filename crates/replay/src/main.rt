@@ -1,6 +1,8 @@
 // Plays a record against a sheet: `replay SHEET RECORD [START]`, the names of two files, and the state to start from instead of 0. A file that cannot be
 // read counts as empty. The record is read in chunks of a fixed size, so that a record of any length takes the same memory. Where a later read of it
 // fails, the lines printed remain, and a barred byte stands for what was not read. Failed reads and writes are told on standard error.
+#![tactic(auto)]
+
 use basics::fewer;
 use libc::STDERR_FILENO;
 use opening::OpenedTable;

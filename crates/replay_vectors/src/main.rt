@@ -1,6 +1,8 @@
 // Reads cases from standard input and prints what `replay` prints for each, with the record in chunks of 1, 2, 3, 5, 7 and 64 bytes, one after the other.
 // The enumerator wrote the input and what is expected: four numbers of four bytes, low first, for the length of the sheet, that of the record, whether a
 // start is given and its length, and then the bytes of the sheet, the record and the start.
+#![tactic(auto)]
+
 ghost use Rattle.std.specs.Prelude.{◌<◌};
 
 use basics::fewer;

@@ -1,5 +1,7 @@
 // Plays a record against a sheet's table, byte by byte, and writes what `replay` prints to lent bytes. What is kept between two chunks of a record
 // is a struct of scalars, so that a record of any length takes the same memory. Every public function takes any replay and any slices.
+#![tactic(auto)]
+
 ghost use Rattle.std.specs.Prelude.{◌≡◌, ℕ, ◌<◌, ◌≤◌, List, [], ℤ, length};
 ghost use Rattle.meaning.specs.Letter.{letter_count};
 ghost use Rattle.automaton.specs.Stored.{entry_at};

@@ -1,5 +1,7 @@
 // The envelope of a row of a stored graph: its letters from the first that leads to a live row to the last. Outside the envelope a row leads to no live row, so
 // that later passes need not look there.
+#![tactic(auto)]
+
 ghost use Rattle.std.specs.Prelude.{◌≡◌, ◌+◌, ◌*◌, ◌≤◌, length, get_or};
 ghost use Rattle.basics.specs.Answers.{Says};
 ghost use Rattle.marks.specs.Marks.{Marked};

@@ -1,5 +1,6 @@
 // Reads tokens, lines, names and integers of a sheet's bytes, and finds the brackets that belong together. Every public function
 // takes any bytes and any place.
+#![tactic(auto)]
 
 ghost use Rattle.std.specs.Prelude.{◌≡◌, ◌≤◌, cond, eqb, length};
 ghost use Rattle.text.specs.Bytes.{is_inside, tokens};

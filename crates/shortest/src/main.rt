@@ -1,5 +1,7 @@
 // Prints the shortest course to a final state of a sheet's table: `shortest SHEET [STATE]`, the name of a file, and the state to start from instead of 0. A
 // file that cannot be read counts as empty. Failed reads and writes are told on standard error.
+#![tactic(auto)]
+
 use libc::STDERR_FILENO;
 
 fn tell(failed: bool, message: &[u8]) {

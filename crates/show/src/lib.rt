@@ -1,5 +1,7 @@
 // Prints what `sluice` prints for a sheet: its table, or the line of its refusal. The crate `pages` gives the bytes; what is left here is the loop
 // that writes them and counts those that it hands over.
+#![tactic(auto)]
+
 ghost use Rattle.std.specs.Prelude.{◌≤◌, length};
 ghost use Rattle.pages.specs.Lines.{IsPage};
 ghost use Rattle.pages.specs.Output.{output_at, places_of};

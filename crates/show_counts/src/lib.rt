@@ -1,5 +1,7 @@
 // Prints what `record_counts` prints: for each number of letters up to the one that a line before a sheet gives, how many records begin a solution and how many
 // of them end in a final state, or the line of a refusal. What is left here is the loop that reads chunks, and the order of the refusals.
+#![tactic(auto)]
+
 ghost use Rattle.std.specs.Prelude.{◌≡◌, ◌*◌, ◌≤◌, min, length, take};
 ghost use Rattle.print.specs.Text.{refusal_line};
 ghost use Rattle.output.specs.Output.{Hands};

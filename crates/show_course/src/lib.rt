@@ -1,5 +1,7 @@
 // Prints what `shortest` prints for a sheet and a state: the best course to a final state, or the line of a refusal. The crate `course_text` gives the
 // bytes; what is left here is the call for the course and the loop that writes the bytes and counts those that it hands over.
+#![tactic(auto)]
+
 ghost use Rattle.std.specs.Prelude.{◌≡◌, ◌*◌, ◌≤◌, min, length, take};
 ghost use Rattle.print.specs.Lines.{AllFit};
 ghost use Rattle.stored_ranges.specs.Ranges.{HasRanges};

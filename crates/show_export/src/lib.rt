@@ -1,5 +1,7 @@
 // Prints what `export` prints for the text of a sheet: the C header of its table, or the line of its refusal. The crate `export_text` gives the bytes; what is
 // left here are the calls, and the write that counts the bytes that it hands over.
+#![tactic(auto)]
+
 ghost use Rattle.std.specs.Prelude.{◌≡◌, length, take};
 ghost use Rattle.std.proofs.Math.Option.{none};
 ghost use Rattle.opening.specs.Opens.{OpensTable};

@@ -1,5 +1,7 @@
 // Prints what `histogram` prints for a sheet and a record. The crates `record_file` and `histogram_text` give the counts and the bytes; what is left here is
 // the loop that writes pages and counts the bytes that it hands over.
+#![tactic(auto)]
+
 ghost use Rattle.std.specs.Prelude.{◌≡◌, length};
 ghost use Rattle.print.specs.Text.{refusal_line};
 ghost use Rattle.print.specs.Lines.{AllFit};

@@ -1,5 +1,7 @@
 // Prints what `join` prints for the texts of two sheets: the joined table, or the line of a refusal. The crate `table_pages` writes the bytes; what is left here
 // are the calls.
+#![tactic(auto)]
+
 ghost use Rattle.std.specs.Prelude.{◌≡◌, ◌≢◌, ◌≤◌, length};
 ghost use Rattle.print.specs.Text.{refusal_line};
 ghost use Rattle.output.specs.Output.{Hands};

@@ -1,5 +1,7 @@
 // Prints what `migrate` prints for the texts of an old and of a new sheet: the states to go on from, or the line of a refusal. The crate `migration_text`
 // gives the bytes; what is left here are the calls, and the write that counts the bytes that it hands over.
+#![tactic(auto)]
+
 ghost use Rattle.std.specs.Prelude.{◌≡◌, length, take};
 ghost use Rattle.output.specs.Output.{Hands};
 ghost use Rattle.migration_text.specs.Migration.{most_states, migration_output};

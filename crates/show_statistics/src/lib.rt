@@ -1,5 +1,7 @@
 // Prints what `statistics` prints for the text of a sheet: its sizes, or as many of them as are known with a refusal. The crate `statistics_text` gives the
 // bytes; what is left here are the calls.
+#![tactic(auto)]
+
 ghost use Rattle.compiled.specs.Answer.{answer_of};
 ghost use Rattle.output.specs.Output.{Hands};
 ghost use Rattle.statistics_text.specs.Text.{statistics_text};

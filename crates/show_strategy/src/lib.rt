@@ -1,5 +1,7 @@
 // Prints what `strategy` prints for a sheet: its play table, or the line of a refusal. The crate `play_text` gives the bytes; what is left here is the call for the
 // play table and the loop that writes the bytes and counts those that it hands over.
+#![tactic(auto)]
+
 ghost use Rattle.std.specs.Prelude.{◌≤◌, length};
 ghost use Rattle.pages.specs.Lines.{IsPage};
 ghost use Rattle.output.specs.Output.{Hands};

@@ -1,4 +1,6 @@
 // The sides of one constraint, judged at one time.
+#![tactic(auto)]
+
 ghost use Rattle.std.specs.Prelude.{◌≡◌, ◌||◌};
 ghost use Rattle.meaning.specs.Value.{truth};
 ghost use Rattle.meaning.specs.Expression.{holds, holds_numbers, implies};

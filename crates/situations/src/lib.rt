@@ -1,4 +1,6 @@
 // The situations of a stored sheet, explored in lent tables.
+#![tactic(auto)]
+
 ghost use Rattle.std.specs.Prelude.{◌≡◌, cond};
 ghost use Rattle.explore.specs.Exploration.{explore_tables};
 ghost use Rattle.situations.specs.Found.{ExploredSheet, values_list};

@@ -1,4 +1,6 @@
 // Whether a stored sheet and the lent tables have the sizes that the search depends on.
+#![tactic(auto)]
+
 ghost use Rattle.std.specs.Prelude.{◌≡◌, ◌+◌, ◌*◌, ◌<◌, ◌≤◌};
 ghost use Rattle.sheet.specs.Refusal.{window_bound, first_bound, stream_bound};
 ghost use Rattle.basics.specs.Answers.{Says};

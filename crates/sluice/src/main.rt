@@ -1,5 +1,7 @@
 // Reads a sheet from standard input and prints its table. One byte more than a sheet may have is enough to refuse it, so that no more is read.
 // A sheet that cannot be read whole counts as empty; this, and a table that cannot be written whole, is told on standard error.
+#![tactic(auto)]
+
 use libc::{STDERR_FILENO, STDIN_FILENO};
 
 fn tell(failed: bool, message: &[u8]) {

@@ -1,5 +1,7 @@
 // Where the expressions of a sheet's constraints stand in its text. The text is known to be a sheet where it matters, so that nothing is refused
 // here; every other text has an answer too.
+#![tactic(auto)]
+
 ghost use Rattle.std.specs.Prelude.{◌≡◌, [], ◌∷◌, suc, ◌+◌, ◌≤◌, ◌<◌, length};
 ghost use Rattle.spans.specs.Token.{span};
 ghost use Rattle.spans.specs.Spans.{part_span_to, branches_by, expression_span, constraint_span, constraints_to};

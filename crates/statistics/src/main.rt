@@ -1,5 +1,7 @@
 // Prints the sizes of a sheet: `statistics SHEET`, the name of a file. A file that cannot be read counts as empty. Failed reads and writes are told on standard
 // error.
+#![tactic(auto)]
+
 use libc::STDERR_FILENO;
 
 fn tell(failed: bool, message: &[u8]) {

@@ -1,4 +1,6 @@
 // Fills lent bytes with the lines that `statistics` prints: a word and a number each, and those alone that are known with a refusal.
+#![tactic(auto)]
+
 ghost use Rattle.std.specs.Prelude.{◌≡◌, suc, ◌≤◌, length};
 ghost use Rattle.print.specs.Append.{Appends};
 ghost use Rattle.statistics_text.specs.Text.{sizes_known, situations_known, known_line, sheet_lines, statistics_text};

@@ -1,4 +1,6 @@
 // The step along a table of states, and the running place that it changes.
+#![tactic(auto)]
+
 ghost use Rattle.std.specs.Prelude.{◌≡◌, ◌+◌, ◌<◌, length};
 ghost use Rattle.stored.specs.Number.{number_at};
 ghost use Rattle.step.specs.Step.{entry_width, StepAnswer};

@@ -1,5 +1,7 @@
 // Takes steps that standard input gives and prints each answer with the running place after it. The enumerator wrote the input and what is
 // expected: five numbers of four bytes, low first (table length, letters, letter, state, steps), then the table's bytes, step after step.
+#![tactic(auto)]
+
 use cases::{number, print};
 use step::Place;
 

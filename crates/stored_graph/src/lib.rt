@@ -1,5 +1,7 @@
 // Whether lent tables hold a graph. Each entry of a graph is a successor or 65,535, each flag 1 or 0 and never falls along an entry,
 // and the rows stand in the order in which they are first met.
+#![tactic(auto)]
+
 ghost use Rattle.std.specs.Prelude.{suc, ◌<◌, ◌≤◌, length};
 ghost use Rattle.basics.specs.Answers.{Says};
 ghost use Rattle.stored_graph.specs.StoredGraph.{IsStoredGraph};

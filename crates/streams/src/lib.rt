@@ -1,4 +1,6 @@
 // Streams as a host describes them, names, ranges and kinds, and whether an accepted sheet could have them.
+#![tactic(auto)]
+
 ghost use Rattle.std.specs.Prelude.{◌≡◌, ◌≤◌, ◌<◌, min, length};
 ghost use Rattle.basics.specs.Answers.{Says};
 ghost use Rattle.streams.specs.Description.{IsNewName, NameFits, RangeFits, StreamFits, EachFits, StreamsFit};

@@ -1,5 +1,7 @@
 // Writes the text of a table with the streams that are described, page by page, or the line of a refusal, and counts the bytes that writes take. The crate
 // `pages` gives the bytes.
+#![tactic(auto)]
+
 ghost use Rattle.std.specs.Prelude.{◌≤◌, length};
 ghost use Rattle.output.specs.Output.{Hands};
 ghost use Rattle.pages.specs.Lines.{IsPage};

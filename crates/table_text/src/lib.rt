@@ -1,5 +1,7 @@
 // Writes the text of a table to lent bytes: the line of the entry at a place. An answer is how many bytes it takes, or one more than the lent bytes where it
 // has no room there.
+#![tactic(auto)]
+
 ghost use Rattle.print.specs.Append.{Appends};
 ghost use Rattle.table_text.specs.Table.{place_text};
 

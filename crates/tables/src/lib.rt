@@ -1,4 +1,6 @@
 // Whether a table that a host lends is well formed: the part of refusal 11 that is about the table alone (document 02, S-3).
+#![tactic(auto)]
+
 ghost use Rattle.std.specs.Prelude.{length};
 ghost use Rattle.basics.specs.Answers.{Says};
 ghost use Rattle.automaton.specs.WellFormed.{IsWellFormed};

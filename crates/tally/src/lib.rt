@@ -1,5 +1,7 @@
 // Counts the value lines of a record by the letters that they are, chunk by chunk. What is kept between two chunks is a struct of scalars and one count for
 // each letter, so that a record of any length takes the same memory. Every public function takes any tally and any slices.
+#![tactic(auto)]
+
 ghost use Rattle.std.specs.Prelude.{◌≡◌, Bool, List, ℕ, ◌<◌, ℤ, length, replicate};
 ghost use Rattle.text.specs.Fold.{run_bytes};
 ghost use Rattle.tally.specs.Machine.{counted_sheet, counting, tally_at, start_tally, refused_counts, count_byte, last_counted, FinishesTally, ReadsPart};

@@ -1,4 +1,6 @@
 // Tells the words of a sheet's vocabulary apart, and gives the numbers that stand for them. Every public function takes any bytes.
+#![tactic(auto)]
+
 ghost use Rattle.std.specs.Prelude.{◌≡◌};
 ghost use Rattle.text.specs.Bytes.{bytes_of};
 ghost use Rattle.text.specs.Token.{same_bytes, is_reserved};

@@ -6,6 +6,8 @@
 // rows gets the next number. Rows are looked at in sweeps that go down and up by turns, so that a chain of rows takes a few sweeps whichever way it leads. At
 // last a row plays, to each choice, the first letter into a row of a lower rank, and a final one into a final one. In a compiled table a final row leads to final
 // rows only; in another one a final row may be left without such a letter.
+#![tactic(auto)]
+
 ghost use Rattle.std.specs.Prelude.{◌≡◌, cond, ℕ, ◌*◌, ◌≤◌, ◌<◌, ◌-◌, length, get_or, replicate};
 ghost use Rattle.basics.specs.Answers.{Says};
 ghost use Rattle.automaton.specs.Stored.{entry_at, final_at};

@@ -1,4 +1,6 @@
 // Writes the residue of a stored node: what is left of it where only the newest letter is open.
+#![tactic(auto)]
+
 ghost use Rattle.std.specs.Prelude.{◌≡◌, cond, ◌-◌, ◌/◌, ◌≤◌, ◌<◌, length, get_or};
 ghost use Rattle.meaning.specs.Value.{nonzero};
 ghost use Rattle.nodes.specs.Bounded.{bounded};

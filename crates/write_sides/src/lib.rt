@@ -1,4 +1,6 @@
 // Writes the residues of the sides of constraints, one behind the other.
+#![tactic(auto)]
+
 ghost use Rattle.std.specs.Prelude.{◌/◌, ◌≤◌, length};
 ghost use Rattle.nodes.specs.Evaluate.{stored, view};
 ghost use Rattle.write_sides.specs.Sides.{ConstraintWritten, WritesSides};

@@ -1,0 +1,50 @@
+-- `carry::carry_rows` meets its contract: before each row the turn of the queue holds, or some row has no state (`RowsTurn`).
+use Prim.Native.Nat.{◌-◌}
+use mathlib.Core.Path.{refl, sym, ◌∙◌}
+use native.Mathlib.Omega.{arith}
+use lib.ListN.{length, set, length-set}
+use Rattle.basics.proofs.Clearing.{zeros}
+use Rattle.automaton.specs.WellFormed.{most_rows, WholeTable}
+use Rattle.carry.proofs.Rows.{rows_turn_start, rows_turn_runs, rows_turn_most, rows_turn_next, rows_turn_end}
+use Rattle.carry.proofs.carry_rows.Goals as goal
+
+-- the table is whole for as many rows as there are states
+whole : (start : tie.Start invariant-loop decreases-loop) → WholeTable start.args.letters (length (set start.args.states.now 0 0)) start.args.entries.now
+whole start = rw length-set start.requires.0
+
+pub bounds-states-0 : goal.bounds-states-0
+bounds-states-0 c = c.requires.0.some_row
+
+pub loop-head-init : goal.loop-head-init
+loop-head-init c =
+    let start = c in
+    let states = start.args.states.now in
+    let same = length-set states 0 0 in
+    (refl, refl, rows_turn_start states _ (sym same) (omega (arith, same, start.requires.0.some_row)) start.requires.1.1 (zeros most_rows 0))
+
+pub slice_bounds-carry_row-end : goal.slice_bounds-carry_row-end
+slice_bounds-carry_row-end c = sym c.loop-head.invariant.1
+
+pub carry_row-count-requires : goal.carry_row-count-requires
+carry_row-count-requires c κs =
+    let start = c in
+    let inv = c.loop-head.invariant in
+    (rw inv.0 (whole start), ((start.requires.1.0, inv.1, c.loop-head-test.true), rw inv.0 (rows_turn_runs c.loop-head-test.true inv.2)))
+
+pub overflow_add-head : goal.overflow_add-head
+overflow_add-head c = omega (arith, rows_turn_most c.loop-head-test.true c.loop-head.invariant.2, (whole c).few_rows)
+
+pub loop-head-smaller : goal.loop-head-smaller
+loop-head-smaller c = omega (arith, rows_turn_most c.loop-head-test.true c.loop-head.invariant.2)
+
+pub loop-head-preserved : goal.loop-head-preserved
+loop-head-preserved c =
+    let row = c.carry_row-count in
+    let inv = c.loop-head.invariant in
+    (row.auto.1.1.1.1.0 ∙ inv.0, row.auto.1.1.1.1.1.0 ∙ inv.1, rows_turn_next (row.auto.1.1.1.1.0 ∙ inv.0) row.ensures)
+
+pub shape_of-states : goal.shape_of-states
+shape_of-states c = let start = c in c.loop-head.invariant.0 ∙ length-set start.args.states.now 0 0
+
+pub returns : goal.returns
+returns c = rows_turn_end c.loop-head.invariant.0 (whole c).some_row c.loop-head-test.false c.loop-head.invariant.2

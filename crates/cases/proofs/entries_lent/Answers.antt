@@ -1,0 +1,7 @@
+-- `cases::entries_lent` meets its contract (Counted).
+use Rattle.std.proofs.Common.{arith}
+use Rattle.cases.proofs.Counted.{is-taken}
+use Rattle.cases.proofs.entries_lent.Goals as goal
+
+pub returns : goal.returns
+returns c = is-taken _ _ _ (omega (arith, c.fewer.ensures, c.number.ensures))

@@ -1,0 +1,60 @@
+-- `changes::column_least` meets its contract: `least` is the least of the numbers before `value`.
+use mathlib.Core.Path.{◌≡◌, ap, ◌∙◌}
+use mathlib.Core.Logic.{⊎_elim}
+use Prim.Native.Nat.{ℕ, ◌+◌, ◌*◌, ◌<◌, ◌-◌}
+use native.Mathlib.Omega.{arith}
+use lib.ListN.{length}
+use Rattle.basics.specs.Lists.{at}
+use Rattle.changes.specs.Passes.{least_below}
+use Rattle.changes.proofs.Passes.{least_below-lower, least_below-kept}
+use Rattle.changes.proofs.column_least.Reads as reads
+use Rattle.changes.proofs.column_least.Lts as lts
+use Rattle.changes.proofs.column_least.Goals as goal
+
+-- the place of the value
+place : (c : tie.In-loop invariant-loop decreases-loop) → let a = c.before.before.before.args in a.from + c.before.loop.value * a.stride < length a.row.now
+place c = c.before.before.before.requires.1 c.before.loop.value c.loop-test.true
+
+unfolding least_below
+
+pub offset_bounds-row-from : goal.offset_bounds-row-from
+offset_bounds-row-from c = omega (arith, c.requires.1 0 c.requires.0)
+
+pub bounds-row-from : goal.bounds-row-from
+bounds-row-from c = omega (arith, c.requires.1 0 c.requires.0)
+
+pub loop-value-init : goal.loop-value-init
+loop-value-init c = let a = c.args in
+    let e : a.from ≡ a.from + 0 * a.stride = omega arith in
+    (omega arith, ap (at a.row.now) e)
+
+pub overflow_mul-cost : goal.overflow_mul-cost
+overflow_mul-cost c = omega (arith, place c)
+
+pub overflow_add-cost : goal.overflow_add-cost
+overflow_add-cost c = omega (arith, place c)
+
+pub offset_bounds-row-from-in-loop-value : goal.offset_bounds-row-from-in-loop-value
+offset_bounds-row-from-in-loop-value c = omega (arith, place c)
+
+pub bounds-row-from-in-loop-value : goal.bounds-row-from-in-loop-value
+bounds-row-from-in-loop-value c = place c
+
+pub overflow_add-value : goal.overflow_add-value
+overflow_add-value c = omega arith
+
+pub loop-value-smaller : goal.loop-value-smaller
+loop-value-smaller c = omega arith
+
+pub loop-value-preserved : goal.loop-value-preserved
+loop-value-preserved c =
+    let turn = c.loop-value in
+    let a = c.args in
+    let numbers : ℕ → ℕ = λ d. at a.row.now (a.from + d * a.stride) in
+    (omega arith, ⊎_elim (λ w. w.1 ∙ least_below-lower turn.value numbers turn.invariant.1 w.0.true) (λ w. w.1 ∙ least_below-kept turn.value numbers turn.invariant.1 w.0.left) c.if-cost-least.branch)
+
+pub returns : goal.returns
+returns c =
+    let a = c.args in
+    let end : c.loop-value.value ≡ a.size = omega arith in
+    c.loop-value.invariant.1 ∙ ap (λ n. least_below n (λ d. at a.row.now (a.from + d * a.stride))) end

@@ -1,0 +1,134 @@
+-- `changes::count_changes` meets its contract: the changes along the streams from `stream` on are written (`CountedFrom`).
+use mathlib.Core.Path.{◌≡◌, refl, sym, ap, ap₂, ◌∙◌, subst}
+use mathlib.Core.Bool.{Bool}
+use Prim.Native.Nat.{ℕ, ◌*◌, ◌/◌, ◌%◌, ◌≤◌, ◌<◌, ◌-◌}
+use native.Mathlib.Omega.{arith}
+use native.Mathlib.Nat.{zero-mul}
+use lib.ListN.{length, length-set}
+use lib.Seq.{get_or-set_same}
+use borrow.Author.Tests.{not-true, not-false}
+use Rattle.basics.proofs.Answers.{says_yes, says_no}
+use Rattle.changes.specs.Axes.{changed_along, axes_from, axis_in}
+use Rattle.changes.specs.Passes.{SpreadsStream}
+use Rattle.changes.proofs.Axes.{before, later-total}
+use Rattle.changes.proofs.Blocks.{block_inside}
+use Rattle.changes.proofs.Loops.{whole_blocks, some-letters, some-values, some-later, CountedFrom, counted_start, counted-small, counted-more, counted-end}
+use Rattle.changes.proofs.count_changes.Goals as goal
+
+-- the streams make the row's letters
+all : (c : tie.At-loop invariant-loop decreases-loop) → let a = c.before.before.before.before.before.before.args in (0 < length a.row.now) × (before a.shape c.before.fewer.result ≡ length a.row.now)
+all c =
+    let made = c.before.before.before.before.makes in
+    let m = says_yes (not-false made.result c.before.before.before.if1.false) made.ensures in
+    (m.0, ap (before c.before.before.before.before.before.before.args.shape) c.before.fewer.ensures ∙ m.1)
+
+-- the row in blocks of a stream's values with the later streams' letters
+whole : (c : tie.After-value-count invariant-loop decreases-loop) → let start = c.before.before.before.before.before.before.before.before in
+    length start.args.row.now ≡ before start.args.shape (c.before.before.loop.stream - 1) * (c.value-count.result * c.before.before.loop.stride)
+whole c =
+    let a = c.before.before.before.before.before.before.before.before.args in
+    let turn = c.before.before.loop in
+    let known = all c.before.before in
+    whole_blocks a.shape c.before.before.before.fewer.result known.1 known.0 turn.stream c.before.loop-test.true turn.invariant.0
+    ∙ ap₂ (λ z k. before a.shape (turn.stream - 1) * (z * k)) (sym c.value-count.ensures) (sym turn.invariant.2.strides)
+
+fits : (c : tie.After-value-count invariant-loop decreases-loop) → c.value-count.result * c.before.before.loop.stride ≤ length c.before.before.before.before.before.before.before.before.args.row.now
+fits c =
+    let a = c.before.before.before.before.before.before.before.before.args in
+    let width = c.value-count.result * c.before.before.loop.stride in
+    let blocks = before a.shape (c.before.before.loop.stream - 1) in
+    omega (arith, block_inside 0 blocks width (omega (arith, zero-mul width, whole c, (all c.before.before).0)), zero-mul width, whole c)
+
+pub makes-requires : goal.makes-requires
+makes-requires c κs = tt
+
+pub returns-then-not-makes : goal.returns-then-not-makes
+returns-then-not-makes c =
+    let no = says_no (not-true c.makes.result c.if-not-makes.true) c.makes.ensures in
+    record { same_length = refl; counted = λ e l b h. absurd (no (omega arith, e)); kept = λ n. refl }
+
+pub returns-then-row-letter : goal.returns-then-row-letter
+returns-then-row-letter c = record { same_length = refl; counted = λ e l b h. absurd (let g = c.if-row-letter.true in omega arith); kept = λ n. refl }
+
+pub fewer-stream-requires : goal.fewer-stream-requires
+fewer-stream-requires c κs = tt
+
+pub bounds-row-0 : goal.bounds-row-0
+bounds-row-0 c = let g = c.if-row-letter.false in omega arith
+
+pub loop-stream-init : goal.loop-stream-init
+loop-stream-init c =
+    let a = c.args in
+    (omega arith, refl, counted_start a.shape c.fewer-stream.result (get_or-set_same a.row.now 0 0 0 (slice-write-row c)))
+
+pub overflow_sub-stream : goal.overflow_sub-stream
+overflow_sub-stream c = omega arith
+
+pub value_count-size-requires : goal.value_count-size-requires
+value_count-size-requires c κs = omega (arith, c.fewer-stream.ensures)
+
+pub nonzero_div-own : goal.nonzero_div-own
+nonzero_div-own c =
+    let a = c.args in
+    let turn = c.loop-stream in
+    let known = all c in
+    omega (arith, some-later a.shape c.fewer-stream.result known.1 known.0 turn.stream c.loop-stream-test.true turn.invariant.0, turn.invariant.2.strides)
+
+pub nonzero_rem-own : goal.nonzero_rem-own
+nonzero_rem-own c =
+    let a = c.args in
+    let turn = c.loop-stream in
+    let known = all c in
+    omega (arith, some-values a.shape c.fewer-stream.result known.1 known.0 turn.stream c.loop-stream-test.true turn.invariant.0, c.value_count-size.ensures)
+
+pub is_set-requires : goal.is_set-requires
+is_set-requires c κs = omega (arith, c.fewer-stream.ensures)
+
+pub spread_stream-requires : goal.spread_stream-requires
+spread_stream-requires c κs =
+    let a = c.args in
+    let few = c.fewer-stream.ensures in
+    let turn = c.loop-stream in
+    (omega (arith, fits c, turn.invariant.1, length-set a.row.now 0 0), λ o h. omega (arith, counted-small a.shape c.fewer-stream.result turn.invariant.2 o h, few))
+
+pub overflow_mul-stride : goal.overflow_mul-stride
+overflow_mul-stride c = omega (arith, fits c)
+
+pub loop-stream-smaller : goal.loop-stream-smaller
+loop-stream-smaller c = omega arith
+
+pub loop-stream-preserved : goal.loop-stream-preserved
+loop-stream-preserved c =
+    let up = c in
+    let a = up.args in
+    let n = up.fewer.result in
+    let turn = up.loop in
+    let known = all up in
+    let taken = up.loop-test.true in
+    let next = c.spread_stream.new.0 in
+    let axis = axis_in a.shape (turn.stream - 1) in
+    let some = subst (λ (m : ℕ). 0 < m) (sym (later-total a.shape n turn.stream taken turn.invariant.0)) (some-letters a.shape n known.1 known.0 turn.stream taken turn.invariant.0) in (
+      omega arith,
+      c.spread_stream.ensures.same_length ∙ turn.invariant.1,
+      subst (λ (z : ℕ). CountedFrom a.shape n (turn.stream - 1) (z * turn.stride) a.letter next) (sym up.value-count.ensures)
+          (counted-more a.shape n taken turn.invariant.0 some turn.invariant.2
+          (subst (λ (z : ℕ). SpreadsStream axis.counts z turn.stride (a.letter / turn.stride % z) 0 turn.row next) up.value-count.ensures
+          (subst (λ (b : Bool). SpreadsStream b up.value-count.result turn.stride (a.letter / turn.stride % up.value-count.result) 0 turn.row next) c.is_set.ensures c.spread_stream.ensures))),
+    )
+
+pub shape_of-row : goal.shape_of-row
+shape_of-row c = c.loop-stream.invariant.1 ∙ length-set c.args.row.now 0 0
+
+pub returns : goal.returns
+returns c =
+    let a = c.args in
+    let turn = c.loop-stream in
+    let n = c.fewer-stream.result in
+    let end : turn.stream ≡ 0 = omega arith in
+    let counted = subst (λ (x : ℕ). CountedFrom a.shape n x turn.stride a.letter turn.row) end turn.invariant.2 in
+    let known = all c in
+    record {
+      same_length = turn.invariant.1 ∙ length-set a.row.now 0 0;
+      counted = λ e l b h. counted-end a.shape n counted (omega (arith, known.1)) b (omega (arith, known.1)) ∙ ap (λ m. changed_along (axes_from a.shape 0 m) a.letter b) c.fewer-stream.ensures;
+      kept = λ f. absurd (f (ap (before a.shape) (sym c.fewer-stream.ensures) ∙ known.1) (let g = c.if-row-letter.false in omega arith));
+    }

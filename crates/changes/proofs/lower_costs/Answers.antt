@@ -1,0 +1,116 @@
+-- `changes::lower_costs` meets its contract: the streams from `stream` on have had their passes (`PassesFrom`).
+use mathlib.Core.Path.{◌≡◌, refl, sym, ap, ap₂, ◌∙◌, subst}
+use mathlib.Core.Bool.{Bool}
+use Prim.Native.Nat.{ℕ, ◌*◌, ◌<◌, ◌-◌}
+use native.Mathlib.Omega.{arith}
+use native.Mathlib.Nat.{zero-mul}
+use lib.ListN.{length}
+use borrow.Author.Tests.{not-true, not-false}
+use Rattle.basics.specs.Lists.{at}
+use Rattle.basics.proofs.Answers.{says_yes, says_no}
+use Rattle.changes.specs.Axes.{axes_from, axis_in}
+use Rattle.changes.specs.Least.{IsLeastFrom}
+use Rattle.changes.specs.Passes.{LowersBlocks}
+use Rattle.changes.proofs.Axes.{before}
+use Rattle.changes.proofs.Blocks.{block_inside}
+use Rattle.changes.proofs.Loops.{whole_blocks, some-values, some-later, PassesFrom, passes-start, passes-next, passes-end}
+use Rattle.changes.proofs.lower_costs.Goals as goal
+
+-- the streams make the row's letters
+all : (c : tie.At-loop invariant-loop decreases-loop) → let a = c.before.before.before.before.before.args in (0 < length a.row.now) × (before a.shape c.before.fewer.result ≡ length a.row.now)
+all c =
+    let made = c.before.before.before.makes in
+    let m = says_yes (not-false made.result c.before.before.if1.false) made.ensures in
+    (m.0, ap (before c.before.before.before.before.before.args.shape) c.before.fewer.ensures ∙ m.1)
+
+-- the row in blocks of a stream's values with the later streams' letters
+whole : (c : tie.After-value-count invariant-loop decreases-loop) → let start = c.before.before.before.before.before.before.before in
+    length start.args.row.now ≡ before start.args.shape (c.before.before.loop.stream - 1) * (c.value-count.result * c.before.before.loop.stride)
+whole c =
+    let a = c.before.before.before.before.before.before.before.args in
+    let turn = c.before.before.loop in
+    let known = all c.before.before in
+    whole_blocks a.shape c.before.before.before.fewer.result known.1 known.0 turn.stream c.before.loop-test.true turn.invariant.0
+    ∙ ap₂ (λ z k. before a.shape (turn.stream - 1) * (z * k)) (sym c.value-count.ensures) (sym turn.invariant.2.strides)
+
+pub makes-requires : goal.makes-requires
+makes-requires c κs = tt
+
+pub returns-then-not-makes : goal.returns-then-not-makes
+returns-then-not-makes c =
+    let no = says_no (not-true c.makes.result c.if-not-makes.true) c.makes.ensures in
+    record { same_length = refl; lowered = λ e a h. absurd (no (omega arith, e)); kept = λ n. refl }
+
+pub fewer-stream-requires : goal.fewer-stream-requires
+fewer-stream-requires c κs = tt
+
+pub loop-stream-init : goal.loop-stream-init
+loop-stream-init c = let a = c.args in (omega arith, refl, passes-start a.shape c.fewer-stream.result a.row.now)
+
+pub overflow_sub-stream : goal.overflow_sub-stream
+overflow_sub-stream c = omega arith
+
+pub value_count-size-requires : goal.value_count-size-requires
+value_count-size-requires c κs = omega (arith, c.fewer-stream.ensures)
+
+pub is_set-requires : goal.is_set-requires
+is_set-requires c κs = omega (arith, c.fewer-stream.ensures)
+
+pub lower_stream-requires : goal.lower_stream-requires
+lower_stream-requires c κs =
+    let a = c.args in
+    let n = c.fewer-stream.result in
+    let turn = c.loop-stream in
+    let known = all c in
+    let values = some-values a.shape n known.1 known.0 turn.stream c.loop-stream-test.true turn.invariant.0 in
+    let later = some-later a.shape n known.1 known.0 turn.stream c.loop-stream-test.true turn.invariant.0 in (
+      omega (arith, values, c.value_count-size.ensures),
+      omega (arith, later, turn.invariant.2.strides),
+      (before a.shape (turn.stream - 1), turn.invariant.1 ∙ whole c),
+      omega (arith, known.0, turn.invariant.1),
+    )
+
+pub overflow_mul-stride : goal.overflow_mul-stride
+overflow_mul-stride c =
+    let up = c in
+    let a = up.args in
+    let width = up.value-count.result * up.loop.stride in
+    let blocks = before a.shape (up.loop.stream - 1) in
+    omega (arith, block_inside 0 blocks width (omega (arith, zero-mul width, whole up, (all up).0)), zero-mul width, whole up)
+
+pub loop-stream-smaller : goal.loop-stream-smaller
+loop-stream-smaller c = omega arith
+
+pub loop-stream-preserved : goal.loop-stream-preserved
+loop-stream-preserved c =
+    let up = c in
+    let a = up.args in
+    let n = up.fewer.result in
+    let turn = up.loop in
+    let blocks = before a.shape (turn.stream - 1) in
+    let next = c.lower_stream.new.0 in
+    let lowered = c.lower_stream.ensures blocks (turn.invariant.1 ∙ whole up) in (
+      omega arith,
+      lowered.same_length ∙ turn.invariant.1,
+      subst (λ (z : ℕ). PassesFrom a.shape n (turn.stream - 1) (z * turn.stride) a.row.now next) (sym up.value-count.ensures)
+          (passes-next a.shape n up.loop-test.true turn.invariant.0 turn.invariant.2
+          (subst (λ (z : ℕ). LowersBlocks (axis_in a.shape (turn.stream - 1)).counts z turn.stride blocks turn.row next) up.value-count.ensures
+          (subst (λ (b : Bool). LowersBlocks b up.value-count.result turn.stride blocks turn.row next) c.is_set.ensures lowered))),
+    )
+
+pub shape_of-row : goal.shape_of-row
+shape_of-row c = c.loop-stream.invariant.1
+
+pub returns : goal.returns
+returns c =
+    let a = c.args in
+    let turn = c.loop-stream in
+    let n = c.fewer-stream.result in
+    let end : turn.stream ≡ 0 = omega arith in
+    let passed = subst (λ (x : ℕ). PassesFrom a.shape n x turn.stride a.row.now turn.row) end turn.invariant.2 in
+    let known = all c in
+    record {
+      same_length = turn.invariant.1;
+      lowered = λ e b h. subst (λ (m : ℕ). IsLeastFrom (axes_from a.shape 0 m) (at a.row.now) b (at turn.row b)) c.fewer-stream.ensures (passes-end a.shape n passed b (omega (arith, known.1)));
+      kept = λ ne. absurd (ne (ap (before a.shape) (sym c.fewer-stream.ensures) ∙ known.1));
+    }

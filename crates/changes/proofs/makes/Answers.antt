@@ -1,0 +1,69 @@
+-- `changes::makes` meets its contract: `made` is how many letters the streams from `stream` on make.
+use mathlib.Core.Path.{◌≡◌, refl, sym, ap, ap₂, ◌∙◌}
+use Prim.Native.Nat.{◌*◌, ◌<◌, ◌-◌}
+use native.Mathlib.Omega.{arith}
+use lib.Dec.{eqb}
+use borrow.Author.Tests.{not-true, not-false}
+use Rattle.basics.proofs.Answers.{says_yes, says_no, says_both, reflects_says}
+use Rattle.basics.proofs.Reflects.{eqb_reflects}
+use Rattle.changes.specs.Axes.{letter_total, axes_in}
+use Rattle.changes.proofs.Axes.{before, later, later-all, later-none, later-total, later-most}
+use Rattle.changes.proofs.makes.Goals as goal
+
+-- the letters with one stream more
+more : (c : tie.After-value-count invariant-loop decreases-loop)
+    → c.value-count.result * c.before.before.loop.made ≡ letter_total (later c.before.before.before.before.before.args.shape c.before.before.before.fewer.result (c.before.before.loop.stream - 1))
+more c =
+    let turn = c.before.before.loop in
+    ap₂ ◌*◌ c.value-count.ensures turn.invariant.1
+    ∙ sym (later-total c.before.before.before.before.before.args.shape c.before.before.before.fewer.result turn.stream c.before.loop-test.true turn.invariant.0)
+
+unfolding letter_total
+
+pub returns-then-letters-eq0 : goal.returns-then-letters-eq0
+returns-then-letters-eq0 c m = omega (arith, m.0)
+
+pub fewer-stream-requires : goal.fewer-stream-requires
+fewer-stream-requires c κs = tt
+
+pub loop-stream-init : goal.loop-stream-init
+loop-stream-init c = (omega arith, sym (ap letter_total (later-none c.args.shape c.fewer-stream.result)))
+
+pub overflow_sub-stream : goal.overflow_sub-stream
+overflow_sub-stream c = omega arith
+
+pub value_count-size-requires : goal.value_count-size-requires
+value_count-size-requires c κs = omega (arith, c.fewer-stream.ensures)
+
+pub rows_fit-requires : goal.rows_fit-requires
+rows_fit-requires c κs = tt
+
+-- the last streams alone make too many
+pub returns-then-not-rows_fit : goal.returns-then-not-rows_fit
+returns-then-not-rows_fit c m =
+    let shape = c.args.shape in
+    let n = c.fewer-stream.result in
+    let j = c.loop-stream.stream - 1 in
+    let all : before shape n ≡ c.args.letters = ap (before shape) c.fewer-stream.ensures ∙ m.1 in
+    let most = later-most shape n j (omega arith) (omega (arith, all, m.0)) in
+    says_no (not-true c.rows_fit.result c.if-not-rows_fit.true) c.rows_fit.ensures (omega (arith, more c, most, all))
+
+pub overflow_mul-made : goal.overflow_mul-made
+overflow_mul-made c = omega (arith, says_yes (not-false c.rows_fit.result c.if-not-rows_fit.false) c.rows_fit.ensures)
+
+pub loop-stream-smaller : goal.loop-stream-smaller
+loop-stream-smaller c = omega arith
+
+pub loop-stream-preserved : goal.loop-stream-preserved
+loop-stream-preserved c = (omega arith, more c)
+
+pub returns : goal.returns
+returns c =
+    let a = c.args in
+    let n = c.fewer-stream.result in
+    let made = c.loop-stream.made in
+    let some : 0 < a.letters = let ne = c.if-letters-eq0.false in omega arith in
+    let end : c.loop-stream.stream ≡ 0 = omega arith in
+    let all : made ≡ letter_total (axes_in a.shape) =
+    c.loop-stream.invariant.1 ∙ ap (λ j. letter_total (later a.shape n j)) end ∙ ap letter_total (later-all a.shape n) ∙ ap (before a.shape) c.fewer-stream.ensures in
+    says_both (eqb made a.letters) (λ e. (some, sym all ∙ e)) (λ m. all ∙ m.1) (reflects_says (eqb_reflects made a.letters))

@@ -1,0 +1,27 @@
+-- `course::course` meets its contract: the list is zero before the course is sought, and the work room afterwards.
+use mathlib.Core.Path.{sym, ap, ◌∙◌, subst}
+use Prim.Native.Nat.{ℕ}
+use lib.ListN.{length, replicate}
+use Rattle.basics.proofs.Clearing.{zeroed, cleared-all}
+use Rattle.course.specs.Outcome.{BestCourse}
+use Rattle.course.proofs.course.Goals as goal
+
+pub judged_course-answer-requires : goal.judged_course-answer-requires
+judged_course-answer-requires c κs = zeroed c.fill.ensures (sym c.fill.auto.0)
+
+pub shape_of-list : goal.shape_of-list
+shape_of-list c = c.judged_course-answer.auto.1.1.1.1.1.0 ∙ c.fill.auto.0
+
+pub shape_of-work : goal.shape_of-work
+shape_of-work c = c.clear_entries.auto.0 ∙ c.judged_course-answer.auto.1.1.1.1.1.1.0
+
+pub returns : goal.returns
+returns c =
+    let start = c in
+    let a = start.args in
+    let answer = c.judged_course-answer in
+    let list = c.fill.auto.0 in
+    record {
+      outcome = subst (λ (room : ℕ). BestCourse a.letters a.entries.now a.finals.now a.streams a.state room (length a.work.now) answer.result.refusal answer.result.count answer.new.1.1.1.1.1.0) list answer.ensures;
+      cleared = cleared-all c.clear_entries.ensures ∙ ap (λ m. replicate m 0) answer.auto.1.1.1.1.1.1.0;
+    }

@@ -1,0 +1,78 @@
+-- `course::find_costs` meets its contract: the costs of the rows from the place `left` of the queue on are right (`KnownFrom`).
+use mathlib.Core.Path.{refl, ◌∙◌}
+use Prim.Native.Nat.{◌<◌, ◌-◌}
+use native.Mathlib.Omega.{arith}
+use lib.ListN.{length}
+use Rattle.basics.specs.Lists.{at}
+use Rattle.automaton.proofs.WellFormed.{whole-entries}
+use Rattle.changes.proofs.Axes.{axes_few}
+use Rattle.course.proofs.Queue.{queue_most}
+use Rattle.course.proofs.Costs.{known_start, known_passed, known_more, known_end}
+use Rattle.course.proofs.find_costs.Goals as goal
+
+-- the place before `left` lies in the queue, and its row in the table
+place : (c : tie.In-loop invariant-loop decreases-loop) → c.before.loop.left - 1 < c.before.before.before.before.before.before.before.args.met.count
+place c = omega arith
+
+in_queue : (c : tie.In-loop invariant-loop decreases-loop) → c.before.loop.left - 1 < length c.before.before.before.before.before.before.before.args.queue.now
+in_queue c = let start = c.before.before.before.before.before.before.before in omega (arith, place c, queue_most start.requires.1.1, start.requires.1.0.1)
+
+row_inside : (c : tie.In-loop invariant-loop decreases-loop) → at c.before.before.before.before.before.before.before.args.queue.now (c.before.loop.left - 1) < length c.before.before.before.before.before.before.before.args.layers.now
+row_inside c = c.before.before.before.before.before.before.before.requires.1.1.rows (c.before.loop.left - 1) (place c)
+
+pub loop-left-init : goal.loop-left-init
+loop-left-init c = (omega arith, refl, known_start c.requires.1.1)
+
+pub overflow_sub-left : goal.overflow_sub-left
+overflow_sub-left c = omega arith
+
+pub offset_bounds-queue-left : goal.offset_bounds-queue-left
+offset_bounds-queue-left c = omega (arith, in_queue c)
+
+pub bounds-queue-left : goal.bounds-queue-left
+bounds-queue-left c = in_queue c
+
+pub overflow_cast-row : goal.overflow_cast-row
+overflow_cast-row c = omega (arith, row_inside c, c.requires.0.few_rows)
+
+pub offset_bounds-layers-row : goal.offset_bounds-layers-row
+offset_bounds-layers-row c = omega (arith, row_inside c, c.requires.0.few_rows)
+
+pub bounds-layers-row : goal.bounds-layers-row
+bounds-layers-row c = row_inside c
+
+pub find_row-requires : goal.find_row-requires
+find_row-requires c κs =
+    let start = c in
+    let sizes = start.requires.1.0 in
+    let turn = c.loop-left in
+    (start.requires.0, (sizes.0, omega (arith, sizes.2, turn.invariant.1), row_inside c, omega (arith, c.if-layers-row.true, sizes.3), sizes.4))
+
+pub loop-left-smaller-then-layers-row : goal.loop-left-smaller-then-layers-row
+loop-left-smaller-then-layers-row c = omega arith
+
+pub loop-left-preserved-then-layers-row : goal.loop-left-preserved-then-layers-row
+loop-left-preserved-then-layers-row c =
+    let start = c in
+    let turn = c.loop-left in
+    let sizes = start.requires.1.0 in
+    let found = c.find_row.ensures in (
+      omega arith,
+      found.same_length ∙ turn.invariant.1,
+      known_more start.requires.1.1 sizes.4 (axes_few start.args.shape) sizes.3 (whole-entries start.requires.0) c.loop-left-test.true turn.invariant.0 c.if-layers-row.true turn.invariant.2 found,
+    )
+
+pub loop-left-smaller : goal.loop-left-smaller
+loop-left-smaller c = omega arith
+
+pub loop-left-preserved : goal.loop-left-preserved
+loop-left-preserved c =
+    let start = c in
+    let turn = c.loop-left in
+    (omega arith, turn.invariant.1, known_passed start.requires.1.1 c.loop-left-test.true c.if-layers-row.false turn.invariant.2)
+
+pub shape_of-costs : goal.shape_of-costs
+shape_of-costs c = c.loop-left.invariant.1
+
+pub returns : goal.returns
+returns c = known_end c.requires.1.1 c.loop-left-test.false c.loop-left.invariant.2

@@ -1,0 +1,84 @@
+-- `course::load_row` meets its contract: the costs behind the letters before `letter` are stored (`LoadsRow`).
+use mathlib.Core.Path.{◌≡◌, subst}
+use Prim.Native.Nat.{ℕ, ◌+◌, ◌*◌, ◌≤◌, ◌<◌, ◌-◌}
+use native.Mathlib.Omega.{arith}
+use lib.ListN.{length}
+use Rattle.basics.proofs.Lists.{row_fits}
+use Rattle.automaton.proofs.WellFormed.{place_inside, whole-entries, some-row-entry}
+use Rattle.course.specs.Costs.{Layered, layered_in, LoadsRow}
+use Rattle.course.proofs.Rows.{load_start, load_next}
+use Rattle.course.proofs.load_row.Goals as goal
+
+abbrev table : (c : tie.Start invariant-loop decreases-loop) → Layered
+table c = let a = c.args in layered_in a.letters a.entries.now a.finals.now a.layers.now a.goal
+
+-- the row's places
+row_inside : (c : tie.Start invariant-loop decreases-loop) → c.args.row * c.args.letters + c.args.letters ≤ length c.args.costs.now
+row_inside c = row_fits c.args.row (length c.args.layers.now) c.args.letters (length c.args.costs.now) c.requires.1.2 c.requires.1.1
+
+place : (c : tie.In-loop invariant-loop decreases-loop) → let a = c.before.before.before.before.before.before.before.args in a.row * a.letters + c.before.loop.letter < length c.before.loop.costs
+place c = omega (arith, row_inside c.before.before.before.before.before.before.before, c.before.loop.invariant.1.same_length)
+
+entry_place : (c : tie.In-loop invariant-loop decreases-loop) → let a = c.before.before.before.before.before.before.before.args in a.row * a.letters + c.before.loop.letter < length a.entries.now
+entry_place c =
+    let start = c.before.before.before.before.before.before.before in
+    place_inside start.requires.0 start.args.row c.before.loop.letter start.requires.1.2 c.loop-test.true
+
+pub overflow_mul-start : goal.overflow_mul-start
+overflow_mul-start c = omega (arith, row_inside c)
+
+pub bounds-layers-row : goal.bounds-layers-row
+bounds-layers-row c = c.requires.1.2
+
+pub overflow_add-next : goal.overflow_add-next
+overflow_add-next c = omega (arith, c.requires.1.3)
+
+pub loop-letter-init : goal.loop-letter-init
+loop-letter-init c = let start = c in (omega arith, load_start (table start) start.args.row start.args.costs.now)
+
+pub overflow_add-entry : goal.overflow_add-entry
+overflow_add-entry c = omega (arith, entry_place c)
+
+pub offset_bounds-entries-start : goal.offset_bounds-entries-start
+offset_bounds-entries-start c = omega (arith, entry_place c)
+
+pub bounds-entries-start : goal.bounds-entries-start
+bounds-entries-start c = entry_place c
+
+pub cost_behind-requires : goal.cost_behind-requires
+cost_behind-requires c κs =
+    let start = c in
+    let turn = c.loop-letter in (
+      some-row-entry (whole-entries start.requires.0) start.args.row turn.letter start.requires.1.2 c.loop-letter-test.true,
+      (start.requires.1.0, omega (arith, start.requires.1.1, turn.invariant.1.same_length), c.loop-letter-test.true),
+    )
+
+pub overflow_add-costs : goal.overflow_add-costs
+overflow_add-costs c = omega (arith, place c)
+
+pub offset_bounds-costs-start : goal.offset_bounds-costs-start
+offset_bounds-costs-start c = omega (arith, place c)
+
+pub bounds-costs-start : goal.bounds-costs-start
+bounds-costs-start c = place c
+
+pub overflow_add-letter : goal.overflow_add-letter
+overflow_add-letter c = omega arith
+
+pub loop-letter-smaller : goal.loop-letter-smaller
+loop-letter-smaller c = omega arith
+
+pub loop-letter-preserved : goal.loop-letter-preserved
+loop-letter-preserved c =
+    let start = c in
+    let turn = c.loop-letter in
+    (omega arith, load_next (table start) start.args.row c.loop-letter-test.true (place c) turn.invariant.1 (c.cost_behind.ensures start.args.entries.now))
+
+pub shape_of-costs : goal.shape_of-costs
+shape_of-costs c = c.loop-letter.invariant.1.same_length
+
+pub returns : goal.returns
+returns c =
+    let start = c in
+    let end : c.loop-letter.letter ≡ start.args.letters = omega arith in
+    subst (λ (m : ℕ). LoadsRow (table start) start.args.row m start.args.costs.now c.loop-letter.costs) end c.loop-letter.invariant.1

@@ -1,0 +1,24 @@
+-- `export_text::fill` meets its contract: the lines before the arrays, those of the streams and those of the table (Parts).
+use Rattle.print.proofs.Append.{appends_then, appends_same}
+use Rattle.export_text.proofs.Parts.{export_parts}
+use Rattle.export_text.proofs.fill.Goals as goal
+
+pub fewer-count-requires : goal.fewer-count-requires
+fewer-count-requires c κs = tt
+
+pub put_counts-streams_at-requires : goal.put_counts-streams_at-requires
+put_counts-streams_at-requires c κs = tt
+
+pub append_described-table_at-requires : goal.append_described-table_at-requires
+append_described-table_at-requires c κs = tt
+
+pub append_table-requires : goal.append_table-requires
+append_table-requires c κs = tt
+
+pub shape_of-out : goal.shape_of-out
+shape_of-out c = (appends_then (appends_then c.put_counts-streams_at.ensures c.append_described-table_at.ensures) c.append_table.ensures).same_length
+
+pub returns : goal.returns
+returns c =
+    let a = c.args in
+    appends_same (appends_then (appends_then c.put_counts-streams_at.ensures c.append_described-table_at.ensures) c.append_table.ensures) (export_parts a.streams a.letters a.checksum a.entries.now a.finals.now c.fewer-count.ensures)

@@ -1,0 +1,24 @@
+-- `first_line::line_number` meets its contract: a token that is begun is ended, and a barred byte decides first.
+use mathlib.Core.Path.{sym, ap, ◌∙◌}
+use Rattle.text.specs.Fold.{end_token}
+use Rattle.first_line.specs.declared.NumberState.{NumberState}
+use Rattle.first_line.specs.Machine.{number_byte, number_end, found_in, state_number, number_line_end}
+use Rattle.first_line.proofs.line_number.Goals as goal
+
+-- The number with its last token ended.
+abbrev ended : tie.Start → NumberState
+ended s = end_token number_byte number_end s.args.line.begun s.args.line.number
+
+unfolding number_line_end
+
+unfolding number_line_end
+
+pub no_number-requires : goal.no_number-requires
+no_number-requires c κs = tt
+
+pub returns-then-line : goal.returns-then-line
+returns-then-line c = c.no_number.ensures ∙ sym (ap (λ t. state_number t (ended c)) c.if-line.true)
+
+pub returns : goal.returns
+returns c =
+    c.found_in.ensures ∙ ap (λ s. found_in s.phase s.value) c.end_number-ended.ensures ∙ sym (ap (λ t. state_number t (ended c)) c.if-line.false)

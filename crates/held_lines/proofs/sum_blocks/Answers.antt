@@ -1,0 +1,53 @@
+-- `held_lines::sum_blocks` meets its contract: before each turn the sum is that of the blocks so far (Sums).
+use Prim.Native.Nat.{◌+◌, ◌-◌, ◌*◌, ◌≤◌}
+use native.Mathlib.Omega.{arith}
+use mathlib.Core.Path.{◌≡◌, ◌∙◌, ap}
+use Rattle.held_lines.specs.Held.{cut_lines, block_lines, blocks_lines}
+use Rattle.held_lines.proofs.Sums.{no_sum, sum_more, first_fits}
+use Rattle.held_lines.proofs.sum_blocks.Goals as goal
+
+-- The first letter of the block.
+bounds : (c : tie.In-loop invariant-loop decreases-loop)
+    → (c.before.loop.i * c.before.before.before.args.size ≤ 1050625)
+    × (c.before.loop.i * c.before.before.before.args.size + c.before.before.before.args.digit ≤ 4296017920)
+    × ((c.before.loop.i * c.before.before.before.args.size + c.before.before.before.args.digit) * c.before.before.before.args.behind ≤ 4403418368000)
+bounds c =
+    let s = c.before.before.before in
+    first_fits c.before.loop.i s.args.size s.args.behind s.args.digit (omega (arith, c.loop-test.true, s.requires.0)) s.requires.1 s.requires.2 (omega (arith, s.ranges.digit))
+
+pub loop-i-init : goal.loop-i-init
+loop-i-init c = (omega arith, no_sum _)
+
+pub overflow_mul-from : goal.overflow_mul-from
+overflow_mul-from c = omega (arith, (bounds c).0)
+
+pub overflow_add-from : goal.overflow_add-from
+overflow_add-from c = omega (arith, (bounds c).1)
+
+pub overflow_mul-from-in-loop-i : goal.overflow_mul-from-in-loop-i
+overflow_mul-from-in-loop-i c = omega (arith, (bounds c).2)
+
+pub sum_block-requires : goal.sum_block-requires
+sum_block-requires c κs = omega (arith, (bounds c).2, c.requires.2)
+
+pub add_lines-sum-requires : goal.add_lines-sum-requires
+add_lines-sum-requires c κs = tt
+
+pub overflow_add-i : goal.overflow_add-i
+overflow_add-i c = omega (arith, c.loop-i-test.true, c.requires.0)
+
+pub loop-i-smaller : goal.loop-i-smaller
+loop-i-smaller c = omega (arith, c.loop-i-test.true)
+
+pub loop-i-preserved : goal.loop-i-preserved
+loop-i-preserved c =
+    let t = c.loop-i in
+    let s = c.args in
+    (omega (arith, c.loop-i-test.true), sum_more (λ i. block_lines s.counts.now ((i * s.size + s.digit) * s.behind) s.behind) t.i c.sum_block.result t.invariant.1 (omega (arith, c.sum_block.ensures)) c.add_lines-sum.ensures)
+
+pub returns : goal.returns
+returns c =
+    let t = c.loop-i in
+    let s = c.args in
+    let e : t.i ≡ s = omega (arith, c.loop-i-test.false, t.invariant.0) in
+    t.invariant.1 ∙ ap (λ n. cut_lines (blocks_lines s.counts.now n s.size s.behind s.digit)) e

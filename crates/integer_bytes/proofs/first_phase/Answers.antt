@@ -1,0 +1,13 @@
+-- `integer_bytes::first_phase` meets its contract: its tests are those of the definition.
+use mathlib.Core.Path.{sym, ◌∙◌}
+use borrow.Author.Tests.{eq-eqb, ne_eqb}
+use Rattle.integer_bytes.proofs.first_phase.Goals as goal
+
+pub returns-then-byte-eq45 : goal.returns-then-byte-eq45
+returns-then-byte-eq45 c = sym (simp (eq-eqb _ _ c.if-byte-eq45.true))
+
+pub returns-then-byte-eq48 : goal.returns-then-byte-eq48
+returns-then-byte-eq48 c = sym (simp (ne_eqb _ _ c.if-byte-eq45.false, eq-eqb _ _ c.if-byte-eq48.true))
+
+pub returns : goal.returns
+returns c = c.digit_phase.ensures ∙ sym (simp (ne_eqb _ _ c.if-byte-eq45.false, ne_eqb _ _ c.if-byte-eq48.false))

@@ -1,0 +1,67 @@
+-- `cuts_of` meets its contract: before each turn the cuts of the letters before it are listed, and behind them the list is 0.
+use Prim.Native.Nat.{ℕ, ◌-◌, ◌<◌}
+use mathlib.Core.Path.{◌≡◌, ◌∙◌}
+use native.Mathlib.Omega.{arith}
+use lib.ListN.{length, get_or, length-set, length-replicate}
+use lib.Seq.{get_or-set_other}
+use Rattle.basics.proofs.Clearing.{zeros}
+use Rattle.streams.specs.Description.{description_of}
+use Rattle.joined_streams.specs.Joined.{cut_number}
+use Rattle.joined_streams.proofs.Places.{set_below}
+use Rattle.joined_streams.proofs.Cuts.{cut_below}
+use Rattle.joined_streams.proofs.cuts_of.Goals as goal
+
+-- the turn's letter is a joined one
+known : (c : tie.In-loop invariant-loop decreases-loop) → c.before.loop.letter < c.before.before.before.args.letters
+known c = c.loop-test.true
+
+-- a cut that is found is small
+small : (c : tie.After-cut-of invariant-loop decreases-loop) → c.cut_of.result < 1025
+small c =
+    let s = c.before.before.before.before in
+    let below = cut_below s.requires.0.covers c.before.before.loop.letter (omega (arith, known c.before, s.requires.1)) in
+    omega (arith, c.cut_of.ensures, below, s.requires.0.own_letters)
+
+pub places_of-places-requires : goal.places_of-places-requires
+places_of-places-requires c κs = c.requires.0
+
+pub loop-letter-init : goal.loop-letter-init
+loop-letter-init c = (omega arith, length-replicate {A = ℕ} 1024 0, (λ a l. absurd (omega arith)), λ a l. zeros 1024 a)
+
+pub overflow_cast-at : goal.overflow_cast-at
+overflow_cast-at c = omega (arith, known c, c.requires.1, c.requires.0.joined_letters)
+
+pub cut_of-requires : goal.cut_of-requires
+cut_of-requires c κs = let s = c in (s.requires.0, c.places_of-places.ensures, omega (arith, known c, s.requires.1))
+
+pub overflow_cast-cuts : goal.overflow_cast-cuts
+overflow_cast-cuts c = omega (arith, small c)
+
+pub offset_bounds-cuts-at : goal.offset_bounds-cuts-at
+offset_bounds-cuts-at c = omega (arith, known c, c.requires.1, c.requires.0.joined_letters)
+
+pub bounds-cuts-at : goal.bounds-cuts-at
+bounds-cuts-at c = omega (arith, known c, c.requires.1, c.requires.0.joined_letters)
+
+pub overflow_add-letter : goal.overflow_add-letter
+overflow_add-letter c = omega (arith, known c, c.requires.1, c.requires.0.joined_letters)
+
+pub loop-letter-smaller : goal.loop-letter-smaller
+loop-letter-smaller c = omega (arith, known c)
+
+pub loop-letter-preserved : goal.loop-letter-preserved
+loop-letter-preserved c =
+    let loop = c.loop-letter in
+    let s = c in
+    let room : loop.letter < length loop.cuts = omega (arith, known c, s.requires.1, s.requires.0.joined_letters, loop.invariant.1) in (
+      omega (arith, known c),
+      length-set loop.cuts loop.letter c.cut_of.result ∙ loop.invariant.1,
+      set_below (λ a v. v ≡ cut_number (description_of s.args.joined) (description_of s.args.own) a) loop.cuts loop.letter c.cut_of.result room c.cut_of.ensures loop.invariant.2,
+      λ a l. get_or-set_other loop.cuts loop.letter a c.cut_of.result 0 (omega arith) ∙ loop.invariant.3 a (omega arith),
+    )
+
+pub returns : goal.returns
+returns c =
+    let loop = c.loop-letter in
+    let letters = c.requires.1 in
+    record { long = loop.invariant.1; cuts = λ a h. loop.invariant.2 a (omega (arith, c.loop-letter-test.false, letters)); beyond = λ a h. loop.invariant.3 a (omega (arith, loop.invariant.0, letters)) }

@@ -1,0 +1,56 @@
+-- `with_others` meets its contract: what is left to add to the streams so far gives the same (Describing).
+use Prim.Native.Nat.{◌+◌, ◌-◌}
+use mathlib.Core.Path.{◌≡◌, sym, ◌∙◌, ap}
+use mathlib.Core.Bool.{Bool, true, false, cond}
+use mathlib.Core.Logic.{⊎_elim}
+use native.Mathlib.Omega.{arith}
+use lib.Dec.{eqb}
+use lib.ListN.{length}
+use borrow.Author.Tests.{eq-eqb, ne_eqb}
+use Rattle.streams.specs.Description.{stream_in, description_of}
+use Rattle.streams.proofs.Fit.{streams-length}
+use Rattle.streams.specs.declared.StreamsDescription.{StreamsDescription}
+use Rattle.joined_streams.specs.Joined.{place_of}
+use Rattle.joined_streams.specs.Describing.{with_described, with_others}
+use Rattle.joined_streams.proofs.Describing.{described-count, others-step, others-none-left}
+use Rattle.joined_streams.proofs.with_others.Goals as goal
+
+pub loop-stream-init : goal.loop-stream-init
+loop-stream-init c = let a = c.args in let e : a.from.count - 0 ≡ a.from.count = omega arith in (omega arith, omega (arith, c.requires.0), ap (with_others a.known a.from a.to 0) e)
+
+pub place_of-requires : goal.place_of-requires
+place_of-requires c κs = let s = c in (s.requires.1, omega (arith, c.loop-stream-test.true, s.requires.2))
+
+pub with_stream-all-requires : goal.with_stream-all-requires
+with_stream-all-requires c κs = let s = c in (omega (arith, c.loop-stream.invariant.1, c.loop-stream-test.true, s.requires.2), omega (arith, c.loop-stream-test.true, s.requires.2))
+
+pub overflow_add-stream : goal.overflow_add-stream
+overflow_add-stream c = omega (arith, c.loop-stream-test.true, c.requires.2)
+
+pub loop-stream-smaller : goal.loop-stream-smaller
+loop-stream-smaller c = omega (arith, c.loop-stream-test.true)
+
+pub loop-stream-preserved : goal.loop-stream-preserved
+loop-stream-preserved c =
+    let loop = c.loop-stream in
+    let s = c in
+    let a = s.args in
+    let long = streams-length a.known 0 a.known.count in
+    let e = c.place_of.ensures in
+    let place = place_of (description_of a.known) (stream_in a.from loop.stream).name in
+    let known = length (description_of a.known) in
+    let step = others-step a.known a.from loop.all loop.stream a.from.count c.loop-stream-test.true in
+    let by : (b : Bool) → eqb (place_of (description_of a.known) (stream_in a.from loop.stream).name) (length (description_of a.known)) ≡ b
+    → with_others a.known a.from (cond b (with_described loop.all a.from loop.stream) loop.all) (loop.stream + 1) (a.from.count - (loop.stream + 1)) ≡ with_others a.known a.from a.to 0 a.from.count =
+    λ b q. ap (λ x. with_others a.known a.from (cond x (with_described loop.all a.from loop.stream) loop.all) (loop.stream + 1) (a.from.count - (loop.stream + 1))) (sym q) ∙ sym step ∙ loop.invariant.2 in
+    ⊎_elim
+    (λ w. (omega (arith, c.loop-stream-test.true), rw w.2 (omega (arith, loop.invariant.1, ap (λ (x : StreamsDescription). x.count) w.1.ensures, described-count loop.all a.from loop.stream)), rw (w.2, w.1.ensures) (by true (eq-eqb place known (omega (arith, w.0.true, e, long))))))
+    (λ w. (omega (arith, c.loop-stream-test.true), rw w.1 (omega (arith, loop.invariant.1)), rw w.1 (by false (ne_eqb place known (λ q. w.0.left (omega (arith, q, e, long)))))))
+    c.if-place_of-known.branch
+
+pub returns : goal.returns
+returns c =
+    let loop = c.loop-stream in
+    let a = c.args in
+    let e : a.from.count - loop.stream ≡ 0 = omega (arith, c.loop-stream-test.false) in
+    sym (others-none-left a.known a.from loop.all loop.stream) ∙ ap (with_others a.known a.from loop.all loop.stream) (sym e) ∙ loop.invariant.2

@@ -1,0 +1,133 @@
+-- `letters::letter_number` meets its contract, from the first stream to the last. The loop's invariant is `Counted`: the values before i are in
+-- their ranges, and the number so far counts the letters of the streams before i. Its products and sums fit 32 bits by the law for any width (Widths).
+use Prim.Native.Nat.{◌+◌, ◌-◌, ◌*◌, ◌≤◌, ◌<◌, min}
+use native.Mathlib.Omega.{arith}
+use native.Mathlib.Numerals.{add-one}
+use mathlib.Core.Path.{◌≡◌, refl, sym, ◌∙◌, ap, ap₂, subst}
+use mathlib.Core.Bool.{true}
+use lib.IntN.{pos, nat_abs, ◌-ℤ◌}
+use lib.ListN.{length, get_or}
+use lib.Signed.{le_z}
+use Rattle.meaning.specs.Letter.{size}
+use Rattle.arithmetic.proofs.Machine.{held_both}
+use Rattle.letters.specs.Described.{ranged}
+use Rattle.letters.proofs.Above.{lt_z_false}
+use Rattle.letters.proofs.Counts.{below_no, below_yes, count_from}
+use Rattle.letters.proofs.Numbers.{size_exact, Counted, counted_start, counted-again, next_small, value_low, value-high, digit-exact, no_letters, letters-above, other_length, no_value, some-letters, all-counted}
+use Rattle.letters.proofs.Widths.{count_fits}
+use Rattle.letters.proofs.letter_number.Goals as goal
+
+-- In a turn whose value is in its range: the two tests, and what `values` answers.
+record Turn (c : tie.After-values invariant-loop decreases-loop) : Type 0 where
+  below : c.before.before.before.before.before.before.before.loop.i < min (length c.before.before.before.before.before.before.before.before.before.before.before.before.before.args.lows.now) (length c.before.before.before.before.before.before.before.before.before.before.before.before.before.args.highs.now)
+  long : length c.before.before.before.before.before.before.before.before.before.before.before.before.before.args.letter.now ≡ min (length c.before.before.before.before.before.before.before.before.before.before.before.before.before.args.lows.now) (length c.before.before.before.before.before.before.before.before.before.before.before.before.before.args.highs.now)
+  positive : 0 < count_from c.before.before.before.before.before.before.before.before.before.before.before.before.before.args.lows.now c.before.before.before.before.before.before.before.before.before.before.before.before.before.args.highs.now 0
+  few : count_from c.before.before.before.before.before.before.before.before.before.before.before.before.before.args.lows.now c.before.before.before.before.before.before.before.before.before.before.before.before.before.args.highs.now 0 ≤ 1024
+  above_low : le_z (get_or c.before.before.before.before.before.before.before.before.before.before.before.before.before.args.lows.now c.before.before.before.before.before.before.before.loop.i (pos 0)) (get_or c.before.before.before.before.before.before.before.before.before.before.before.before.before.args.letter.now c.before.before.before.before.before.before.before.loop.i (pos 0)) ≡ true
+  below-high : le_z (get_or c.before.before.before.before.before.before.before.before.before.before.before.before.before.args.letter.now c.before.before.before.before.before.before.before.loop.i (pos 0)) (get_or c.before.before.before.before.before.before.before.before.before.before.before.before.before.args.highs.now c.before.before.before.before.before.before.before.loop.i (pos 0)) ≡ true
+  size_is : c.values.result ≡ size (ranged (get_or c.before.before.before.before.before.before.before.before.before.before.before.before.before.args.lows.now c.before.before.before.before.before.before.before.loop.i (pos 0)) (get_or c.before.before.before.before.before.before.before.before.before.before.before.before.before.args.highs.now c.before.before.before.before.before.before.before.loop.i (pos 0))).range
+
+turn : (c : tie.After-values invariant-loop decreases-loop) → Turn c
+turn c =
+    let s = c.before.before.before.before.before.before.before.before.before.before.before.before.before in
+    let i = c.before.before.before.before.before.before.before.loop.i in
+    let b : i < min (length s.args.lows.now) (length s.args.highs.now) = omega (arith, c.before.before.before.before.before.before.loop-test.true, c.before.before.before.before.before.before.before.before.before.fewer.ensures) in
+    let p = some-letters s.args.lows.now s.args.highs.now s.args.letter.now c.before.before.before.before.before.before.before.before.before.before.before.before.letter-count.ensures c.before.before.before.before.before.before.before.before.before.before.before.if1.false c.before.before.before.before.before.before.before.before.before.before.if2.false in
+    record {
+      below = b;
+      long = c.before.before.before.before.before.before.before.before.if3.false ∙ c.before.before.before.before.before.before.before.before.before.fewer.ensures;
+      positive = p.0;
+      few = p.1;
+      above_low = below_yes (get_or c.before.before.before.before.before.before.before.before.before.before.before.before.before.args.letter.now c.before.before.before.before.before.before.before.loop.i (pos 0)) (get_or c.before.before.before.before.before.before.before.before.before.before.before.before.before.args.lows.now c.before.before.before.before.before.before.before.loop.i (pos 0)) (record { sfits = c.before.before.before.value.given }) (record { sfits = c.before.before.before.before.before.low.given }) c.before.before.if4.false;
+      below-high = below_yes (get_or c.before.before.before.before.before.before.before.before.before.before.before.before.before.args.highs.now c.before.before.before.before.before.before.before.loop.i (pos 0)) (get_or c.before.before.before.before.before.before.before.before.before.before.before.before.before.args.letter.now c.before.before.before.before.before.before.before.loop.i (pos 0)) (record { sfits = c.before.before.before.before.high.given }) (record { sfits = c.before.before.before.value.given }) c.before.if5.false;
+      size_is = (size_exact s.args.lows.now s.args.highs.now p.0 p.1 i b (record { sfits = c.before.before.before.before.before.low.given }) (record { sfits = c.before.before.before.before.high.given }) c.values.ensures).0;
+    }
+
+-- The number with one digit more is below 1,024.
+next-below : (c : tie.After-distance invariant-loop decreases-loop)
+    → c.before.before.before.before.before.before.before.before.loop.number * c.before.values.result + c.distance.result < 1024
+next-below c =
+    let s = c.before.before.before.before.before.before.before.before.before.before.before.before.before.before in
+    let t = turn c.before in
+    let loop = c.before.before.before.before.before.before.before.before.loop in
+    let low = get_or s.args.lows.now loop.i (pos 0) in
+    let value = get_or s.args.letter.now loop.i (pos 0) in
+    let digit = c.distance.ensures ∙ held_both (λ a b. min (nat_abs (b -ℤ a)) 1024) low value (record { sfits = c.before.before.before.before.before.before.low.given }) (record { sfits = c.before.before.before.before.value.given }) in
+    omega (arith, next_small s.args.lows.now s.args.highs.now s.args.letter.now loop.i t.below t.long loop.invariant t.positive t.few t.above_low t.below-high, ap (λ x. loop.number * x) t.size_is, digit-exact s.args.lows.now s.args.highs.now s.args.letter.now loop.i t.below t.long loop.invariant t.positive t.few t.above_low t.below-high digit)
+
+pub returns-then-count-eq0 : goal.returns-then-count-eq0
+returns-then-count-eq0 c = let s = c in no_letters s.args.lows.now s.args.highs.now s.args.letter.now c.letter_count-count.ensures c.if-count-eq0.true
+
+pub returns-then-count-gt1024 : goal.returns-then-count-gt1024
+returns-then-count-gt1024 c = let s = c in letters-above s.args.lows.now s.args.highs.now s.args.letter.now c.letter_count-count.ensures c.if-count-gt1024.true
+
+pub returns-then-letter-n : goal.returns-then-letter-n
+returns-then-letter-n c = let s = c in other_length s.args.lows.now s.args.highs.now s.args.letter.now c.letter_count-count.ensures c.fewer-n.ensures refl c.if-letter-n.true
+
+pub loop-i-init : goal.loop-i-init
+loop-i-init c = let s = c in counted_start s.args.lows.now s.args.highs.now s.args.letter.now
+
+pub offset_bounds-lows-i : goal.offset_bounds-lows-i
+offset_bounds-lows-i c = omega (arith, c.loop-i-test.true, c.fewer-n.ensures, c.if-letter-n.false, c.well_formed)
+
+pub bounds-lows-i : goal.bounds-lows-i
+bounds-lows-i c = omega (arith, c.loop-i-test.true, c.fewer-n.ensures, c.if-letter-n.false)
+
+pub offset_bounds-highs-i : goal.offset_bounds-highs-i
+offset_bounds-highs-i c = omega (arith, c.loop-i-test.true, c.fewer-n.ensures, c.if-letter-n.false, c.well_formed)
+
+pub bounds-highs-i : goal.bounds-highs-i
+bounds-highs-i c = omega (arith, c.loop-i-test.true, c.fewer-n.ensures, c.if-letter-n.false)
+
+pub offset_bounds-letter-i : goal.offset_bounds-letter-i
+offset_bounds-letter-i c = omega (arith, c.loop-i-test.true, c.fewer-n.ensures, c.if-letter-n.false, c.well_formed)
+
+pub bounds-letter-i : goal.bounds-letter-i
+bounds-letter-i c = omega (arith, c.loop-i-test.true, c.fewer-n.ensures, c.if-letter-n.false)
+
+pub returns-then-value-low : goal.returns-then-value-low
+returns-then-value-low c =
+    let s = c in
+    let i = c.loop-i.i in
+    no_value s.args.lows.now s.args.highs.now s.args.letter.now c.letter_count-count.ensures
+    (value_low s.args.lows.now s.args.highs.now s.args.letter.now i (omega (arith, c.loop-i-test.true, c.fewer-n.ensures)) (c.if-letter-n.false ∙ c.fewer-n.ensures) c.loop-i.invariant
+    (below_no (get_or s.args.letter.now (i) (pos 0)) (get_or s.args.lows.now (i) (pos 0)) (record { sfits = c.value-1.given }) (record { sfits = c.low-1.given }) c.if-value-low.true))
+
+pub returns-then-high-value : goal.returns-then-high-value
+returns-then-high-value c =
+    let s = c in
+    let i = c.loop-i.i in
+    no_value s.args.lows.now s.args.highs.now s.args.letter.now c.letter_count-count.ensures
+    (value-high s.args.lows.now s.args.highs.now s.args.letter.now i (omega (arith, c.loop-i-test.true, c.fewer-n.ensures)) (c.if-letter-n.false ∙ c.fewer-n.ensures) c.loop-i.invariant
+    (below_yes (get_or s.args.letter.now (i) (pos 0)) (get_or s.args.lows.now (i) (pos 0)) (record { sfits = c.value-1.given }) (record { sfits = c.low-1.given }) c.if-value-low.false)
+    (below_no (get_or s.args.highs.now (i) (pos 0)) (get_or s.args.letter.now (i) (pos 0)) (record { sfits = c.high-1.given }) (record { sfits = c.value-1.given }) c.if-high-value.true))
+
+pub distance-digit-requires : goal.distance-digit-requires
+distance-digit-requires c κs = lt_z_false _ _ c.if-value-low.false
+
+pub overflow_mul-number : goal.overflow_mul-number
+overflow_mul-number c = record { fits = count_fits 32 (omega arith) (omega (arith, next-below c)) }
+
+pub overflow_add-number : goal.overflow_add-number
+overflow_add-number c = record { fits = count_fits 32 (omega arith) (omega (arith, next-below c)) }
+
+pub overflow_add-i : goal.overflow_add-i
+overflow_add-i c = omega (arith, c.loop-i-test.true, c.fewer-n.ensures, c.well_formed)
+
+pub loop-i-smaller : goal.loop-i-smaller
+loop-i-smaller c = omega (arith, c.loop-i-test.true)
+
+pub loop-i-preserved : goal.loop-i-preserved
+loop-i-preserved c =
+    let s = c in
+    let t = turn c in
+    subst (λ k. Counted s.args.lows.now s.args.highs.now s.args.letter.now k (c.loop-i.number * c.values-size.result + c.distance-digit.result)) (sym (add-one c.loop-i.i))
+    (counted-again s.args.lows.now s.args.highs.now s.args.letter.now c.loop-i.i t.below t.long c.loop-i.invariant t.positive t.few t.above_low t.below-high
+    (ap₂ (λ x y. c.loop-i.number * x + y) t.size_is (digit-exact s.args.lows.now s.args.highs.now s.args.letter.now c.loop-i.i t.below t.long c.loop-i.invariant t.positive t.few t.above_low t.below-high (c.distance-digit.ensures ∙ held_both (λ a b. min (nat_abs (b -ℤ a)) 1024) (get_or s.args.lows.now c.loop-i.i (pos 0)) (get_or s.args.letter.now c.loop-i.i (pos 0)) (record { sfits = c.low-1.given }) (record { sfits = c.value-1.given })))))
+
+pub returns : goal.returns
+returns c =
+    let s = c in
+    let inv = c.loop-i.invariant in
+    all-counted s.args.lows.now s.args.highs.now s.args.letter.now c.letter_count-count.ensures c.if-count-gt1024.false {i = c.loop-i.i} (omega (arith, inv.within, c.loop-i-test.false, c.fewer-n.ensures))
+    (c.if-letter-n.false ∙ c.fewer-n.ensures) inv

@@ -1,0 +1,43 @@
+-- `live_rows::find_finals` meets its contract: each pass starts from what the pass before left.
+use mathlib.Core.Path.{refl, ◌∙◌}
+use borrow.Author.Tests.{not-true, not-false}
+use Rattle.basics.proofs.Answers.{says_yes, says_no}
+use Rattle.live_rows.proofs.Loops.{finds_finals}
+use Rattle.live_rows.proofs.find_finals.Goals as goal
+
+pub returns-then-pending-live : goal.returns-then-pending-live
+returns-then-pending-live c = record { fits = λ z e. absurd (c.if-pending-live.true e); unchanged = λ z. (refl, refl) }
+
+pub returns-then-not-has_room : goal.returns-then-not-has_room
+returns-then-not-has_room c = record {
+  fits = λ z e. absurd (says_no (not-true c.has_room.result c.if-not-has_room.true) c.has_room.ensures (z.entries_fit, z.flags_fit));
+  unchanged = λ z. (refl, refl);
+}
+
+pub mark_pending-requires : goal.mark_pending-requires
+mark_pending-requires c κs = ((says_yes (not-false c.has_room.result c.if-not-has_room.false) c.has_room.ensures).1, c.if-pending-live.false)
+
+pub set_finals-requires : goal.set_finals-requires
+set_finals-requires c κs = (
+  c.prune.auto.1.1.0 ∙ (c.mark_pending.auto.1.1.0 ∙ c.if-pending-live.false),
+  (says_yes (not-false c.has_room.result c.if-not-has_room.false) c.has_room.ensures).1,
+)
+
+pub shape_of-pending : goal.shape_of-pending
+shape_of-pending c = c.prune.auto.1.1.0 ∙ c.mark_pending.auto.1.1.0
+
+pub shape_of-flags : goal.shape_of-flags
+shape_of-flags c = c.set_finals.auto.1.1.0
+
+pub returns : goal.returns
+returns c =
+    let args = c.args in
+    let room = says_yes (not-false c.has_room.result c.if-not-has_room.false) c.has_room.ensures in
+    let mark = c.mark_pending in
+    let prune = c.prune in
+    let final = c.set_finals in
+    record {
+      fits = λ z e. finds_finals args.letters args.entries.now args.live.now args.flags.now args.pending.now mark.new.1.1.0 prune.new.1.1.0 final.new.1.1.0
+          z.entries_fit e mark.auto.1.1.0 prune.auto.1.1.0 mark.ensures prune.ensures final.ensures.0 final.ensures.1;
+      unchanged = λ n. absurd (n (record { entries_fit = room.0; flags_fit = room.1 }, c.if-pending-live.false));
+    }

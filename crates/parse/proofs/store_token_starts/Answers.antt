@@ -1,0 +1,36 @@
+-- `parse::store_token_starts` meets its contract: the starts below the loop's place are stored, and at the end these are all starts of the
+-- line's tokens.
+use Prim.Native.Nat.{◌-◌}
+use mathlib.Core.Path.{sym, ◌∙◌}
+use mathlib.Core.Logic.{⊎_elim}
+use native.Mathlib.Omega.{arith}
+use Rattle.parse.proofs.Filled.{filled-start, filled-end, filled-count, begins-room, filled-begins, filled-passes}
+use Rattle.parse.proofs.store_token_starts.Goals as goal
+
+pub loop-i-init : goal.loop-i-init
+loop-i-init c = filled-start _ _ _ c.requires
+
+pub offset_bounds-token_starts-count : goal.offset_bounds-token_starts-count
+offset_bounds-token_starts-count c = let room = begins-room c.loop-i.invariant c.loop-i-test.true (sym c.begins_token.ensures ∙ c.if-begins_token.true) in omega arith
+
+pub bounds-token_starts-count : goal.bounds-token_starts-count
+bounds-token_starts-count c = begins-room c.loop-i.invariant c.loop-i-test.true (sym c.begins_token.ensures ∙ c.if-begins_token.true)
+
+pub overflow_add-count : goal.overflow_add-count
+overflow_add-count c = let room = begins-room c.loop-i.invariant c.loop-i-test.true (sym c.begins_token.ensures ∙ c.if-begins_token.true) in omega arith
+
+pub loop-i-smaller : goal.loop-i-smaller
+loop-i-smaller c = let more = c.loop-i-test.true in omega arith
+
+pub loop-i-preserved : goal.loop-i-preserved
+loop-i-preserved c =
+    let filled = c.loop-i.invariant in
+    let more = c.loop-i-test.true in
+    let tested = c.begins_token.ensures in
+    ⊎_elim
+    (λ w. rw (w.1, w.2, c.is_inside-inside.ensures) (filled-begins filled more (sym tested ∙ w.0.true)))
+    (λ w. rw (w.1, w.2, c.is_inside-inside.ensures) (filled-passes filled more (sym tested ∙ w.0.left)))
+    c.if-begins_token.branch
+
+pub returns : goal.returns
+returns c = (filled-count c.loop-i.invariant c.loop-i-test.false, filled-end c.loop-i.invariant c.loop-i-test.false)

@@ -1,0 +1,77 @@
+-- `prepare` meets its contract: what the test says makes each step safe, and the steps make the list that is prepared.
+use Prim.Native.Nat.{◌≤◌}
+use mathlib.Core.Path.{refl}
+use native.Mathlib.Omega.{arith}
+use lib.ListN.{length}
+use borrow.Author.Tests.{not-true, not-false}
+use Rattle.basics.proofs.Answers.{says_yes, says_no}
+use Rattle.sheet.specs.Refusal.{window_bound}
+use Rattle.prepare.specs.Prepared.{IsPreparable}
+use Rattle.prepare.proofs.PreparedLaws.{window-room, letters-part-long, part-values, firsts-part-long, parts_prepared}
+use Rattle.prepare.proofs.prepare.Goals as goal
+
+abbrev start_of : tie.Else1 → tie.Start
+start_of c = c.before.before.before
+
+-- what the test says
+fits : (c : tie.Else1) → let a = (start_of c).args in IsPreparable (length a.letter-values.now) a.dimensions.streams a.dimensions.width a.count a.key.now (length a.prepared.now)
+fits c = says_yes (not-false c.before.is-preparable.result c.if1.false) c.before.is-preparable.ensures
+
+-- how many letters the key holds
+few : (c : tie.After-fewer) → c.fewer.result ≤ window_bound
+few c = omega (arith, c.fewer.ensures, (fits c.before.before).sizes.0)
+
+pub returns-then-not-is_preparable : goal.returns-then-not-is_preparable
+returns-then-not-is_preparable c =
+    record {
+      done = λ p. absurd (says_no (not-true c.is_preparable.result c.if-not-is_preparable.true) c.is_preparable.ensures p);
+      refused = λ p. refl;
+    }
+
+pub bounds-key-0 : goal.bounds-key-0
+bounds-key-0 c = omega (arith, (fits c).sizes.3)
+
+pub overflow_cast-key : goal.overflow_cast-key
+overflow_cast-key c = omega (arith, c.type_inv.key 0)
+
+pub overflow_add-letters_end : goal.overflow_add-letters_end
+overflow_add-letters_end c = omega (arith, few c)
+
+pub slice_bounds-fill_window-end : goal.slice_bounds-fill_window-end
+slice_bounds-fill_window-end c = let after = c in omega (arith, few after, (fits after).sizes.3)
+
+pub fill_window-requires : goal.fill_window-requires
+fill_window-requires c κs =
+    let after = c in
+    let at = after in
+    let a = (start_of at).args in
+    let sizes = (fits at).sizes in
+    let there = part-values a.key.now sizes.3 a.dimensions.width after.fewer.result after.fewer.ensures sizes.0 (length a.letter-values.now) a.dimensions.streams (fits at).letters in (
+      rw (letters-part-long a.key.now sizes.3 a.dimensions.width after.fewer.result after.fewer.ensures sizes.0) (omega (arith, window-room {n = after.fewer.result} sizes.1 (few after), sizes.4)),
+      λ p h. omega (arith, there p h, sizes.1),
+    )
+
+pub overflow_add-firsts_end : goal.overflow_add-firsts_end
+overflow_add-firsts_end c = omega (arith, (fits c).sizes.2)
+
+pub slice_bounds-lower_all-end : goal.slice_bounds-lower_all-end
+slice_bounds-lower_all-end c = let sizes = (fits c).sizes in omega (arith, sizes.2, sizes.3)
+
+pub lower_all-requires : goal.lower_all-requires
+lower_all-requires c κs =
+    let at = c in
+    let a = (start_of at).args in
+    let sizes = (fits at).sizes in
+    omega (arith, firsts-part-long a.key.now sizes.3 a.count sizes.2, c.fill_window.auto.0, sizes.2, sizes.4)
+
+pub returns : goal.returns
+returns c =
+    let after = c in
+    let at = after in
+    let a = (start_of at).args in
+    let fill = c.fill_window in
+    let lowers = c.lower_all in
+    record {
+      done = λ p. parts_prepared a.letter-values.now a.dimensions.streams a.dimensions.width a.count a.key.now a.prepared.now p after.fewer.result after.fewer.ensures fill.new.0 lowers.new.0 fill.ensures lowers.ensures;
+      refused = λ p. absurd (p (fits at));
+    }

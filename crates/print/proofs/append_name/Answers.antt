@@ -1,0 +1,9 @@
+-- `print::append_name` meets its contract: the name, and then the space.
+use Rattle.print.proofs.Append.{appends_then}
+use Rattle.print.proofs.append_name.Goals as goal
+
+pub append_byte-requires : goal.append_byte-requires
+append_byte-requires c κs = tt
+
+pub returns : goal.returns
+returns c = appends_then c.append_stored-to.ensures c.append_byte.ensures

@@ -1,0 +1,27 @@
+-- `print::named_line` meets its contract: the name and a space, the numbers, the count and the line's end.
+use Rattle.print.proofs.Append.{appends_then, appends_same, reached}
+use Rattle.print.proofs.Lines.{named-parts}
+use Rattle.print.proofs.named_line.Goals as goal
+
+pub append_bytes-name_end-requires : goal.append_bytes-name_end-requires
+append_bytes-name_end-requires c κs = tt
+
+pub append_byte-values_at-requires : goal.append_byte-values_at-requires
+append_byte-values_at-requires c κs = tt
+
+pub append_values-count_at-requires : goal.append_values-count_at-requires
+append_values-count_at-requires c κs = reached c.append_byte-values_at.ensures
+
+pub append_natural-end-requires : goal.append_natural-end-requires
+append_natural-end-requires c κs = tt
+
+pub append_byte-requires : goal.append_byte-requires
+append_byte-requires c κs = tt
+
+pub returns : goal.returns
+returns c =
+    let a = c.args in
+    appends_same
+    (appends_then (appends_then (appends_then (appends_then c.append_bytes-name_end.ensures c.append_byte-values_at.ensures) c.append_values-count_at.ensures) c.append_natural-end.ensures)
+    c.append_byte.ensures)
+    (named-parts a.name.now a.values.now a.count)

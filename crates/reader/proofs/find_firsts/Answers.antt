@@ -1,0 +1,36 @@
+-- `reader::find_firsts` meets its contract: the table is that of the nodes before the loop's place.
+use Prim.Native.Nat.{◌-◌}
+use mathlib.Core.Path.{refl, sym, ◌∙◌}
+use mathlib.Core.Logic.{⊎_elim}
+use native.Mathlib.Omega.{arith}
+use Rattle.reader.proofs.FirstNodes.{first-number, first-here, no_first_here, firsts-end}
+use Rattle.reader.proofs.find_firsts.Goals as goal
+
+pub loop-i-init : goal.loop-i-init
+loop-i-init c = (omega arith, refl)
+
+pub put_first-requires : goal.put_first-requires
+put_first-requires c κs =
+    let loop = c in
+    let start = loop in
+    let inside = c.loop-i-test.true in
+    let n = first-number start.args.kinds.now start.args.values.now loop.loop.first-nodes loop.loop.i start.requires.0 inside start.requires.2 c.if-kinds-i-eq-FIRST_NODE.true in
+    (n.0, n.1, omega (arith, inside, start.requires.1))
+
+pub loop-i-preserved : goal.loop-i-preserved
+loop-i-preserved c =
+    let loop = c in
+    let start = loop in
+    let inside = c.loop-i-test.true in (
+      omega (arith, inside),
+      loop.loop.invariant.1
+          ∙ ⊎_elim
+          (λ w. first-here start.args.kinds.now start.args.values.now loop.loop.first-nodes loop.loop.i start.requires.0 inside start.requires.2 w.0.true (w.4 ∙ w.3.ensures))
+          (λ w. no_first_here start.args.kinds.now start.args.values.now loop.loop.first-nodes loop.loop.i start.requires.0 inside w.0.left w.1)
+          c.if-kinds-i-eq-FIRST_NODE.branch,
+    )
+
+pub returns : goal.returns
+returns c =
+    let start = c in
+    sym (c.loop-i.invariant.1 ∙ firsts-end start.args.kinds.now start.args.values.now c.loop-i.first-nodes c.loop-i.i c.loop-i-test.false)

@@ -1,0 +1,94 @@
+-- `refine::refine` meets its contract: the rounds run where all lists hold as many rows, and the work tables are cleared after them;
+-- else nothing changes.
+use mathlib.Core.Path.{◌≡◌, refl, ◌∙◌}
+use mathlib.Core.Bool.{true, false}
+use mathlib.Core.List.{List}
+use Prim.Native.Nat.{ℕ}
+use borrow.Author.Tests.{not-true, not-false}
+use native.Mathlib.Omega.{arith}
+use Rattle.basics.proofs.Answers.{says_yes, says_no}
+use Rattle.basics.proofs.Clearing.{zeroed}
+use lib.ListN.{length}
+use Rattle.refine.specs.Classes.{Sizes}
+use Rattle.refine.specs.Steps.{RefineOutcome}
+use Rattle.refine.proofs.refine.Goals as goal
+
+-- a test failed, so nothing is done
+no-sizes : {letters : ℕ} {entries live finals class next heads links envelopes : List ℕ} → ¬ Sizes letters entries live finals class next heads links envelopes
+    → RefineOutcome letters entries live finals class next heads links envelopes false class next heads links envelopes
+no-sizes n = record { says = n; fits = λ z. absurd (n z); unchanged = λ z. (refl, refl, refl, refl, refl) }
+
+-- the tests passed, so all lists hold as many rows
+sizes : (c : tie.After-sizes-agree) → c.sizes-agree.result ≡ true
+    → Sizes c.before.before.before.before.before.before.before.before.before.before.before.before.args.letters c.before.before.before.before.before.before.before.before.before.before.before.before.args.entries.now c.before.before.before.before.before.before.before.before.before.before.before.before.args.live.now c.before.before.before.before.before.before.before.before.before.before.before.before.args.finals.now c.before.before.before.before.before.before.before.before.before.before.before.before.args.class.now c.before.before.before.before.before.before.before.before.before.before.before.before.args.next.now c.before.before.before.before.before.before.before.before.before.before.before.before.args.heads.now c.before.before.before.before.before.before.before.before.before.before.before.before.args.links.now c.before.before.before.before.before.before.before.before.before.before.before.before.args.envelopes.now
+sizes c e =
+    let h = says_yes e c.sizes-agree.ensures in
+    record {
+      few = omega (arith, c.before.before.before.if1.false);
+      entries_fit = says_yes (not-false c.before.before.rows_fit.result c.before.if2.false) c.before.before.rows_fit.ensures;
+      finals_fit = h.0;
+      class_fits = h.1;
+      next_fits = h.2;
+      heads_fit = h.3;
+      links_fit = h.4;
+      envelopes_fit = h.5;
+    }
+
+pub returns-then-live-gt65535 : goal.returns-then-live-gt65535
+returns-then-live-gt65535 c = no-sizes (λ z. omega (arith, z.few, c.if-live-gt65535.true))
+
+pub returns-then-not-rows_fit : goal.returns-then-not-rows_fit
+returns-then-not-rows_fit c = no-sizes (λ z. says_no (not-true c.rows_fit.result c.if-not-rows_fit.true) c.rows_fit.ensures z.entries_fit)
+
+pub returns-then-not-sizes_agree : goal.returns-then-not-sizes_agree
+returns-then-not-sizes_agree c =
+    no-sizes (λ z. says_no (not-true c.sizes_agree.result c.if-not-sizes_agree.true) c.sizes_agree.ensures (z.finals_fit, z.class_fits, z.next_fits, z.heads_fit, z.links_fit, z.envelopes_fit))
+
+pub rounds-requires : goal.rounds-requires
+rounds-requires c κs =
+    let fit = sizes c (not-false _ c.if-not-sizes_agree.false) in
+    record {
+      sizes = record {
+        few = fit.few;
+        entries_fit = fit.entries_fit;
+        finals_fit = fit.finals_fit;
+        class_fits = fit.class_fits;
+        next_fits = fit.next_fits;
+        heads_fit = fit.heads_fit;
+        links_fit = fit.links_fit;
+        envelopes_fit = c.find_envelopes.auto.1.1.1.0 ∙ fit.envelopes_fit;
+      };
+      enveloped = c.find_envelopes.ensures.fits (fit.entries_fit, fit.envelopes_fit);
+    }
+
+pub shape_of-class : goal.shape_of-class
+shape_of-class c = c.rounds.auto.1.1.1.1.1.0
+
+pub shape_of-next : goal.shape_of-next
+shape_of-next c = c.fill.auto.0 ∙ c.rounds.auto.1.1.1.1.1.1.0
+
+pub shape_of-heads : goal.shape_of-heads
+shape_of-heads c = c.fill-2.auto.0 ∙ c.rounds.auto.1.1.1.1.1.1.1.0
+
+pub shape_of-links : goal.shape_of-links
+shape_of-links c = c.fill-3.auto.0 ∙ c.rounds.auto.1.1.1.1.1.1.1.1.0
+
+pub shape_of-envelopes : goal.shape_of-envelopes
+shape_of-envelopes c = c.fill-4.auto.0 ∙ c.find_envelopes.auto.1.1.1.0
+
+pub returns : goal.returns
+returns c =
+    let fit = sizes c (not-false _ c.if-not-sizes_agree.false) in
+    let rounds = c.rounds in
+    record {
+      says = fit;
+      fits = λ z. record {
+        class_length = rounds.auto.1.1.1.1.1.0;
+        refined = rounds.ensures;
+        next_zero = zeroed c.fill.ensures rounds.auto.1.1.1.1.1.1.0;
+        heads_zero = zeroed c.fill-2.ensures rounds.auto.1.1.1.1.1.1.1.0;
+        links_zero = zeroed c.fill-3.ensures rounds.auto.1.1.1.1.1.1.1.1.0;
+        envelopes_zero = zeroed c.fill-4.ensures c.find_envelopes.auto.1.1.1.0;
+      };
+      unchanged = λ n. absurd (n fit);
+    }

@@ -1,0 +1,45 @@
+-- `refine::round` meets its contract: the tables are made ready, and the classes are split.
+use Prim.Native.Nat.{ℕ, suc, ◌≤◌}
+use mathlib.Core.Path.{◌≡◌, ◌∙◌}
+use mathlib.Core.List.{List}
+use native.Mathlib.Omega.{arith}
+use native.Mathlib.Decide.{dec_lt}
+use lib.ListN.{length, get_or, get_or-eq_default}
+use Rattle.basics.proofs.Clearing.{zeros}
+use Rattle.refine.proofs.round.Goals as goal
+
+-- a class is at most the number of rows
+class-most : (class : List ℕ) → ((s : ℕ) → get_or class s 0 ≤ suc s) → (s : ℕ) → get_or class s 0 ≤ length class
+class-most class low s = elim (dec_lt s (length class)) [ yes h ↦ omega (arith, low s) | no h ↦ let q : get_or class s 0 ≡ 0 = get_or-eq_default class 0 (omega arith) in omega arith ]
+
+pub mark_shared-requires : goal.mark_shared-requires
+mark_shared-requires c κs = (c.fill.auto.0 ∙ c.requires.next_fits, class-most c.args.class.now c.requires.low)
+
+pub split_round-requires : goal.split_round-requires
+split_round-requires c κs =
+    let pre = c.requires in
+    record {
+      few = pre.few;
+      entries_fit = pre.entries_fit;
+      envelopes_fit = pre.envelopes_fit;
+      enveloped = pre.enveloped;
+      next_fits = c.mark_shared.auto.1.0 ∙ (c.fill.auto.0 ∙ pre.next_fits);
+      heads_fit = c.fill-2.auto.0 ∙ pre.heads_fit;
+      links_fit = pre.links_fit;
+      low = pre.low;
+      sharing = c.mark_shared.ensures;
+      empty = λ k. rw c.fill-2.ensures (zeros (length c.args.heads.now) k);
+      falling = pre.falling;
+    }
+
+pub shape_of-next : goal.shape_of-next
+shape_of-next c = c.split_round.auto.1.1.1.1.0 ∙ (c.mark_shared.auto.1.0 ∙ c.fill.auto.0)
+
+pub shape_of-heads : goal.shape_of-heads
+shape_of-heads c = c.split_round.auto.1.1.1.1.1.0 ∙ c.fill-2.auto.0
+
+pub shape_of-links : goal.shape_of-links
+shape_of-links c = c.split_round.auto.1.1.1.1.1.1.0
+
+pub returns : goal.returns
+returns c = c.split_round.ensures

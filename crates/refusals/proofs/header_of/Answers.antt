@@ -1,0 +1,15 @@
+-- `refusals::header_of` meets its contract: each line is found where the one before it ends, the names line behind a release line.
+use Rattle.scan.proofs.Lines.{line-within}
+use Rattle.refusals.proofs.Lines.{names-lines, header_lines}
+use Rattle.refusals.proofs.header_of.Goals as goal
+
+pub kinds_line-kinds-requires : goal.kinds_line-kinds-requires
+kinds_line-kinds-requires c κs =
+    let p = line-within c.next_line-names.ensures (names-lines c.release_of-release.ensures.names).0 in
+    let q = line-within c.next_line-lows.ensures p.within in
+    (line-within c.next_line-highs.ensures q.within).within
+
+pub returns : goal.returns
+returns c =
+    let found = c.release_of-release.ensures in
+    header_lines c.args.text.now found c.next_line-names.ensures c.next_line-lows.ensures c.next_line-highs.ensures c.kinds_line-kinds.ensures c.both.ensures

@@ -1,0 +1,34 @@
+-- `replay_vectors::answer` is safe and ends: each array has room for eight streams.
+use native.Mathlib.Omega.{arith}
+use mathlib.Core.Path.{◌≡◌, sym}
+use lib.ListN.{length}
+use lib.Seq.{length-take-le}
+use borrow.Author.Rules.{rules}
+use Rattle.replay_vectors.proofs.answer.Goals as goal
+
+pub write_refusal-requires : goal.write_refusal-requires
+write_refusal-requires c κs = tt
+
+pub fewer-streams-requires : goal.fewer-streams-requires
+fewer-streams-requires c κs = tt
+
+pub slice_bounds-lengths-end : goal.slice_bounds-lengths-end
+slice_bounds-lengths-end c = let l : length c.args.table.sheet.lengths ≡ 8 = search rules in omega (arith, l, c.fewer-streams.ensures)
+
+pub slice_bounds-play_chunks-end-2 : goal.slice_bounds-play_chunks-end-2
+slice_bounds-play_chunks-end-2 c = sym (length-take-le _ _ (array-share-prefix-lengths c))
+
+pub slice_bounds-lows-end : goal.slice_bounds-lows-end
+slice_bounds-lows-end c = let l : length c.args.table.sheet.lows ≡ 8 = search rules in omega (arith, l, c.fewer-streams.ensures)
+
+pub slice_bounds-play_chunks-end-3 : goal.slice_bounds-play_chunks-end-3
+slice_bounds-play_chunks-end-3 c = sym (length-take-le _ _ (array-share-prefix-lows c))
+
+pub slice_bounds-highs-end : goal.slice_bounds-highs-end
+slice_bounds-highs-end c = let l : length c.args.table.sheet.highs ≡ 8 = search rules in omega (arith, l, c.fewer-streams.ensures)
+
+pub slice_bounds-play_chunks-end-4 : goal.slice_bounds-play_chunks-end-4
+slice_bounds-play_chunks-end-4 c = sym (length-take-le _ _ (array-share-prefix-highs c))
+
+pub play_chunks-requires : goal.play_chunks-requires
+play_chunks-requires c κs = c.requires

@@ -1,0 +1,34 @@
+-- `shortest::main` is safe and ends: what was read lies within the bytes.
+use mathlib.Core.Path.{sym}
+use lib.Seq.{length-take-le}
+use Rattle.shortest.proofs.main.Goals as goal
+
+pub open_sheet-descriptor-requires : goal.open_sheet-descriptor-requires
+open_sheet-descriptor-requires c κs = tt
+
+pub read_input-input-requires : goal.read_input-input-requires
+read_input-input-requires c κs = tt
+
+pub close-requires : goal.close-requires
+close-requires c κs = tt
+
+pub tell-requires : goal.tell-requires
+tell-requires c κs = tt
+
+pub buffer-start-requires : goal.buffer-start-requires
+buffer-start-requires c κs = tt
+
+pub arg-start_size-requires : goal.arg-start_size-requires
+arg-start_size-requires c κs = tt
+
+pub arg_count-given-requires : goal.arg_count-given-requires
+arg_count-given-requires c κs = tt
+
+pub slice_bounds-show_course-end : goal.slice_bounds-show_course-end
+slice_bounds-show_course-end c = sym (length-take-le _ _ (array-share-prefix-text c))
+
+pub show_course-printed-requires : goal.show_course-printed-requires
+show_course-printed-requires c κs = tt
+
+pub tell-requires-2 : goal.tell-requires-2
+tell-requires-2 c κs = tt

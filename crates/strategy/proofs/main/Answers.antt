@@ -1,0 +1,25 @@
+-- `strategy::main` is safe and ends: what was read lies within the bytes.
+use mathlib.Core.Path.{sym}
+use lib.Seq.{length-take-le}
+use Rattle.strategy.proofs.main.Goals as goal
+
+pub open_sheet-descriptor-requires : goal.open_sheet-descriptor-requires
+open_sheet-descriptor-requires c κs = tt
+
+pub read_input-input-requires : goal.read_input-input-requires
+read_input-input-requires c κs = tt
+
+pub close-requires : goal.close-requires
+close-requires c κs = tt
+
+pub tell-requires : goal.tell-requires
+tell-requires c κs = tt
+
+pub slice_bounds-show_strategy-end : goal.slice_bounds-show_strategy-end
+slice_bounds-show_strategy-end c = sym (length-take-le _ _ (array-share-prefix-text c))
+
+pub show_strategy-printed-requires : goal.show_strategy-printed-requires
+show_strategy-printed-requires c κs = tt
+
+pub tell-requires-2 : goal.tell-requires-2
+tell-requires-2 c κs = tt

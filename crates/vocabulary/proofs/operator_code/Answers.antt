@@ -1,0 +1,13 @@
+-- `vocabulary::operator_code` meets its contract: the stored tables are those of the operators, which antt computes, and a token's code stands at the place of its number.
+use mathlib.Core.Path.{refl}
+use Rattle.sheet.specs.Vocabulary.{operator_tokens, operator_of}
+use Rattle.vocabulary.specs.Word.{infix_code, word_number}
+use Rattle.vocabulary.proofs.Words.{code-found}
+use Rattle.vocabulary.proofs.operator_code.Goals as goal
+
+unfolding operator_tokens word_number
+
+unfolding operator_tokens operator_of word_number
+
+pub returns : goal.returns
+returns c = code-found c.word_number-number.ensures infix_code operator_tokens tt refl refl c.word_place-place.ensures

@@ -1,0 +1,13 @@
+-- `vocabulary::prefix_code` meets its contract: the stored tables are those of the prefixes, which antt computes, and a token's code stands at the place of its number.
+use mathlib.Core.Path.{refl}
+use Rattle.sheet.specs.Vocabulary.{prefix_tokens, prefix_of}
+use Rattle.vocabulary.specs.Word.{prefix_code, word_number}
+use Rattle.vocabulary.proofs.Words.{code-found}
+use Rattle.vocabulary.proofs.prefix_code.Goals as goal
+
+unfolding prefix_tokens word_number
+
+unfolding prefix_tokens prefix_of word_number
+
+pub returns : goal.returns
+returns c = code-found c.word_number-number.ensures prefix_code prefix_tokens tt refl refl c.word_place-place.ensures

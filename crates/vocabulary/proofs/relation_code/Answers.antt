@@ -1,0 +1,13 @@
+-- `vocabulary::relation_code` meets its contract: the stored tables are those of the relations, which antt computes, and a token's code stands at the place of its number.
+use mathlib.Core.Path.{refl}
+use Rattle.sheet.specs.Vocabulary.{relation_tokens, relation_of}
+use Rattle.vocabulary.specs.Word.{relation_number, word_number}
+use Rattle.vocabulary.proofs.Words.{code-found}
+use Rattle.vocabulary.proofs.relation_code.Goals as goal
+
+unfolding relation_tokens word_number
+
+unfolding relation_tokens relation_of word_number
+
+pub returns : goal.returns
+returns c = code-found c.word_number-number.ensures relation_number relation_tokens tt refl refl c.word_place-place.ensures

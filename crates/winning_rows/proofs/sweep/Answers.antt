@@ -1,0 +1,50 @@
+-- `winning_rows::sweep` meets its contract: the first `i` rows of the sweep are seen.
+use Prim.Native.Nat.{◌-◌}
+use mathlib.Core.Path.{refl, sym, ◌∙◌}
+use mathlib.Core.Logic.{⊎_elim}
+use native.Mathlib.Omega.{arith}
+use lib.ListN.{length}
+use Rattle.winning_rows.proofs.Sweeping.{fits-sized, turned_sized, row_inside, swept_start, swept_turned, swept_kept, swept_all}
+use Rattle.winning_rows.proofs.sweep.Goals as goal
+
+pub loop-i-init : goal.loop-i-init
+loop-i-init c =
+    let args = c.args in
+    (omega arith, omega arith, refl, refl, λ final. swept_start args.down (length args.ranks.now) args.ranks.now args.first)
+
+pub turn_row-requires : goal.turn_row-requires
+turn_row-requires c κs =
+    let loop = c.loop-i in
+    let args = c.args in
+    (fits-sized (sym loop.invariant.3) (sym loop.invariant.2) c.requires.0, omega (arith, loop.invariant.2, c.row_of-row.ensures, row_inside args.down (length args.ranks.now) loop.i c.loop-i-test.true))
+
+pub overflow_add-next : goal.overflow_add-next
+overflow_add-next c =
+    omega (arith, c.loop-i.invariant.1, c.loop-i.invariant.0, c.requires.1, c.requires.0.few_rows)
+
+pub loop-i-preserved : goal.loop-i-preserved
+loop-i-preserved c =
+    let loop = c.loop-i in
+    let args = c.args in
+    let call = c.turn_row in
+    let rows = length args.ranks.now in
+    let ranks = call.new.1.1.1.1.1.0 in
+    let turned = turned_sized args.entries.now args.choice.now args.to loop.next loop.ranks ranks call.result loop.invariant.3 loop.invariant.2 c.row_of-row.ensures call.ensures in
+    let inside = c.loop-i-test.true in (
+      omega arith,
+      ⊎_elim (λ w. omega (arith, loop.invariant.1)) (λ w. omega (arith, loop.invariant.1)) c.if-turn_row.branch,
+      call.auto.1.1.1.1.1.0 ∙ loop.invariant.2,
+      call.auto.1.1.1.1.1.1.0 ∙ loop.invariant.3,
+      λ final. ⊎_elim (λ w. swept_turned args.down rows loop.i ranks call.result w.1 inside (omega (arith, loop.invariant.2)) w.0.true (loop.invariant.4 final) (turned final))
+          (λ w. swept_kept args.down rows loop.i ranks call.result w.1 inside w.0.left (loop.invariant.4 final) (turned final)) c.if-turn_row.branch,
+    )
+
+pub shape_of-ranks : goal.shape_of-ranks
+shape_of-ranks c = c.loop-i.invariant.2
+
+pub shape_of-answers : goal.shape_of-answers
+shape_of-answers c = c.loop-i.invariant.3
+
+pub returns : goal.returns
+returns c =
+    λ final. swept_all c.args.down (length c.args.ranks.now) c.loop-i.i (omega (arith, c.loop-i.invariant.0, c.loop-i-test.false)) (c.loop-i.invariant.4 final)

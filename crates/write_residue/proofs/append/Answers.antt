@@ -1,0 +1,46 @@
+-- `write_residue::append` meets its contract: one store in each array, if there is room. The slices tell how many elements the arrays have.
+use Prim.Native.Nat.{◌+◌}
+use native.Mathlib.Omega.{arith}
+use mathlib.Core.Path.{sym, subst}
+use lib.IntN.{ℤ}
+use mir.Syntax.{w64}
+use mir.ValLaws.{to_z-of_z}
+use Rattle.nodes.specs.Postfix.{node}
+use Rattle.nodes.specs.Evaluate.{Nodes, stored}
+use Rattle.evaluate.proofs.Recursion.{HasArrays}
+use Rattle.residue.proofs.Writing.{below_refl, with_node, node-arrays, node-below, node_writes}
+use Rattle.write_residue.specs.Wrote.{Appended}
+use Rattle.write_residue.proofs.Answers.{end-room, end-full}
+use Rattle.write_residue.proofs.append.Goals as goal
+
+abbrev nodes : tie.Start → Nodes
+nodes s = stored s.args.new-kinds.now s.args.new-values.now s.args.new-starts.now
+
+-- What the slices tell of the arrays that they are made of.
+arrays : (c : tie.After-start-list2) → HasArrays (nodes c.before.before.before.before.before.before)
+arrays c = record { kinds = c.before.before.before.before.kind-list2.given.0; values = c.before.before.value-list2.given.0; starts = c.start-list2.given.0 }
+
+pub returns-then-end-ge1024 : goal.returns-then-end-ge1024
+returns-then-end-ge1024 c =
+    let s = c in
+    record {
+      next = sym (end-full s.args.end 1 (omega arith));
+      kept = below_refl s.args.end (nodes s);
+      nodes = λ h. absurd (omega arith);
+      arrays = arrays c;
+    }
+
+pub returns : goal.returns
+returns c =
+    let s = c in
+    let x = node s.args.kind s.args.value s.args.start in
+    let a = arrays c in
+    let put : Appended (nodes s) (with_node (nodes s) s.args.end x) s.args.end x (s.args.end + 1) =
+    record {
+      next = sym (end-room s.args.end 1 (omega arith));
+      kept = node-below (nodes s) a s.args.end x s.args.end (omega arith);
+      nodes = λ h. node_writes (nodes s) a s.args.end x h;
+      arrays = node-arrays (nodes s) a s.args.end x;
+    }
+    in
+    subst (λ (z : ℤ). Appended (nodes s) (with_node (nodes s) s.args.end (node s.args.kind z s.args.start)) s.args.end x (s.args.end + 1)) (sym (to_z-of_z w64 s.args.value s.ranges.value)) put

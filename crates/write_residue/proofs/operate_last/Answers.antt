@@ -1,0 +1,43 @@
+-- `write_residue::operate_last` meets its contract: the operator is applied to what is known, and behind other nodes it is written.
+use Prim.Native.Nat.{◌≤◌}
+use native.Mathlib.Omega.{arith}
+use mathlib.Core.Path.{sym, ◌∙◌, subst}
+use Rattle.nodes.specs.Evaluate.{stored}
+use Rattle.arithmetic.specs.Coded.{coded}
+use Rattle.arithmetic.proofs.Coded.{held-result}
+use Rattle.arithmetic.proofs.Machine.{held_both}
+use Rattle.nodes.specs.Bounded.{applied_by_kind}
+use Rattle.residue.specs.Residue.{tree_of, operated_residue}
+use Rattle.residue.specs.Written.{tree_size}
+use Rattle.write_residue.specs.Wrote.{Wrote}
+use Rattle.write_residue.proofs.Answers.{end_within, operate_known, operate_varying}
+use Rattle.write_residue.proofs.operate_last.Goals as goal
+
+pub both-requires : goal.both-requires
+both-requires c κs = tt
+
+pub apply_coded-value-requires : goal.apply_coded-value-requires
+apply_coded-value-requires c κs = tt
+
+pub write_known-requires : goal.write_known-requires
+write_known-requires c κs = tt
+
+pub returns-then-both : goal.returns-then-both
+returns-then-both c =
+    let s = c in
+    record {
+      wrote = λ old between r q u w. operate_known s.args.kind u w (omega (arith, s.requires, end_within s.args.left.end (tree_size (tree_of q)), w.end)) (sym c.both.ensures ∙ c.if-both.true) (held-result (record { sfits = c.apply_coded-value.type-inv }) (c.apply_coded-value.ensures ∙ held_both (λ x y. coded (applied_by_kind s.args.kind x y)) s.args.left.value s.args.right.value (record { sfits = omega (arith, c.type_inv.left) }) (record { sfits = omega (arith, c.type_inv.right) }))) c.write_known.ensures;
+    }
+
+pub varying-requires : goal.varying-requires
+varying-requires c κs = tt
+
+pub returns : goal.returns
+returns c =
+    let s = c in
+    record {
+      wrote = λ old between r q u w.
+          let b : s.args.at ≤ 1025 = omega (arith, s.requires, end_within s.args.left.end (tree_size (tree_of q)), w.end) in
+          subst (Wrote old (stored c.append.new.0 c.append.new.1.0 c.append.new.1.1.0) s.args.at (operated_residue s.args.kind r q)) (sym c.varying.ensures)
+          (operate_varying s.args.kind u w b (sym c.both.ensures ∙ c.if-both.false) c.append.ensures);
+    }

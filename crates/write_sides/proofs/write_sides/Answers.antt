@@ -1,0 +1,112 @@
+-- `write_sides::write_sides` meets its contract. The loop's invariant: the sides of the constraints passed are written before the place `at`, which is as
+-- far as their nodes go. The measure is what is left of the constraints.
+use Prim.Native.Nat.{ℕ, ◌-◌, ◌/◌, min}
+use native.Mathlib.Omega.{arith}
+use mathlib.Core.Path.{◌≡◌, refl, ◌∙◌, ap}
+use mathlib.Core.List.{List}
+use lib.ListN.{length}
+use Rattle.nodes.specs.Evaluate.{stored, view}
+use Rattle.write_sides.specs.Sides.{sides_within}
+use Rattle.write_sides.proofs.Sides.{up_to-none, up_to-more, no_room, sides-refused, sides-done}
+use Rattle.write_sides.proofs.write_sides.Goals as goal
+
+count_is : (lefts rights : List ℕ) {a b : ℕ} → a ≡ min (length lefts) (length rights) → b ≡ min a 32 → b ≡ sides_within lefts rights
+count_is lefts rights p q = q ∙ ap (λ n. min n 32) p
+
+pub fewer-requires : goal.fewer-requires
+fewer-requires c κs =
+    tt
+
+pub fewer-count-requires : goal.fewer-count-requires
+fewer-count-requires c κs =
+    tt
+
+pub loop-j-init : goal.loop-j-init
+loop-j-init c =
+    let s = c in
+    up_to-none (stored s.args.kinds.now s.args.values.now s.args.starts.now) (view s.args.window.now s.args.asked.streams s.args.firsts.now s.args.asked.whole) (length s.args.window.now / s.args.asked.streams) s.args.asked.place s.args.lefts.now s.args.rights.now (omega (arith, c.fewer-count.ensures))
+    (record { kinds = c.kind_list-2-1.given.0; values = c.value_list-2-1.given.0; starts = c.start_list-2-1.given.0 }) c.left_list-2-1.given.0 c.right_list-2-1.given.0
+
+pub offset_bounds-lefts-j : goal.offset_bounds-lefts-j
+offset_bounds-lefts-j c =
+    omega (arith, c.fewer.ensures, c.fewer-count.ensures)
+
+pub bounds-lefts-j : goal.bounds-lefts-j
+bounds-lefts-j c =
+    omega (arith, c.fewer.ensures, c.fewer-count.ensures)
+
+pub overflow_cast-roots : goal.overflow_cast-roots
+overflow_cast-roots c =
+    omega (arith, c.type_inv.lefts c.loop-j.j)
+
+pub offset_bounds-rights-j : goal.offset_bounds-rights-j
+offset_bounds-rights-j c =
+    omega (arith, c.fewer.ensures, c.fewer-count.ensures)
+
+pub bounds-rights-j : goal.bounds-rights-j
+bounds-rights-j c =
+    omega (arith, c.fewer.ensures, c.fewer-count.ensures)
+
+pub overflow_cast-roots-in-loop-j : goal.overflow_cast-roots-in-loop-j
+overflow_cast-roots-in-loop-j c =
+    omega (arith, c.type_inv.rights c.loop-j.j)
+
+pub write_constraint-ends-requires : goal.write_constraint-ends-requires
+write_constraint-ends-requires c κs =
+    c.loop-j.invariant.room
+
+pub returns-then-ends-gt1024 : goal.returns-then-ends-gt1024
+returns-then-ends-gt1024 c =
+    let s = c in
+    sides-refused (stored s.args.kinds.now s.args.values.now s.args.starts.now) (view s.args.window.now s.args.asked.streams s.args.firsts.now s.args.asked.whole) s.args.asked.place s.args.lefts.now s.args.rights.now (count_is s.args.lefts.now s.args.rights.now c.fewer.ensures c.fewer-count.ensures) c.write_constraint-ends.ensures.arrays
+    (no_room (stored s.args.kinds.now s.args.values.now s.args.starts.now) (view s.args.window.now s.args.asked.streams s.args.firsts.now s.args.asked.whole) (length s.args.window.now / s.args.asked.streams) s.args.asked.place s.args.lefts.now s.args.rights.now c.loop-j.invariant c.loop-j-test.true refl refl c.write_constraint-ends.ensures c.if-ends-gt1024.true)
+
+pub overflow_sub-new_lefts : goal.overflow_sub-new_lefts
+overflow_sub-new_lefts c =
+    omega (arith, c.write_constraint-ends.ensures.some c.if-ends-gt1024.false)
+
+pub overflow_cast-new_lefts : goal.overflow_cast-new_lefts
+overflow_cast-new_lefts c =
+    omega (arith, (c.write_constraint-ends.ensures.left c.if-ends-gt1024.false).within, c.if-ends-gt1024.false)
+
+pub offset_bounds-new_lefts-j : goal.offset_bounds-new_lefts-j
+offset_bounds-new_lefts-j c =
+    omega (arith, c.loop-j.invariant.few)
+
+pub bounds-new_lefts-j : goal.bounds-new_lefts-j
+bounds-new_lefts-j c =
+    omega (arith, c.loop-j.invariant.few)
+
+pub overflow_sub-new_rights : goal.overflow_sub-new_rights
+overflow_sub-new_rights c =
+    omega (arith, c.write_constraint-ends.ensures.some c.if-ends-gt1024.false, (c.write_constraint-ends.ensures.left c.if-ends-gt1024.false).within)
+
+pub overflow_cast-new_rights : goal.overflow_cast-new_rights
+overflow_cast-new_rights c =
+    omega (arith, c.if-ends-gt1024.false)
+
+pub offset_bounds-new_rights-j : goal.offset_bounds-new_rights-j
+offset_bounds-new_rights-j c =
+    omega (arith, c.loop-j.invariant.few)
+
+pub bounds-new_rights-j : goal.bounds-new_rights-j
+bounds-new_rights-j c =
+    omega (arith, c.loop-j.invariant.few)
+
+pub overflow_add-j : goal.overflow_add-j
+overflow_add-j c =
+    omega (arith, c.loop-j.invariant.few)
+
+pub loop-j-smaller : goal.loop-j-smaller
+loop-j-smaller c =
+    omega arith
+
+pub loop-j-preserved : goal.loop-j-preserved
+loop-j-preserved c =
+    let s = c in
+    up_to-more (stored s.args.kinds.now s.args.values.now s.args.starts.now) (view s.args.window.now s.args.asked.streams s.args.firsts.now s.args.asked.whole) (length s.args.window.now / s.args.asked.streams) s.args.asked.place s.args.lefts.now s.args.rights.now c.loop-j.invariant c.loop-j-test.true refl refl c.write_constraint-ends.ensures c.if-ends-gt1024.false
+
+pub returns : goal.returns
+returns c =
+    let s = c in
+    sides-done (stored s.args.kinds.now s.args.values.now s.args.starts.now) (view s.args.window.now s.args.asked.streams s.args.firsts.now s.args.asked.whole) s.args.asked.place s.args.lefts.now s.args.rights.now (count_is s.args.lefts.now s.args.rights.now c.fewer.ensures c.fewer-count.ensures) c.loop-j-test.false c.loop-j.invariant
