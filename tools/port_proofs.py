@@ -26,7 +26,7 @@ def items(text):
     """The top items of a file: (comment and blank lines before, the lines of the item)."""
     out, before, item = [], [], []
     for line in text.split("\n"):
-        if line and not line[0].isspace() and not (item and line[0] in ")}]"):
+        if line and not line[0].isspace() and not (item and (line[0] in ")}]" or line.startswith("unfolding "))):
             if item and not line.startswith("--"):
                 # a second clause or an equation of the same item begins with its name; each is an item, joined later
                 out.append((before, item))
@@ -60,6 +60,11 @@ def sub_tokens(text, table):
     return re.sub(rf"(?<![^\s(){{}};,@«»\[\]\\])({NAME})", lambda m: table.get(m[1], m[1]), text)
 
 
+def sub_tokens_whole(text, table):
+    """Replaces a token and keeps its projections."""
+    return re.sub(rf"(?<![^\s(){{}};,@«»\[\]\\])({NAME})", lambda m: (table[m[1]] if " " not in table[m[1]] else "(" + table[m[1]] + ")") if m[1] in table else m[1], text)
+
+
 def args_of(text):
     """The arguments of an application, split at the top level."""
     out, depth, cur = [], 0, ""
@@ -77,6 +82,23 @@ def args_of(text):
     if cur:
         out.append(cur)
     return out
+
+
+WORDS = {}
+
+
+def words_of(crate):
+    """The names of the sources of this repository that have an underscore."""
+    top = os.path.dirname(crate)
+    if top not in WORDS:
+        found = set()
+        for folder, dirs, fs in os.walk(top):
+            dirs[:] = [d for d in dirs if d not in ("out", "proofs", "specs")]
+            for f in fs:
+                if f.endswith(".rt"):
+                    found |= set(re.findall(r"\b[a-z][a-z0-9]*(?:_[a-z0-9]+)+\b", open(os.path.join(folder, f)).read()))
+        WORDS[top] = found
+    return WORDS[top]
 
 
 def convert(names, crate, f, keep, told):
@@ -154,32 +176,68 @@ def convert(names, crate, f, keep, told):
         pairs = list(zip(given[len(given) - n_goals:], needs))
     heads = [g for g in given if g in by_name and re.search(r'tie\.(invariant|decreases)-', '\n'.join(by_name[g][1]))]
     inv_names = [h for h in heads]
+    source = words_of(crate)
     # steps: old label to new
     step, typed = {}, {}
     for p in lts["places"]:
         o, n = p[2]
         if o:
             step.setdefault(alike(o), n)
+    made_steps = set(step.values())
     known = {}
     for row in lts["typed"]:
         for var, o in row:
             known.setdefault(alike(o), var)
 
-    def paths(t):
+    callee, parent, renamed, at = {}, {}, {}, {}
+    for p, n in zip(lts["places"], lts["places_by_name"]):
+        if p[3]:
+            callee.setdefault(alike(p[2][0]), lts["params"].get(p[3]))
+        parent[p[0]] = p[1]
+        renamed.setdefault(alike(p[0]), n)
+        at.setdefault(alike(p[0]), p[0])
+
+    def up(place, count):
+        for _ in range(count):
+            place = parent.get(place) if place else None
+        return place
+
+    def paths(t, goal=None, place=None):
+        # the types of places
+        t = re.sub(rf"tie\.((?!Need-|invariant-|decreases-|close|spec)[A-Z]{NAME})((?:\s+(?:invariant|decreases)-{NAME})*)", lambda m: "goal." + renamed[alike(m[1])] if alike(m[1]) in renamed else m[0], t)
+        t = re.sub(r"\(not-(?:false|true) _ (c(?:\.[^\s(){}.;,]+)+)\)", r"\1", t)
+        t = re.sub(r"(?<![\w-])not-(?:false|true) _ (c(?:\.[^\s(){}.;,]+)+)", r"\1", t)
+        t = re.sub(r"(?m)^(\S+ c) κs(?=\s)", r"\1", t)
+
+        # what a call left, by position
+        def left(m):
+            ps = callee.get(alike(m[1]))
+            k = m[2].count(".1")
+            return f".{m[1]}.new.{ps[k]}" if ps and k < len(ps) else m[0]
+
+        t = re.sub(rf"\.({NAME})\.new((?:\.1)*\.[01])(?![\w])", lambda m: left(m), t)
+
         t = re.sub(r"(\.before)+(?![\w-])", "", t)
+
         # a projection of a step: c.STEP or x.STEP
         def one(m):
             seg = m[1]
             a = alike(seg)
             if a in known and re.match(r"\.given", t[m.end():]):
                 return "." + "type_inv." + known[a] + "\0"
-            return "." + step.get(a, seg) if a in step else m[0]
+            if a in step:
+                if re.search(r"-\d+$", step[a]) and t[: m.start()][-2:].strip("( ,[") != "c":
+                    return m[0]
+                return "." + step[a]
+            if "-" in seg and seg.replace("-", "_") in source and seg not in made_steps:
+                return "." + seg.replace("-", "_")
+            return m[0]
 
-        t = re.sub(rf"(?<=\bc)\.({NAME})", one, t)
+        t = re.sub(rf"(?<=[\w)])\.({NAME})", one, t)
         t = re.sub(r"\0\.given", "", t).replace("\0", "")
         return t.replace(".came", ".branch").replace(".taken", ".true")
 
-    inv_out, used_in_inv = [], set()
+    inv_out, used_in_inv, equations = [], set(), {}
     k = 0
     loop_of = {}
     for (lo, ln), vs in [((l[0][0], l[0][1]), l[1]) for l in loops]:
@@ -205,6 +263,7 @@ def convert(names, crate, f, keep, told):
             inv_out.append(("-- ? " + t, kind, ln))
             continue
         params, body = eq[1].split(), eq[2].rstrip()
+        equations[h] = (params, body)
         ini, cur = params[: len(vs)], params[len(vs):]
         table = {}
         for v, p, c in zip(vs, ini, ch):
@@ -239,11 +298,81 @@ def convert(names, crate, f, keep, told):
             dropped += 1
             continue
         for n in goals:
+            if n.startswith("shape_of-"):
+                continue
             if keep is not None and n not in keep and "*" not in keep:
                 continue
             b = re.sub(rf"(?m)^{re.escape(a)}(?![\w'-])", lambda _: n, body)
+            b = re.sub(r"(?m)^(\S+ c) κs(?=\s)", r"\1", b)
             com = "\n".join(c for c in g[2] if c.strip())
-            ans_out.append((com + "\n" if com else "") + f"pub {n} : goal.{n}\n" + paths(b).rstrip())
+            ans_out.append((com + "\n" if com else "") + f"pub {n} : goal.{n}\n\0M{n}\0" + b)
+    # lemmas over places become parts of the answers that use them
+    macros = {}
+    for g in list(groups):
+        t = "\n".join(g[1]).rstrip()
+        m = re.match(rf"(?:abbrev |pub |private )*({NAME}) : (?:\(c : (tie\.[A-Z]{NAME}(?: (?:invariant|decreases)-{NAME})*)\)|(tie\.[A-Z]{NAME}(?: (?:invariant|decreases)-{NAME})*))(?: →)? ?((?:.|\n)*?)\n((?:unfolding[^\n]*\n)?)({NAME}) c((?: [^\s=]+)*) =((?:.|\n)*)$", t)
+        if not m or m[1] != m[6] or m[5] or len(re.findall(rf"(?m)^{re.escape(m[1])} ", t)) != 1 + bool(re.match(rf"{re.escape(m[1])} ", t)) or "\n  where" in t or "\n    where" in t:
+            if re.search(r"tie\.[A-Z](?!eed-)", t):
+                told(f, f"lemma over a place, by hand: {g[0]}")
+            continue
+        groups.remove(g)
+        macros[m[1]] = (m[4].strip().lstrip('→').strip(), m[7].split(), m[8].strip("\n"), [c for c in g[2] if c.strip()])
+
+    def with_macros(text, n):
+        """The answer with the lemmas that it uses written before it."""
+        if not macros:
+            return text
+        used, queue = [], [text]
+        aliases = [k for k, v in macros.items() if re.match(r"tie\.[A-Z]", v[0])]
+
+        def apply(t):
+            vs = re.findall(r"let (\w+)(?: : [^=]*)? = c(?:\.before)* in", t) + re.findall(r"let (\w+) = c(?:\.before)* in", t)
+            arg = r"(?:c(?:\.before)*(?![\w.'-])|\(c(?:\.before)*\)" + "".join(rf"|{v}(?![\w.'-])" for v in dict.fromkeys(vs)) + ")"
+            for a in aliases:
+                t = re.sub(rf"\({re.escape(a)} {arg}\)", "c", t)
+                t = re.sub(rf"(?<![\w'-]){re.escape(a)} {arg}", "c", t)
+            for k in macros:
+                if k not in aliases:
+                    t = re.sub(rf"(?<![\w'.-]){re.escape(k)} {arg}", k, t)
+            return t
+
+        def visit(k):
+            if k in used or k in aliases:
+                return
+            for j in macros:
+                if j != k and re.search(rf"(?<![\w'.-]){re.escape(j)}(?![\w'-])", macros[k][0] + " " + macros[k][2]):
+                    visit(j)
+            used.append(k)
+
+        for k in macros:
+            if re.search(rf"(?<![\w'.-]){re.escape(k)}(?![\w'-])", text):
+                visit(k)
+        text = apply(text)
+        lets = ""
+        for k in used:
+            ty, ps, body, com = macros[k]
+            m = re.match(r"(invariant-\S+) (.*)$", ty, re.S)
+            if m and m[1] in equations:
+                names_, eq = equations[m[1]]
+                given_ = args_of(m[2])
+                if len(given_) == len(names_):
+                    ty = sub_tokens_whole(eq, dict(zip(names_, given_)))
+            body = apply(body)
+            ty = apply(ty)
+            if "\n" in body.strip():
+                body = "(" + body.strip() + ")"
+            lam = f"λ {' '.join(ps)}. " if ps else ""
+            lets += f"    let {k} : {ty} = {lam}{body.strip()} in\n"
+        if not lets:
+            return text
+        m = re.match(rf"({re.escape(n)} c =)", text) or re.search(rf"(?m)^({re.escape(n)} c =)", text)
+        if not m:
+            told(f, f"{n}: lemmas {used} are to be written in")
+            return text
+        rest = text[m.end():]
+        return text[: m.end()] + "\n" + lets + ("    " + rest.strip(" ") if not rest.startswith("\n") else rest[1:])
+
+    ans_out = [re.sub(r"\0M(.*?)\0(.*)$", lambda m: paths(with_macros(m[2], m[1]), m[1]).strip("\n"), a, flags=re.S) for a in ans_out]
     # what is left: lemmas of the file
     lemmas = []
     for g in groups:
@@ -252,7 +381,7 @@ def convert(names, crate, f, keep, told):
         if re.search(r":\s*tie\.Need-", t):
             told(f, f"goal {g[0]} is given to nothing: {t[:300]!r}" if not re.search(r"= search rules\s*$", t) else f"goal {g[0]} is gone")
             continue
-        lemmas.append((g[0], (com + "\n" if com else "") + t))
+        lemmas.append((g[0], (com + "\n" if com else "") + paths(t)))
     # names of this file that the invariants use go with them
     inv_text = "\n".join(i[0] for i in inv_out)
     in_inv, more = [], True

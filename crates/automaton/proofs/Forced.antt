@@ -73,7 +73,7 @@ module _ {G : Game} {safe ranks : List ℕ} (R : IsRanking G safe ranks) where
 
     chosen : {i : ℕ} → Position i → List ℕ → ℕ
     chosen p [] = choose_at p
-    chosen p (a ∷ r) = chosen (move p a) r
+    chosen {i = i} p (a ∷ r) = chosen {i = G.entry i a} (move p a) r
 
     chosen-choice : (r : List ℕ) {i : ℕ} (p : Position i) → chosen p r < G.choices
     unfolding chosen

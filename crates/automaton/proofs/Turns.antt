@@ -85,7 +85,7 @@ module _ {G : Game} {to : Bool} {old : List ℕ} {first : ℕ} where
   turns-none none e = refl
   turns-none (turn t h x) e = absurd (omega (arith, turns_rise t))
 
-  pub turns_then : {mid new : List ℕ} {next last : ℕ} → RankTurns G to old first mid next → RankTurns G to mid next new last → RankTurns G to old first new last
+  pub turns_then : {mid : List ℕ} {next : ℕ} {new : List ℕ} {last : ℕ} → RankTurns G to old first mid next → RankTurns G to mid next new last → RankTurns G to old first new last
   turns_then t none = t
   turns_then t (turn u h x) = turn (turns_then t u) h x
 

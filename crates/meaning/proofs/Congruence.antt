@@ -58,22 +58,22 @@ module _ (w v : Streams) (stored : List Value) (marks : List Bool) (p b d : ℕ)
   window_permits-permits n u (always s x y ∷ l) h f m =
       let c = h (always s x y) (Memᴰ.head refl) in
       ap₂ ◌&&◌ (ap₂ (holds s) (left-value n x y l f c.back_left c.reach_left) (right-value n x y l f c.back_right c.reach_right))
-      (window_permits-permits _ u l (λ c k. h c (Memᴰ.tail k)) (later-firsts n x y l f) m)
+      (window_permits-permits (n + length (firsts x) + length (firsts y)) u l (λ c k. h c (Memᴰ.tail k)) (later-firsts n x y l f) m)
   window_permits-permits n u (until x y ∷ l) h f m =
       let c = h (until x y) (Memᴰ.head refl) in
       ap₂ ◌&&◌
       (ap₂ ◌||◌ (ap truth (left-value n x y l f c.back_left c.reach_left)) (ap₂ ◌||◌ m.0 (ap truth (right-value n x y l f c.back_right c.reach_right))))
-      (window_permits-permits _ (suc u) l (λ c k. h c (Memᴰ.tail k)) (later-firsts n x y l f) m.1)
+      (window_permits-permits (n + length (firsts x) + length (firsts y)) (suc u) l (λ c k. h c (Memᴰ.tail k)) (later-firsts n x y l f) m.1)
 
   window_marks-done : (n u : ℕ) (l : List Constraint) → ((c : Constraint) → Memᴰ c l → SidesWithin b d c) → FirstsFrom n (all_firsts l) → MarksFrom u (all_untils l)
       → window_marks v stored marks b n u l ≡ map (λ c. done w c (suc (p + b))) (all_untils l)
   unfolding window_marks done
   window_marks-done n u [] h f m = refl
-  window_marks-done n u (always s x y ∷ l) h f m = window_marks-done _ u l (λ c k. h c (Memᴰ.tail k)) (later-firsts n x y l f) m
+  window_marks-done n u (always s x y ∷ l) h f m = window_marks-done (n + length (firsts x) + length (firsts y)) u l (λ c k. h c (Memᴰ.tail k)) (later-firsts n x y l f) m
   window_marks-done n u (until x y ∷ l) h f m =
       let c = h (until x y) (Memᴰ.head refl) in
       ap₂ ◌∷◌ (ap₂ ◌||◌ m.0 (ap truth (right-value n x y l f c.back_right c.reach_right)))
-      (window_marks-done _ (suc u) l (λ c k. h c (Memᴰ.tail k)) (later-firsts n x y l f) m.1)
+      (window_marks-done (n + length (firsts x) + length (firsts y)) (suc u) l (λ c k. h c (Memᴰ.tail k)) (later-firsts n x y l f) m.1)
 
 module _ (cs : List Constraint) where
   -- A record long enough to be cut, with one more letter.

@@ -19,6 +19,7 @@ use Rattle.meaning.specs.Situation.{some_before, every_before, all}
 pub all-at : {X : Type 0} (p : X → Bool) (xs : List X) → T (all p xs) → (x : X) → Memᴰ x xs → T (p x)
 all-at p (y ∷ xs) t x (Memᴰ.head e) = subst (λ z. T (p z)) (sym e) (and_left (p y) (all p xs) t)
 all-at p (y ∷ xs) t x (Memᴰ.tail m) = all-at p xs (and_right (p y) (all p xs) t) x m
+all-at {X = X} p [] t x x4 = elim x4 [ ]
 
 pub all_of : {X : Type 0} (p : X → Bool) (xs : List X) → ((x : X) → Memᴰ x xs → T (p x)) → T (all p xs)
 all_of p [] h = tt
@@ -57,6 +58,7 @@ map_cong f g (x ∷ xs) h = ap₂ ◌∷◌ (h x (Memᴰ.head refl)) (map_cong f
 pub largest_over-bound : {X : Type 0} (f : X → ℕ) (xs : List X) (x : X) → Memᴰ x xs → f x ≤ largest_over f xs
 largest_over-bound f (y ∷ xs) x (Memᴰ.head p) = rw p (omega arith)
 largest_over-bound f (y ∷ xs) x (Memᴰ.tail m) = let h = largest_over-bound f xs x m in omega arith
+largest_over-bound {X = X} f [] x x3 = elim x3 [ ]
 
 pub largest_over-least : {X : Type 0} (f : X → ℕ) (xs : List X) (n : ℕ) → ((x : X) → Memᴰ x xs → f x ≤ n) → largest_over f xs ≤ n
 largest_over-least f [] n h = omega arith
@@ -68,6 +70,7 @@ largest_over-least f (x ∷ xs) n h =
 pub join_over-member : {X Y : Type 0} (f : X → List Y) (xs : List X) (x : X) (y : Y) → Memᴰ x xs → Memᴰ y (f x) → Memᴰ y (join_over f xs)
 join_over-member f (z ∷ xs) x y (Memᴰ.head p) m = Memᴰ.append_left (join_over f xs) (subst (λ u. Memᴰ y (f u)) p m)
 join_over-member f (z ∷ xs) x y (Memᴰ.tail k) m = Memᴰ.append_right (f z) (join_over-member f xs x y k m)
+join_over-member {X = X} {Y = Y} f [] x y x4 m = elim x4 [ ]
 
 pub join_over_origin : {X Y : Type 0} (f : X → List Y) (xs : List X) (y : Y) → Memᴰ y (join_over f xs) → (x : X) × Memᴰ x xs × Memᴰ y (f x)
 join_over_origin f [] y m = absurd (Memᴰ.not-nil m)

@@ -106,6 +106,7 @@ letter_number-rises (more {s} {ss} {v} {l} w h) (more {v = u} {l = m} w' h') (th
     let d = letter_number-rises h h' b in
     let c = ap (λ z. nat_abs (z -ℤ s.range.low) * letter_count ss) e in
     omega arith
+letter_number-rises {m = m} none _ x8 = elim x8 [ ]
 
 -- Two streams, 0 to 2 and 0 to 1: the letters 0 0, 0 1, 1 0, 1 1, 2 0 and 2 1, in this order.
 abbrev two_streams : List Stream

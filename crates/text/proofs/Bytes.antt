@@ -70,6 +70,7 @@ tokens-begin (b ∷ bs) e =
 
 extend_first-each : (b : ℕ) (ts : List Token) → T (is_inside b) → EachToken ts → BeginsWithRun ts → EachToken (extend_first b ts)
 extend_first-each b (t ∷ ts) h each (begins r) = (run h r, each.1)
+extend_first-each b [] h each x3 = elim x3 [ ]
 
 add_to_tokens-each : {c : ByteClass} (g : Bool) (b : ℕ) (ts : List Token) → HasClass b c → EachToken ts → (g ≡ true → BeginsWithRun ts) → EachToken (add_to_tokens c g b ts)
 add_to_tokens-each g b ts (a_bracket h) each first = (bracket_token h, each)
@@ -85,6 +86,7 @@ tokens-each (b ∷ bs) = add_to_tokens-each (starts_inside bs) b (tokens bs) (cl
 each_member : {t : Token} (ts : List Token) → EachToken ts → Memᴰ t ts → IsToken t
 each_member (t ∷ ts) each (Memᴰ.head e) = rw e each.0
 each_member (t ∷ ts) each (Memᴰ.tail m) = each_member ts each.1 m
+each_member {t = t} [] each x'' = elim x'' [ ]
 
 -- Every token of a text is a bracket or has only bytes inside, and none is empty.
 pub tokens-member : (l : List ℕ) {t : Token} → Memᴰ t (tokens l) → IsToken t

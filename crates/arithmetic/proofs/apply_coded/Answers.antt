@@ -16,7 +16,7 @@ returns-then-kind-gt-FLOORED_REMAINDER_NODE c =
     held-result (record { sfits = c.no_value_coded-then-kind-gt-FLOORED_REMAINDER_NODE.type-inv }) (c.no_value_coded-then-kind-gt-FLOORED_REMAINDER_NODE.ensures ∙ ap coded (by_kind-high s.args.kind s.args.a s.args.b c.if-kind-lt-ADD_NODE.false c.if-kind-gt-FLOORED_REMAINDER_NODE.true))
 
 pub applied-requires : goal.applied-requires
-applied-requires c κs =
+applied-requires c =
     let s = c in
     let left = held_test s.args.a s.ranges.a c.in_bound.ensures c.if-in_bound.true in
     let right = held_test s.args.b s.ranges.b c.in_bound-then-in_bound.ensures c.if-in_bound-2.true in

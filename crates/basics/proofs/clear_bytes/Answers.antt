@@ -9,8 +9,5 @@ loop-i-init c = clearing_start c.args.list.now c.args.from
 pub loop-i-preserved : goal.loop-i-preserved
 loop-i-preserved c = clearing_next c.loop-i-test.true c.loop-i.invariant
 
-pub shape_of-list : goal.shape_of-list
-shape_of-list c = c.loop-i.invariant.same
-
 pub returns : goal.returns
 returns c = clearing_end c.loop-i-test.false c.loop-i.invariant

@@ -27,9 +27,6 @@ loop-i-preserved c =
       loop.invariant.3,
     )
 
-pub shape_of-list : goal.shape_of-list
-shape_of-list c = c.loop-i.invariant.2
-
 pub returns : goal.returns
 returns c =
     let loop = c.loop-i in

@@ -13,9 +13,9 @@ loop-at-preserved c =
     let loop = c in
     let start = c in
     let inside = c.loop-at-test.true in (
-      omega (arith, loop.loop.invariant.0),
+      omega (arith, loop.loop-at.invariant.0),
       omega (arith, inside),
-      leads-more loop.loop.at loop.loop.invariant.2 (start.requires.1.each loop.loop.at loop.loop.invariant.0 inside) c.after_prefix-summary.ensures,
+      leads-more loop.loop-at.at loop.loop-at.invariant.2 (start.requires.1.each loop.loop-at.at loop.loop-at.invariant.0 inside) c.after_prefix-summary.ensures,
     )
 
 pub returns : goal.returns

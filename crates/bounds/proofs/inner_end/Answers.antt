@@ -1,6 +1,5 @@
 -- `bounds::inner_end` meets its contract: before each turn the nodes from the loop's place on are prefixes.
 use mathlib.Core.Path.{sym, ◌∙◌}
-use borrow.Author.Tests.{not-false}
 use Rattle.bounds.proofs.Prefixes.{prefixes_none, prefixes_more}
 use Rattle.bounds.proofs.inner_end.Goals as goal
 
@@ -13,7 +12,7 @@ returns-then-not-is_prefix c = c.loop-at.invariant
 pub loop-at-preserved : goal.loop-at-preserved
 loop-at-preserved c =
     let loop = c in
-    prefixes_more loop.loop.invariant c.loop-at-test.true (sym c.is_prefix.ensures ∙ not-false _ c.if-not-is_prefix.false)
+    prefixes_more loop.loop-at.invariant c.loop-at-test.true (sym c.is_prefix.ensures ∙ c.if-not-is_prefix.false)
 
 pub returns : goal.returns
 returns c = c.loop-at.invariant

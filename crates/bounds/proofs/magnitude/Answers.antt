@@ -7,10 +7,10 @@ use Rattle.bounds.proofs.Ranges.{usable-parts, in_bound-fits, most-is}
 use Rattle.bounds.proofs.magnitude.Goals as goal
 
 pub absolute-requires : goal.absolute-requires
-absolute-requires c κs = let a = c.args.a in let p = usable-parts a c.requires in ap in_bound (to_z-of_z w64 a.low (in_bound-fits a.low p.1)) ∙ p.1
+absolute-requires c = let a = c.args.a in let p = usable-parts a c.requires in ap in_bound (to_z-of_z w64 a.low (in_bound-fits a.low p.1)) ∙ p.1
 
 pub absolute-requires-2 : goal.absolute-requires-2
-absolute-requires-2 c κs = let a = c.args.a in let p = usable-parts a c.requires in ap in_bound (to_z-of_z w64 a.high (in_bound-fits a.high p.2)) ∙ p.2
+absolute-requires-2 c = let a = c.args.a in let p = usable-parts a c.requires in ap in_bound (to_z-of_z w64 a.high (in_bound-fits a.high p.2)) ∙ p.2
 
 pub returns : goal.returns
 returns c =

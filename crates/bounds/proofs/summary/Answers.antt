@@ -4,7 +4,7 @@ use Rattle.nodes.specs.Evaluate.{Nodes, stored}
 use Rattle.bounds.proofs.Recursion.{no_kind, no_stored, no_start, root_summary}
 use Rattle.bounds.proofs.summary.Goals as goal
 
-abbrev nodes : tie.Start → Nodes
+abbrev nodes : goal.Start → Nodes
 nodes s = stored s.args.kinds.now s.args.values.now s.args.starts.now
 
 pub returns-then-kinds-root : goal.returns-then-kinds-root

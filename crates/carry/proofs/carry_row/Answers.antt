@@ -1,6 +1,6 @@
 -- `carry::carry_row` meets its contract: in the row at the head, before each letter, the turn of the queue holds (`RowTurn`).
 use Prim.Native.Nat.{ℕ, ◌+◌, ◌*◌, ◌≤◌, ◌<◌, ◌-◌}
-use mathlib.Core.Path.{refl, ◌∙◌}
+use mathlib.Core.Path.{refl}
 use native.Mathlib.Omega.{arith}
 use lib.ListN.{length}
 use Rattle.basics.specs.Lists.{at}
@@ -13,37 +13,37 @@ use Rattle.carry.proofs.Rows.{row-turn-start, row_turn_place, row_turn_next, row
 use Rattle.carry.proofs.carry_row.Goals as goal
 
 -- the row at the head has a state
-held : (start : tie.Start invariant-loop decreases-loop) → HasState (length start.args.states.now) (at start.args.states.now) (at start.args.queue.now start.args.head)
+held : (start : goal.Start) → HasState (length start.args.states.now) (at start.args.states.now) (at start.args.queue.now start.args.head)
 held start = start.requires.1.1.held start.args.head start.requires.1.0.2
 
 -- the queue has room for all rows, of which there are few
-small : (start : tie.Start invariant-loop decreases-loop) → (start.args.head < length start.args.queue.now) × (length start.args.states.now ≤ most_rows)
+small : (start : goal.Start) → (start.args.head < length start.args.queue.now) × (length start.args.states.now ≤ most_rows)
 small start = (omega (arith, queue_most start.requires.1.1, start.requires.0.few_rows, start.requires.1.0.1, start.requires.1.0.2), start.requires.0.few_rows)
 
 -- the row's state is a row of the new table
-state-inside : (start : tie.Start invariant-loop decreases-loop) → at start.args.states.now (at start.args.queue.now start.args.head) < start.requires.1.0.0.0
+state-inside : (start : goal.Start) → at start.args.states.now (at start.args.queue.now start.args.head) < start.requires.1.0.0.0
 state-inside start =
     let new = start.requires.1.0.0.1 in
     state-row start.requires.1.1 (whole-entries new) new.some_row (at start.args.queue.now start.args.head) (held start)
 
 -- where the rows' entries stand
-row-part : (start : tie.Start invariant-loop decreases-loop) → at start.args.queue.now start.args.head * start.args.letters + start.args.letters ≤ length start.args.entries.now
+row-part : (start : goal.Start) → at start.args.queue.now start.args.head * start.args.letters + start.args.letters ≤ length start.args.entries.now
 row-part start =
     row_fits (at start.args.queue.now start.args.head) (length start.args.states.now) start.args.letters (length start.args.entries.now) (held start).is_row
     (omega (arith, start.requires.0.whole_rows))
 
-new-part : (start : tie.Start invariant-loop decreases-loop)
-    → at start.args.states.now (at start.args.queue.now start.args.head) * start.args.letters + start.args.letters ≤ length start.args.new-entries.now
+new-part : (start : goal.Start)
+    → at start.args.states.now (at start.args.queue.now start.args.head) * start.args.letters + start.args.letters ≤ length start.args.new_entries.now
 new-part start =
-    row_fits (at start.args.states.now (at start.args.queue.now start.args.head)) start.requires.1.0.0.0 start.args.letters (length start.args.new-entries.now)
+    row_fits (at start.args.states.now (at start.args.queue.now start.args.head)) start.requires.1.0.0.0 start.args.letters (length start.args.new_entries.now)
     (state-inside start) (omega (arith, start.requires.1.0.0.1.whole_rows))
 
-place : (start : tie.Start invariant-loop decreases-loop) (letter : ℕ) → letter < start.args.letters
+place : (start : goal.Start) (letter : ℕ) → letter < start.args.letters
     → at start.args.queue.now start.args.head * start.args.letters + letter < length start.args.entries.now
 place start letter h = place_inside start.requires.0 (at start.args.queue.now start.args.head) letter (held start).is_row h
 
-new_place : (start : tie.Start invariant-loop decreases-loop) (letter : ℕ) → letter < start.args.letters
-    → at start.args.states.now (at start.args.queue.now start.args.head) * start.args.letters + letter < length start.args.new-entries.now
+new_place : (start : goal.Start) (letter : ℕ) → letter < start.args.letters
+    → at start.args.states.now (at start.args.queue.now start.args.head) * start.args.letters + letter < length start.args.new_entries.now
 new_place start letter h = place_inside start.requires.1.0.0.1 (at start.args.states.now (at start.args.queue.now start.args.head)) letter (state-inside start) h
 
 pub offset_bounds-queue-head : goal.offset_bounds-queue-head
@@ -92,13 +92,7 @@ pub bounds-new_entries-new_start : goal.bounds-new_entries-new_start
 bounds-new_entries-new_start c = new_place c c.loop-letter.letter c.loop-letter-test.true
 
 pub carry_entry-met-requires : goal.carry_entry-met-requires
-carry_entry-met-requires c κs = row_turn_place c.requires.0 c.requires.1.0.1 c.loop-letter.invariant c.loop-letter-test.true
-
-pub shape_of-states-then-met-eq0 : goal.shape_of-states-then-met-eq0
-shape_of-states-then-met-eq0 c = c.carry_entry-met.auto.1.1.0 ∙ c.loop-letter.invariant.same_states
-
-pub shape_of-queue-then-met-eq0 : goal.shape_of-queue-then-met-eq0
-shape_of-queue-then-met-eq0 c = c.carry_entry-met.auto.1.1.1.0 ∙ c.loop-letter.invariant.same_queue
+carry_entry-met-requires c = row_turn_place c.requires.0 c.requires.1.0.1 c.loop-letter.invariant c.loop-letter-test.true
 
 pub returns-then-met-eq0 : goal.returns-then-met-eq0
 returns-then-met-eq0 c = stops refl (row_turn_lacks c.requires.0 c.requires.1.0.1 c.loop-letter.invariant c.loop-letter-test.true c.carry_entry-met.ensures c.if-met-eq0.true)
@@ -111,12 +105,6 @@ loop-letter-smaller c = omega (arith, c.loop-letter-test.true)
 
 pub loop-letter-preserved : goal.loop-letter-preserved
 loop-letter-preserved c = row_turn_next c.requires.0 c.requires.1.0.1 c.loop-letter.invariant c.loop-letter-test.true c.carry_entry-met.ensures c.if-met-eq0.false
-
-pub shape_of-states : goal.shape_of-states
-shape_of-states c = c.loop-letter.invariant.same_states
-
-pub shape_of-queue : goal.shape_of-queue
-shape_of-queue c = c.loop-letter.invariant.same_queue
 
 pub returns : goal.returns
 returns c = row-turn-end c.loop-letter-test.false c.loop-letter.invariant

@@ -9,7 +9,7 @@ use Rattle.carry.proofs.Rows.{rows_turn_start, rows_turn_runs, rows_turn_most, r
 use Rattle.carry.proofs.carry_rows.Goals as goal
 
 -- the table is whole for as many rows as there are states
-whole : (start : tie.Start invariant-loop decreases-loop) → WholeTable start.args.letters (length (set start.args.states.now 0 0)) start.args.entries.now
+whole : (start : goal.Start) → WholeTable start.args.letters (length (set start.args.states.now 0 0)) start.args.entries.now
 whole start = rw length-set start.requires.0
 
 pub bounds-states-0 : goal.bounds-states-0
@@ -26,7 +26,7 @@ pub slice_bounds-carry_row-end : goal.slice_bounds-carry_row-end
 slice_bounds-carry_row-end c = sym c.loop-head.invariant.1
 
 pub carry_row-count-requires : goal.carry_row-count-requires
-carry_row-count-requires c κs =
+carry_row-count-requires c =
     let start = c in
     let inv = c.loop-head.invariant in
     (rw inv.0 (whole start), ((start.requires.1.0, inv.1, c.loop-head-test.true), rw inv.0 (rows_turn_runs c.loop-head-test.true inv.2)))
@@ -42,9 +42,6 @@ loop-head-preserved c =
     let row = c.carry_row-count in
     let inv = c.loop-head.invariant in
     (row.auto.1.1.1.1.0 ∙ inv.0, row.auto.1.1.1.1.1.0 ∙ inv.1, rows_turn_next (row.auto.1.1.1.1.0 ∙ inv.0) row.ensures)
-
-pub shape_of-states : goal.shape_of-states
-shape_of-states c = let start = c in c.loop-head.invariant.0 ∙ length-set start.args.states.now 0 0
 
 pub returns : goal.returns
 returns c = rows_turn_end c.loop-head.invariant.0 (whole c).some_row c.loop-head-test.false c.loop-head.invariant.2

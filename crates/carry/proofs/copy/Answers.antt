@@ -30,9 +30,6 @@ loop-row-preserved c =
       simp length-set loop.invariant.2,
     )
 
-pub shape_of-list : goal.shape_of-list
-shape_of-list c = c.loop-row.invariant.2
-
 pub returns : goal.returns
 returns c =
     let args = c.args in

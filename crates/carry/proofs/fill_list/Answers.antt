@@ -3,33 +3,20 @@ use mathlib.Core.Path.{ap, ◌∙◌}
 use native.Mathlib.Omega.{arith}
 use lib.ListN.{length}
 use lib.Seq.{paste}
-use borrow.Author.Tests.{not-true, not-false}
 use Rattle.carry.proofs.Outcome.{list-lacking, list-too_short, list-filled}
 use Rattle.carry.proofs.fill_list.Goals as goal
 
-pub shape_of-states-then-not-carry_rows : goal.shape_of-states-then-not-carry_rows
-shape_of-states-then-not-carry_rows c = c.carry_rows.auto.1.1.1.0
-
 pub returns-then-not-carry_rows : goal.returns-then-not-carry_rows
-returns-then-not-carry_rows c = list-lacking c.carry_rows.ensures (not-true _ c.if-not-carry_rows.true) c.requires.1.2
-
-pub shape_of-states-then-list-states : goal.shape_of-states-then-list-states
-shape_of-states-then-list-states c = c.carry_rows.auto.1.1.1.0
+returns-then-not-carry_rows c = list-lacking c.carry_rows.ensures c.if-not-carry_rows.true c.requires.1.2
 
 pub returns-then-list-states : goal.returns-then-list-states
 returns-then-list-states c =
     let rows = c.carry_rows in
-    list-too_short rows.ensures rows.auto.1.1.1.0 (not-false _ c.if-not-carry_rows.false) (omega (arith, c.if-list-states.true, rows.auto.1.1.1.0)) c.requires.1.2
-
-pub shape_of-states : goal.shape_of-states
-shape_of-states c = c.carry_rows.auto.1.1.1.0
-
-pub shape_of-list : goal.shape_of-list
-shape_of-list c = c.copy.auto.1.0
+    list-too_short rows.ensures rows.auto.1.1.1.0 c.if-not-carry_rows.false (omega (arith, c.if-list-states.true, rows.auto.1.1.1.0)) c.requires.1.2
 
 pub returns : goal.returns
 returns c =
     let rows = c.carry_rows in
     let states = rows.new.1.1.1.0 in
-    list-filled rows.ensures rows.auto.1.1.1.0 (not-false _ c.if-not-carry_rows.false) (omega (arith, c.if-list-states.false, rows.auto.1.1.1.0))
+    list-filled rows.ensures rows.auto.1.1.1.0 c.if-not-carry_rows.false (omega (arith, c.if-list-states.false, rows.auto.1.1.1.0))
     (c.copy.ensures ∙ ap (λ l. paste l 0 states (length states)) c.requires.1.2)

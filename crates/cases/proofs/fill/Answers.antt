@@ -7,4 +7,4 @@ pub slice_bounds-read_full-end-2 : goal.slice_bounds-read_full-end-2
 slice_bounds-read_full-end-2 c = sym (length-take-le _ _ (omega (arith, c.fewer-room.ensures)))
 
 pub returns : goal.returns
-returns c = counted-front c.read_full.result c.read_full.new.1.0 _ c.read_full.ensures.0
+returns c = counted-front c.read_full.result c.read_full.new.buf _ c.read_full.ensures.0

@@ -11,12 +11,6 @@ use Rattle.changes.proofs.column_least.Reads as reads
 use Rattle.changes.proofs.column_least.Lts as lts
 use Rattle.changes.proofs.column_least.Goals as goal
 
--- the place of the value
-place : (c : tie.In-loop invariant-loop decreases-loop) → let a = c.before.before.before.args in a.from + c.before.loop.value * a.stride < length a.row.now
-place c = c.before.before.before.requires.1 c.before.loop.value c.loop-test.true
-
-unfolding least_below
-
 pub offset_bounds-row-from : goal.offset_bounds-row-from
 offset_bounds-row-from c = omega (arith, c.requires.1 0 c.requires.0)
 
@@ -24,21 +18,30 @@ pub bounds-row-from : goal.bounds-row-from
 bounds-row-from c = omega (arith, c.requires.1 0 c.requires.0)
 
 pub loop-value-init : goal.loop-value-init
+unfolding least_below
 loop-value-init c = let a = c.args in
     let e : a.from ≡ a.from + 0 * a.stride = omega arith in
     (omega arith, ap (at a.row.now) e)
 
 pub overflow_mul-cost : goal.overflow_mul-cost
-overflow_mul-cost c = omega (arith, place c)
+overflow_mul-cost c =
+    let place : let a = c.args in a.from + c.loop-value.value * a.stride < length a.row.now = c.requires.1 c.loop-value.value c.loop-value-test.true in
+    omega (arith, place)
 
 pub overflow_add-cost : goal.overflow_add-cost
-overflow_add-cost c = omega (arith, place c)
+overflow_add-cost c =
+    let place : let a = c.args in a.from + c.loop-value.value * a.stride < length a.row.now = c.requires.1 c.loop-value.value c.loop-value-test.true in
+    omega (arith, place)
 
 pub offset_bounds-row-from-in-loop-value : goal.offset_bounds-row-from-in-loop-value
-offset_bounds-row-from-in-loop-value c = omega (arith, place c)
+offset_bounds-row-from-in-loop-value c =
+    let place : let a = c.args in a.from + c.loop-value.value * a.stride < length a.row.now = c.requires.1 c.loop-value.value c.loop-value-test.true in
+    omega (arith, place)
 
 pub bounds-row-from-in-loop-value : goal.bounds-row-from-in-loop-value
-bounds-row-from-in-loop-value c = place c
+bounds-row-from-in-loop-value c =
+    let place : let a = c.args in a.from + c.loop-value.value * a.stride < length a.row.now = c.requires.1 c.loop-value.value c.loop-value-test.true in
+    place
 
 pub overflow_add-value : goal.overflow_add-value
 overflow_add-value c = omega arith

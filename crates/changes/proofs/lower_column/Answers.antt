@@ -10,30 +10,38 @@ use Rattle.changes.proofs.lower_column.Reads as reads
 use Rattle.changes.proofs.lower_column.Lts as lts
 use Rattle.changes.proofs.lower_column.Goals as goal
 
--- the place of the value
-place : (c : tie.In-loop invariant-loop decreases-loop) → let a = c.before.before.before.args in a.from + c.before.loop.value * a.stride < length c.before.loop.row
-place c = omega (arith, c.before.before.before.requires.1 c.before.loop.value c.loop-test.true, c.before.loop.invariant.1.same_length)
-
 pub loop-value-init : goal.loop-value-init
 loop-value-init c = let a = c.args in (omega arith, column_start a.is_set a.from a.stride a.least a.row.now)
 
 pub overflow_mul-place : goal.overflow_mul-place
-overflow_mul-place c = omega (arith, place c)
+overflow_mul-place c =
+    let place : let a = c.args in a.from + c.loop-value.value * a.stride < length c.loop-value.row = omega (arith, c.requires.1 c.loop-value.value c.loop-value-test.true, c.loop-value.invariant.1.same_length) in
+    omega (arith, place)
 
 pub overflow_add-place : goal.overflow_add-place
-overflow_add-place c = omega (arith, place c)
+overflow_add-place c =
+    let place : let a = c.args in a.from + c.loop-value.value * a.stride < length c.loop-value.row = omega (arith, c.requires.1 c.loop-value.value c.loop-value-test.true, c.loop-value.invariant.1.same_length) in
+    omega (arith, place)
 
 pub offset_bounds-row-place : goal.offset_bounds-row-place
-offset_bounds-row-place c = omega (arith, place c)
+offset_bounds-row-place c =
+    let place : let a = c.args in a.from + c.loop-value.value * a.stride < length c.loop-value.row = omega (arith, c.requires.1 c.loop-value.value c.loop-value-test.true, c.loop-value.invariant.1.same_length) in
+    omega (arith, place)
 
 pub bounds-row-place : goal.bounds-row-place
-bounds-row-place c = place c
+bounds-row-place c =
+    let place : let a = c.args in a.from + c.loop-value.value * a.stride < length c.loop-value.row = omega (arith, c.requires.1 c.loop-value.value c.loop-value-test.true, c.loop-value.invariant.1.same_length) in
+    place
 
 pub offset_bounds-row-place-in-loop-value : goal.offset_bounds-row-place-in-loop-value
-offset_bounds-row-place-in-loop-value c = omega (arith, place c)
+offset_bounds-row-place-in-loop-value c =
+    let place : let a = c.args in a.from + c.loop-value.value * a.stride < length c.loop-value.row = omega (arith, c.requires.1 c.loop-value.value c.loop-value-test.true, c.loop-value.invariant.1.same_length) in
+    omega (arith, place)
 
 pub bounds-row-place-in-loop-value : goal.bounds-row-place-in-loop-value
-bounds-row-place-in-loop-value c = place c
+bounds-row-place-in-loop-value c =
+    let place : let a = c.args in a.from + c.loop-value.value * a.stride < length c.loop-value.row = omega (arith, c.requires.1 c.loop-value.value c.loop-value-test.true, c.loop-value.invariant.1.same_length) in
+    place
 
 pub overflow_add-value : goal.overflow_add-value
 overflow_add-value c = omega arith
@@ -43,16 +51,14 @@ loop-value-smaller c = omega arith
 
 pub loop-value-preserved : goal.loop-value-preserved
 loop-value-preserved c =
+    let place : let a = c.args in a.from + c.loop-value.value * a.stride < length c.loop-value.row = omega (arith, c.requires.1 c.loop-value.value c.loop-value-test.true, c.loop-value.invariant.1.same_length) in
     let a = c.args in
     let turn = c.loop-value in
     let at_value = a.from + turn.value * a.stride in (
       omega arith,
       subst (λ (v : ℕ). LowersColumn a.is_set a.from a.stride a.least (turn.value + 1) a.row.now (set turn.row at_value v)) (sym c.lowered.ensures)
-          (column_next a.is_set a.from a.stride a.least c.requires.0 (place c) turn.invariant.1),
+          (column_next a.is_set a.from a.stride a.least c.requires.0 (place) turn.invariant.1),
     )
-
-pub shape_of-row : goal.shape_of-row
-shape_of-row c = c.loop-value.invariant.1.same_length
 
 pub returns : goal.returns
 returns c =

@@ -16,25 +16,8 @@ use Rattle.changes.proofs.Blocks.{block_inside}
 use Rattle.changes.proofs.Loops.{whole_blocks, some-values, some-later, PassesFrom, passes-start, passes-next, passes-end}
 use Rattle.changes.proofs.lower_costs.Goals as goal
 
--- the streams make the row's letters
-all : (c : tie.At-loop invariant-loop decreases-loop) → let a = c.before.before.before.before.before.args in (0 < length a.row.now) × (before a.shape c.before.fewer.result ≡ length a.row.now)
-all c =
-    let made = c.before.before.before.makes in
-    let m = says_yes (not-false made.result c.before.before.if1.false) made.ensures in
-    (m.0, ap (before c.before.before.before.before.before.args.shape) c.before.fewer.ensures ∙ m.1)
-
--- the row in blocks of a stream's values with the later streams' letters
-whole : (c : tie.After-value-count invariant-loop decreases-loop) → let start = c.before.before.before.before.before.before.before in
-    length start.args.row.now ≡ before start.args.shape (c.before.before.loop.stream - 1) * (c.value-count.result * c.before.before.loop.stride)
-whole c =
-    let a = c.before.before.before.before.before.before.before.args in
-    let turn = c.before.before.loop in
-    let known = all c.before.before in
-    whole_blocks a.shape c.before.before.before.fewer.result known.1 known.0 turn.stream c.before.loop-test.true turn.invariant.0
-    ∙ ap₂ (λ z k. before a.shape (turn.stream - 1) * (z * k)) (sym c.value-count.ensures) (sym turn.invariant.2.strides)
-
 pub makes-requires : goal.makes-requires
-makes-requires c κs = tt
+makes-requires c = tt
 
 pub returns-then-not-makes : goal.returns-then-not-makes
 returns-then-not-makes c =
@@ -42,7 +25,7 @@ returns-then-not-makes c =
     record { same_length = refl; lowered = λ e a h. absurd (no (omega arith, e)); kept = λ n. refl }
 
 pub fewer-stream-requires : goal.fewer-stream-requires
-fewer-stream-requires c κs = tt
+fewer-stream-requires c = tt
 
 pub loop-stream-init : goal.loop-stream-init
 loop-stream-init c = let a = c.args in (omega arith, refl, passes-start a.shape c.fewer-stream.result a.row.now)
@@ -51,64 +34,91 @@ pub overflow_sub-stream : goal.overflow_sub-stream
 overflow_sub-stream c = omega arith
 
 pub value_count-size-requires : goal.value_count-size-requires
-value_count-size-requires c κs = omega (arith, c.fewer-stream.ensures)
+value_count-size-requires c = omega (arith, c.fewer-stream.ensures)
 
 pub is_set-requires : goal.is_set-requires
-is_set-requires c κs = omega (arith, c.fewer-stream.ensures)
+is_set-requires c = omega (arith, c.fewer-stream.ensures)
 
 pub lower_stream-requires : goal.lower_stream-requires
-lower_stream-requires c κs =
+lower_stream-requires c =
+    let all : let a = c.args in (0 < length a.row.now) × (before a.shape c.fewer-stream.result ≡ length a.row.now) = (let made = c.makes in
+    let m = says_yes (not-false made.result c.if-not-makes.false) made.ensures in
+    (m.0, ap (before c.args.shape) c.fewer-stream.ensures ∙ m.1)) in
+    let whole : let start = c in
+    length start.args.row.now ≡ before start.args.shape (c.loop-stream.stream - 1) * (c.value_count-size.result * c.loop-stream.stride) = (let a = c.args in
+    let turn = c.loop-stream in
+    let known = all in
+    whole_blocks a.shape c.fewer-stream.result known.1 known.0 turn.stream c.loop-stream-test.true turn.invariant.0
+    ∙ ap₂ (λ z k. before a.shape (turn.stream - 1) * (z * k)) (sym c.value_count-size.ensures) (sym turn.invariant.2.strides)) in
     let a = c.args in
     let n = c.fewer-stream.result in
     let turn = c.loop-stream in
-    let known = all c in
+    let known = all in
     let values = some-values a.shape n known.1 known.0 turn.stream c.loop-stream-test.true turn.invariant.0 in
     let later = some-later a.shape n known.1 known.0 turn.stream c.loop-stream-test.true turn.invariant.0 in (
       omega (arith, values, c.value_count-size.ensures),
       omega (arith, later, turn.invariant.2.strides),
-      (before a.shape (turn.stream - 1), turn.invariant.1 ∙ whole c),
+      (before a.shape (turn.stream - 1), turn.invariant.1 ∙ whole),
       omega (arith, known.0, turn.invariant.1),
     )
 
 pub overflow_mul-stride : goal.overflow_mul-stride
 overflow_mul-stride c =
+    let all : let a = c.args in (0 < length a.row.now) × (before a.shape c.fewer-stream.result ≡ length a.row.now) = (let made = c.makes in
+    let m = says_yes (not-false made.result c.if-not-makes.false) made.ensures in
+    (m.0, ap (before c.args.shape) c.fewer-stream.ensures ∙ m.1)) in
+    let whole : let start = c in
+    length start.args.row.now ≡ before start.args.shape (c.loop-stream.stream - 1) * (c.value_count-size.result * c.loop-stream.stride) = (let a = c.args in
+    let turn = c.loop-stream in
+    let known = all in
+    whole_blocks a.shape c.fewer-stream.result known.1 known.0 turn.stream c.loop-stream-test.true turn.invariant.0
+    ∙ ap₂ (λ z k. before a.shape (turn.stream - 1) * (z * k)) (sym c.value_count-size.ensures) (sym turn.invariant.2.strides)) in
     let up = c in
     let a = up.args in
-    let width = up.value-count.result * up.loop.stride in
-    let blocks = before a.shape (up.loop.stream - 1) in
-    omega (arith, block_inside 0 blocks width (omega (arith, zero-mul width, whole up, (all up).0)), zero-mul width, whole up)
+    let width = up.value_count-size.result * up.loop-stream.stride in
+    let blocks = before a.shape (up.loop-stream.stream - 1) in
+    omega (arith, block_inside 0 blocks width (omega (arith, zero-mul width, whole, (all up).0)), zero-mul width, whole)
 
 pub loop-stream-smaller : goal.loop-stream-smaller
 loop-stream-smaller c = omega arith
 
 pub loop-stream-preserved : goal.loop-stream-preserved
 loop-stream-preserved c =
+    let all : let a = c.args in (0 < length a.row.now) × (before a.shape c.fewer-stream.result ≡ length a.row.now) = (let made = c.makes in
+    let m = says_yes (not-false made.result c.if-not-makes.false) made.ensures in
+    (m.0, ap (before c.args.shape) c.fewer-stream.ensures ∙ m.1)) in
+    let whole : let start = c in
+    length start.args.row.now ≡ before start.args.shape (c.loop-stream.stream - 1) * (c.value_count-size.result * c.loop-stream.stride) = (let a = c.args in
+    let turn = c.loop-stream in
+    let known = all in
+    whole_blocks a.shape c.fewer-stream.result known.1 known.0 turn.stream c.loop-stream-test.true turn.invariant.0
+    ∙ ap₂ (λ z k. before a.shape (turn.stream - 1) * (z * k)) (sym c.value_count-size.ensures) (sym turn.invariant.2.strides)) in
     let up = c in
     let a = up.args in
-    let n = up.fewer.result in
-    let turn = up.loop in
+    let n = up.fewer-stream.result in
+    let turn = up.loop-stream in
     let blocks = before a.shape (turn.stream - 1) in
-    let next = c.lower_stream.new.0 in
-    let lowered = c.lower_stream.ensures blocks (turn.invariant.1 ∙ whole up) in (
+    let next = c.lower_stream.new.row in
+    let lowered = c.lower_stream.ensures blocks (turn.invariant.1 ∙ whole) in (
       omega arith,
       lowered.same_length ∙ turn.invariant.1,
-      subst (λ (z : ℕ). PassesFrom a.shape n (turn.stream - 1) (z * turn.stride) a.row.now next) (sym up.value-count.ensures)
-          (passes-next a.shape n up.loop-test.true turn.invariant.0 turn.invariant.2
-          (subst (λ (z : ℕ). LowersBlocks (axis_in a.shape (turn.stream - 1)).counts z turn.stride blocks turn.row next) up.value-count.ensures
-          (subst (λ (b : Bool). LowersBlocks b up.value-count.result turn.stride blocks turn.row next) c.is_set.ensures lowered))),
+      subst (λ (z : ℕ). PassesFrom a.shape n (turn.stream - 1) (z * turn.stride) a.row.now next) (sym up.value_count-size.ensures)
+          (passes-next a.shape n up.loop-stream-test.true turn.invariant.0 turn.invariant.2
+          (subst (λ (z : ℕ). LowersBlocks (axis_in a.shape (turn.stream - 1)).counts z turn.stride blocks turn.row next) up.value_count-size.ensures
+          (subst (λ (b : Bool). LowersBlocks b up.value_count-size.result turn.stride blocks turn.row next) c.is_set.ensures lowered))),
     )
-
-pub shape_of-row : goal.shape_of-row
-shape_of-row c = c.loop-stream.invariant.1
 
 pub returns : goal.returns
 returns c =
+    let all : let a = c.args in (0 < length a.row.now) × (before a.shape c.fewer-stream.result ≡ length a.row.now) = (let made = c.makes in
+    let m = says_yes (not-false made.result c.if-not-makes.false) made.ensures in
+    (m.0, ap (before c.args.shape) c.fewer-stream.ensures ∙ m.1)) in
     let a = c.args in
     let turn = c.loop-stream in
     let n = c.fewer-stream.result in
     let end : turn.stream ≡ 0 = omega arith in
     let passed = subst (λ (x : ℕ). PassesFrom a.shape n x turn.stride a.row.now turn.row) end turn.invariant.2 in
-    let known = all c in
+    let known = all in
     record {
       same_length = turn.invariant.1;
       lowered = λ e b h. subst (λ (m : ℕ). IsLeastFrom (axes_from a.shape 0 m) (at a.row.now) b (at turn.row b)) c.fewer-stream.ensures (passes-end a.shape n passed b (omega (arith, known.1)));

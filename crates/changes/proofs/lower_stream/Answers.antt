@@ -8,18 +8,6 @@ use Rattle.changes.specs.Passes.{LowersBlock, LowersBlocks}
 use Rattle.changes.proofs.Blocks.{block_inside, block_count, blocks_start, blocks_next}
 use Rattle.changes.proofs.lower_stream.Goals as goal
 
--- one block more fits
-fits : (c : tie.In-loop invariant-loop decreases-loop) → let a = c.before.before.before.args in c.before.loop.start + a.size * a.stride ≤ length a.row.now
-fits c =
-    let start = c.before.before.before in
-    let done = c.before.loop.invariant.1 in
-    let whole = start.requires.2 in
-    let inside = block_inside done.0 whole.0 (start.args.size * start.args.stride) (omega (arith, done.1, whole.1, done.2.same_length)) in
-    omega (arith, inside, done.1, whole.1)
-
-some : (c : tie.In-loop invariant-loop decreases-loop) → let a = c.before.before.before.args in 0 < a.size * a.stride
-some c = mul-pos c.before.before.before.requires.0 c.before.before.before.requires.1
-
 pub overflow_mul-width : goal.overflow_mul-width
 overflow_mul-width c =
     let start = c in
@@ -33,31 +21,52 @@ loop-start-init c =
     (omega arith, (0, sym (zero-mul (a.size * a.stride)), blocks_start a.is_set a.size a.stride a.row.now))
 
 pub lower_block-requires : goal.lower_block-requires
-lower_block-requires c κs = (c.requires.0, omega (arith, fits c, c.loop-start.invariant.1.2.same_length))
+lower_block-requires c =
+    let fits : let a = c.args in c.loop-start.start + a.size * a.stride ≤ length a.row.now = (let start = c in
+    let done = c.loop-start.invariant.1 in
+    let whole = start.requires.2 in
+    let inside = block_inside done.0 whole.0 (start.args.size * start.args.stride) (omega (arith, done.1, whole.1, done.2.same_length)) in
+    omega (arith, inside, done.1, whole.1)) in
+    (c.requires.0, omega (arith, fits, c.loop-start.invariant.1.2.same_length))
 
 pub overflow_add-start : goal.overflow_add-start
-overflow_add-start c = omega (arith, fits c)
+overflow_add-start c =
+    let fits : let a = c.args in c.loop-start.start + a.size * a.stride ≤ length a.row.now = (let start = c in
+    let done = c.loop-start.invariant.1 in
+    let whole = start.requires.2 in
+    let inside = block_inside done.0 whole.0 (start.args.size * start.args.stride) (omega (arith, done.1, whole.1, done.2.same_length)) in
+    omega (arith, inside, done.1, whole.1)) in
+    omega (arith, fits)
 
 pub loop-start-smaller : goal.loop-start-smaller
-loop-start-smaller c = omega (arith, some c, fits c)
+loop-start-smaller c =
+    let fits : let a = c.args in c.loop-start.start + a.size * a.stride ≤ length a.row.now = (let start = c in
+    let done = c.loop-start.invariant.1 in
+    let whole = start.requires.2 in
+    let inside = block_inside done.0 whole.0 (start.args.size * start.args.stride) (omega (arith, done.1, whole.1, done.2.same_length)) in
+    omega (arith, inside, done.1, whole.1)) in
+    let some : let a = c.args in 0 < a.size * a.stride = mul-pos c.requires.0 c.requires.1 in
+    omega (arith, some, fits)
 
 pub loop-start-preserved : goal.loop-start-preserved
 loop-start-preserved c =
+    let fits : let a = c.args in c.loop-start.start + a.size * a.stride ≤ length a.row.now = (let start = c in
+    let done = c.loop-start.invariant.1 in
+    let whole = start.requires.2 in
+    let inside = block_inside done.0 whole.0 (start.args.size * start.args.stride) (omega (arith, done.1, whole.1, done.2.same_length)) in
+    omega (arith, inside, done.1, whole.1)) in
     let a = c.args in
     let turn = c.loop-start in
     let done = turn.invariant.1 in
     let width = a.size * a.stride in (
-      fits c,
+      fits,
       (
         suc done.0,
         omega (arith, done.1, suc-mul done.0 width),
         blocks_next a.is_set a.size a.stride done.2
-            (subst (λ (s : ℕ). LowersBlock a.is_set s a.size a.stride a.stride turn.row c.lower_block.new.0) done.1 c.lower_block.ensures),
+            (subst (λ (s : ℕ). LowersBlock a.is_set s a.size a.stride a.stride turn.row c.lower_block.new.row) done.1 c.lower_block.ensures),
       ),
     )
-
-pub shape_of-row : goal.shape_of-row
-shape_of-row c = c.loop-start.invariant.1.2.same_length
 
 pub returns : goal.returns
 returns c n e =

@@ -10,33 +10,24 @@ use Rattle.changes.specs.Axes.{letter_total, axes_in}
 use Rattle.changes.proofs.Axes.{before, later, later-all, later-none, later-total, later-most}
 use Rattle.changes.proofs.makes.Goals as goal
 
--- the letters with one stream more
-more : (c : tie.After-value-count invariant-loop decreases-loop)
-    → c.value-count.result * c.before.before.loop.made ≡ letter_total (later c.before.before.before.before.before.args.shape c.before.before.before.fewer.result (c.before.before.loop.stream - 1))
-more c =
-    let turn = c.before.before.loop in
-    ap₂ ◌*◌ c.value-count.ensures turn.invariant.1
-    ∙ sym (later-total c.before.before.before.before.before.args.shape c.before.before.before.fewer.result turn.stream c.before.loop-test.true turn.invariant.0)
-
-unfolding letter_total
-
 pub returns-then-letters-eq0 : goal.returns-then-letters-eq0
 returns-then-letters-eq0 c m = omega (arith, m.0)
 
 pub fewer-stream-requires : goal.fewer-stream-requires
-fewer-stream-requires c κs = tt
+fewer-stream-requires c = tt
 
 pub loop-stream-init : goal.loop-stream-init
+unfolding letter_total
 loop-stream-init c = (omega arith, sym (ap letter_total (later-none c.args.shape c.fewer-stream.result)))
 
 pub overflow_sub-stream : goal.overflow_sub-stream
 overflow_sub-stream c = omega arith
 
 pub value_count-size-requires : goal.value_count-size-requires
-value_count-size-requires c κs = omega (arith, c.fewer-stream.ensures)
+value_count-size-requires c = omega (arith, c.fewer-stream.ensures)
 
 pub rows_fit-requires : goal.rows_fit-requires
-rows_fit-requires c κs = tt
+rows_fit-requires c = tt
 
 -- the last streams alone make too many
 pub returns-then-not-rows_fit : goal.returns-then-not-rows_fit
@@ -46,7 +37,7 @@ returns-then-not-rows_fit c m =
     let j = c.loop-stream.stream - 1 in
     let all : before shape n ≡ c.args.letters = ap (before shape) c.fewer-stream.ensures ∙ m.1 in
     let most = later-most shape n j (omega arith) (omega (arith, all, m.0)) in
-    says_no (not-true c.rows_fit.result c.if-not-rows_fit.true) c.rows_fit.ensures (omega (arith, more c, most, all))
+    says_no (not-true c.rows_fit.result c.if-not-rows_fit.true) c.rows_fit.ensures (omega (arith, more, most, all))
 
 pub overflow_mul-made : goal.overflow_mul-made
 overflow_mul-made c = omega (arith, says_yes (not-false c.rows_fit.result c.if-not-rows_fit.false) c.rows_fit.ensures)
@@ -55,7 +46,11 @@ pub loop-stream-smaller : goal.loop-stream-smaller
 loop-stream-smaller c = omega arith
 
 pub loop-stream-preserved : goal.loop-stream-preserved
-loop-stream-preserved c = (omega arith, more c)
+loop-stream-preserved c =
+    let more : c.value_count-size.result * c.loop-stream.made ≡ letter_total (later c.args.shape c.fewer-stream.result (c.loop-stream.stream - 1)) = (let turn = c.loop-stream in
+    ap₂ ◌*◌ c.value_count-size.ensures turn.invariant.1
+    ∙ sym (later-total c.args.shape c.fewer-stream.result turn.stream c.loop-stream-test.true turn.invariant.0)) in
+    (omega arith, more)
 
 pub returns : goal.returns
 returns c =

@@ -8,13 +8,6 @@ use Rattle.changes.proofs.Axes.{change-most}
 use Rattle.changes.proofs.Spread.{stream-start, stream-next, part_apart, part-inside}
 use Rattle.changes.proofs.spread_stream.Goals as goal
 
--- the part of the value lies within the row
-part : (c : tie.In-loop invariant-loop decreases-loop)
-    → (c.before.loop.value - 1) * c.before.before.before.args.stride + c.before.before.before.args.stride ≤ length c.before.loop.row
-part c =
-    let start = c.before.before.before in
-    part-inside start.args.size start.args.stride c.before.loop.value c.loop-test.true c.before.loop.invariant.0 (omega (arith, start.requires.0, c.before.loop.invariant.1.same_length))
-
 pub loop-value-init : goal.loop-value-init
 loop-value-init c = let a = c.args in (omega arith, stream-start a.is_set a.size a.stride a.own a.row.now)
 
@@ -22,18 +15,23 @@ pub overflow_sub-value : goal.overflow_sub-value
 overflow_sub-value c = omega arith
 
 pub overflow_mul-value : goal.overflow_mul-value
-overflow_mul-value c = omega (arith, part c)
+overflow_mul-value c =
+    let part : (c.loop-value.value - 1) * c.args.stride + c.args.stride ≤ length c.loop-value.row = (let start = c in
+    part-inside start.args.size start.args.stride c.loop-value.value c.loop-value-test.true c.loop-value.invariant.0 (omega (arith, start.requires.0, c.loop-value.invariant.1.same_length))) in
+    omega (arith, part)
 
 pub change-requires : goal.change-requires
-change-requires c κs = tt
+change-requires c = tt
 
 pub spread_part-requires : goal.spread_part-requires
-spread_part-requires c κs =
+spread_part-requires c =
+    let part : (c.loop-value.value - 1) * c.args.stride + c.args.stride ≤ length c.loop-value.row = (let start = c in
+    part-inside start.args.size start.args.stride c.loop-value.value c.loop-value-test.true c.loop-value.invariant.0 (omega (arith, start.requires.0, c.loop-value.invariant.1.same_length))) in
     let start = c in
     let a = start.args in
     let turn = c.loop-value in (
       part_apart a.stride (turn.value - 1),
-      part c,
+      part,
       omega (arith, c.change.ensures, change-most a.is_set a.own (turn.value - 1)),
       λ o h. omega (arith, turn.invariant.1.front c.loop-value-test.true o h, start.requires.1 o h),
     )
@@ -48,11 +46,8 @@ loop-value-preserved c =
     let one : turn.value ≡ suc (turn.value - 1) = omega arith in (
       omega arith,
       stream-next a.is_set a.size a.stride a.own (subst (λ (n : ℕ). SpreadsStream a.is_set a.size a.stride a.own n a.row.now turn.row) one turn.invariant.1)
-          (subst (λ (m : ℕ). SpreadsPart ((turn.value - 1) * a.stride) m a.stride turn.row c.spread_part.new.0) c.change.ensures c.spread_part.ensures),
+          (subst (λ (m : ℕ). SpreadsPart ((turn.value - 1) * a.stride) m a.stride turn.row c.spread_part.new.row) c.change.ensures c.spread_part.ensures),
     )
-
-pub shape_of-row : goal.shape_of-row
-shape_of-row c = c.loop-value.invariant.1.same_length
 
 pub returns : goal.returns
 returns c =

@@ -7,15 +7,12 @@ use lib.Bits.{bit_xor}
 use Rattle.checksum.specs.Checksum.{after_bit, after_bits}
 use Rattle.checksum.proofs.after_byte.Goals as goal
 
-unfolding after_bits
-
-unfolding after_bits
-
 pub loop-i-init : goal.loop-i-init
+unfolding after_bits
 loop-i-init c = (omega arith, refl)
 
 pub after_bit-rest-requires : goal.after_bit-rest-requires
-after_bit-rest-requires c κs = tt
+after_bit-rest-requires c = tt
 
 pub overflow_add-i : goal.overflow_add-i
 overflow_add-i c = omega arith
@@ -24,6 +21,7 @@ pub loop-i-smaller : goal.loop-i-smaller
 loop-i-smaller c = omega arith
 
 pub loop-i-preserved : goal.loop-i-preserved
+unfolding after_bits
 loop-i-preserved c =
     let t = c.loop-i in
     (omega arith, c.after_bit-rest.ensures ∙ ap after_bit t.invariant.1 ∙ sym (ap (λ n. after_bits n (bit_xor c.args.register c.args.byte)) (add-one t.i)))

@@ -10,16 +10,15 @@ use Rattle.checksum.specs.Checksum.{all_ones, after_byte, after_bytes}
 use Rattle.checksum.proofs.Bytes.{one-byte-more}
 use Rattle.checksum.proofs.checksum.Goals as goal
 
-unfolding after_bytes
-
 pub loop-i-init : goal.loop-i-init
+unfolding after_bytes
 loop-i-init c = (omega arith, refl)
 
 pub bounds-text-i : goal.bounds-text-i
 bounds-text-i c = omega arith
 
 pub after_byte-register-requires : goal.after_byte-register-requires
-after_byte-register-requires c κs = tt
+after_byte-register-requires c = tt
 
 pub overflow_add-i : goal.overflow_add-i
 overflow_add-i c = omega arith

@@ -13,7 +13,7 @@ pub returns-then-letters-gt1024 : goal.returns-then-letters-gt1024
 returns-then-letters-gt1024 c = uncounted (cannot_count c.args.streams c.letters_made-letters.ensures (inr c.if-letters-gt1024.true))
 
 pub choice_of-chosen-requires : goal.choice_of-chosen-requires
-choice_of-chosen-requires c κs =
+choice_of-chosen-requires c =
     (can-count c.args.streams c.letters_made-letters.ensures c.if-letters-eq0.false (omega (arith, c.if-letters-gt1024.false))).0
 
 pub returns : goal.returns

@@ -8,67 +8,90 @@ use Rattle.streams.specs.Description.{stream_in}
 use Rattle.choices.proofs.Digits.{DigitsTaken, size_exact, digits-small, digits-none, digits-read, digits-set, digit-small, count_small, digits-all}
 use Rattle.choices.proofs.choice_of.Goals as goal
 
--- in a turn the stream i - 1 is one of at most eight
-stream-there : (c : tie.In-loop invariant-loop decreases-loop) → (c.before.loop.i - 1 < c.before.before.before.args.streams.count) × (c.before.loop.i - 1 < 8)
-stream-there c = (omega (arith, c.before.loop.invariant.inside, c.loop-test.true), omega (arith, c.before.loop.invariant.inside, c.loop-test.true, c.before.before.before.requires.few_streams))
-
-taken : (c : tie.In-loop invariant-loop decreases-loop) → DigitsTaken c.before.before.before.args.streams c.before.before.before.args.letter (suc (c.before.loop.i - 1)) c.before.loop.rest c.before.loop.number c.before.loop.count
-taken c =
-    let e : c.before.loop.i ≡ suc (c.before.loop.i - 1) = omega (arith, c.loop-test.true) in
-    subst (λ i. DigitsTaken c.before.before.before.args.streams c.before.before.before.args.letter i c.before.loop.rest c.before.loop.number c.before.loop.count) e c.before.loop.invariant
-
--- and its values are counted
-exact : (c : tie.After-values-in invariant-loop decreases-loop) → (c.values-in.result ≡ size (stream_in c.before.before.before.before.args.streams (c.before.before.loop.i - 1)).range) × (0 < c.values-in.result)
-exact c = size_exact c.before.before.before.before.args.streams c.before.before.before.before.requires (c.before.before.loop.i - 1) (stream-there c.before).0 c.values-in.ensures
-
--- so that the products fit
-small : (c : tie.Then1 invariant-loop decreases-loop) → (c.before.before.before.loop.rest % c.before.values-in.result * c.before.before.before.loop.count ≤ 1048576) × (c.before.before.before.loop.count * c.before.values-in.result ≤ 1048576)
-small c =
-    let start = c.before.before.before.before.before in
-    let step = c.before.before.before in
-    let size = c.before.values-in.result in (
-      digit-small start.args.streams start.requires start.args.letter (step.loop.i - 1) step.loop.rest step.loop.number step.loop.count size (stream-there c.before.before).0 (taken c.before.before) (exact c.before).0,
-      count_small start.args.streams start.requires start.args.letter (step.loop.i - 1) step.loop.rest step.loop.number step.loop.count size (stream-there c.before.before).0 (taken c.before.before) (exact c.before).0,
-    )
-
 pub loop-i-init : goal.loop-i-init
 loop-i-init c = digits-none c.args.streams c.requires c.args.letter
 
 pub values_in-size-requires : goal.values_in-size-requires
-values_in-size-requires c κs = (stream-there c).1
+values_in-size-requires c =
+    let stream-there : (c.loop-i.i - 1 < c.args.streams.count) × (c.loop-i.i - 1 < 8) = (omega (arith, c.loop-i.invariant.inside, c.loop-i-test.true), omega (arith, c.loop-i.invariant.inside, c.loop-i-test.true, c.requires.few_streams)) in
+    (stream-there).1
 
 pub bounds-kinds-i : goal.bounds-kinds-i
-bounds-kinds-i c = (stream-there c).1
+bounds-kinds-i c =
+    let stream-there : (c.loop-i.i - 1 < c.args.streams.count) × (c.loop-i.i - 1 < 8) = (omega (arith, c.loop-i.invariant.inside, c.loop-i-test.true), omega (arith, c.loop-i.invariant.inside, c.loop-i-test.true, c.requires.few_streams)) in
+    (stream-there).1
 
 pub nonzero_rem-number : goal.nonzero_rem-number
-nonzero_rem-number c = (exact c).1
+nonzero_rem-number c =
+    let stream-there : (c.loop-i.i - 1 < c.args.streams.count) × (c.loop-i.i - 1 < 8) = (omega (arith, c.loop-i.invariant.inside, c.loop-i-test.true), omega (arith, c.loop-i.invariant.inside, c.loop-i-test.true, c.requires.few_streams)) in
+    let exact : (c.values_in-size.result ≡ size (stream_in c.args.streams (c.loop-i.i - 1)).range) × (0 < c.values_in-size.result) = size_exact c.args.streams c.requires (c.loop-i.i - 1) (stream-there).0 c.values_in-size.ensures in
+    (exact).1
 
 pub overflow_mul-number : goal.overflow_mul-number
-overflow_mul-number c = omega (arith, (small c).0)
+overflow_mul-number c =
+    let stream-there : (c.loop-i.i - 1 < c.args.streams.count) × (c.loop-i.i - 1 < 8) = (omega (arith, c.loop-i.invariant.inside, c.loop-i-test.true), omega (arith, c.loop-i.invariant.inside, c.loop-i-test.true, c.requires.few_streams)) in
+    let taken : DigitsTaken c.args.streams c.args.letter (suc (c.loop-i.i - 1)) c.loop-i.rest c.loop-i.number c.loop-i.count = (let e : c.loop-i.i ≡ suc (c.loop-i.i - 1) = omega (arith, c.loop-i-test.true) in
+    subst (λ i. DigitsTaken c.args.streams c.args.letter i c.loop-i.rest c.loop-i.number c.loop-i.count) e c.loop-i.invariant) in
+    let exact : (c.values_in-size.result ≡ size (stream_in c.args.streams (c.loop-i.i - 1)).range) × (0 < c.values_in-size.result) = size_exact c.args.streams c.requires (c.loop-i.i - 1) (stream-there).0 c.values_in-size.ensures in
+    let small : (c.loop-i.rest % c.values_in-size.result * c.loop-i.count ≤ 1048576) × (c.loop-i.count * c.values_in-size.result ≤ 1048576) = (let start = c in
+    let step = c in
+    let size = c.values_in-size.result in (
+      digit-small start.args.streams start.requires start.args.letter (step.loop-i.i - 1) step.loop-i.rest step.loop-i.number step.loop-i.count size (stream-there).0 (taken) (exact).0,
+      count_small start.args.streams start.requires start.args.letter (step.loop-i.i - 1) step.loop-i.rest step.loop-i.number step.loop-i.count size (stream-there).0 (taken) (exact).0,
+    )) in
+    omega (arith, (small).0)
 
 pub overflow_add-number : goal.overflow_add-number
 overflow_add-number c =
-    omega (arith, (small c).0, digits-small c.args.streams c.requires c.loop-i.invariant)
+    let stream-there : (c.loop-i.i - 1 < c.args.streams.count) × (c.loop-i.i - 1 < 8) = (omega (arith, c.loop-i.invariant.inside, c.loop-i-test.true), omega (arith, c.loop-i.invariant.inside, c.loop-i-test.true, c.requires.few_streams)) in
+    let taken : DigitsTaken c.args.streams c.args.letter (suc (c.loop-i.i - 1)) c.loop-i.rest c.loop-i.number c.loop-i.count = (let e : c.loop-i.i ≡ suc (c.loop-i.i - 1) = omega (arith, c.loop-i-test.true) in
+    subst (λ i. DigitsTaken c.args.streams c.args.letter i c.loop-i.rest c.loop-i.number c.loop-i.count) e c.loop-i.invariant) in
+    let exact : (c.values_in-size.result ≡ size (stream_in c.args.streams (c.loop-i.i - 1)).range) × (0 < c.values_in-size.result) = size_exact c.args.streams c.requires (c.loop-i.i - 1) (stream-there).0 c.values_in-size.ensures in
+    let small : (c.loop-i.rest % c.values_in-size.result * c.loop-i.count ≤ 1048576) × (c.loop-i.count * c.values_in-size.result ≤ 1048576) = (let start = c in
+    let step = c in
+    let size = c.values_in-size.result in (
+      digit-small start.args.streams start.requires start.args.letter (step.loop-i.i - 1) step.loop-i.rest step.loop-i.number step.loop-i.count size (stream-there).0 (taken) (exact).0,
+      count_small start.args.streams start.requires start.args.letter (step.loop-i.i - 1) step.loop-i.rest step.loop-i.number step.loop-i.count size (stream-there).0 (taken) (exact).0,
+    )) in
+    omega (arith, (small).0, digits-small c.args.streams c.requires c.loop-i.invariant)
 
 pub overflow_mul-count : goal.overflow_mul-count
-overflow_mul-count c = omega (arith, (small c).1)
+overflow_mul-count c =
+    let stream-there : (c.loop-i.i - 1 < c.args.streams.count) × (c.loop-i.i - 1 < 8) = (omega (arith, c.loop-i.invariant.inside, c.loop-i-test.true), omega (arith, c.loop-i.invariant.inside, c.loop-i-test.true, c.requires.few_streams)) in
+    let taken : DigitsTaken c.args.streams c.args.letter (suc (c.loop-i.i - 1)) c.loop-i.rest c.loop-i.number c.loop-i.count = (let e : c.loop-i.i ≡ suc (c.loop-i.i - 1) = omega (arith, c.loop-i-test.true) in
+    subst (λ i. DigitsTaken c.args.streams c.args.letter i c.loop-i.rest c.loop-i.number c.loop-i.count) e c.loop-i.invariant) in
+    let exact : (c.values_in-size.result ≡ size (stream_in c.args.streams (c.loop-i.i - 1)).range) × (0 < c.values_in-size.result) = size_exact c.args.streams c.requires (c.loop-i.i - 1) (stream-there).0 c.values_in-size.ensures in
+    let small : (c.loop-i.rest % c.values_in-size.result * c.loop-i.count ≤ 1048576) × (c.loop-i.count * c.values_in-size.result ≤ 1048576) = (let start = c in
+    let step = c in
+    let size = c.values_in-size.result in (
+      digit-small start.args.streams start.requires start.args.letter (step.loop-i.i - 1) step.loop-i.rest step.loop-i.number step.loop-i.count size (stream-there).0 (taken) (exact).0,
+      count_small start.args.streams start.requires start.args.letter (step.loop-i.i - 1) step.loop-i.rest step.loop-i.number step.loop-i.count size (stream-there).0 (taken) (exact).0,
+    )) in
+    omega (arith, (small).1)
 
 pub nonzero_div-rest : goal.nonzero_div-rest
-nonzero_div-rest c = (exact c).1
+nonzero_div-rest c =
+    let stream-there : (c.loop-i.i - 1 < c.args.streams.count) × (c.loop-i.i - 1 < 8) = (omega (arith, c.loop-i.invariant.inside, c.loop-i-test.true), omega (arith, c.loop-i.invariant.inside, c.loop-i-test.true, c.requires.few_streams)) in
+    let exact : (c.values_in-size.result ≡ size (stream_in c.args.streams (c.loop-i.i - 1)).range) × (0 < c.values_in-size.result) = size_exact c.args.streams c.requires (c.loop-i.i - 1) (stream-there).0 c.values_in-size.ensures in
+    (exact).1
 
 pub loop-i-smaller : goal.loop-i-smaller
 loop-i-smaller c = omega (arith, c.loop-i-test.true)
 
 pub loop-i-preserved : goal.loop-i-preserved
 loop-i-preserved c =
+    let stream-there : (c.loop-i.i - 1 < c.args.streams.count) × (c.loop-i.i - 1 < 8) = (omega (arith, c.loop-i.invariant.inside, c.loop-i-test.true), omega (arith, c.loop-i.invariant.inside, c.loop-i-test.true, c.requires.few_streams)) in
+    let taken : DigitsTaken c.args.streams c.args.letter (suc (c.loop-i.i - 1)) c.loop-i.rest c.loop-i.number c.loop-i.count = (let e : c.loop-i.i ≡ suc (c.loop-i.i - 1) = omega (arith, c.loop-i-test.true) in
+    subst (λ i. DigitsTaken c.args.streams c.args.letter i c.loop-i.rest c.loop-i.number c.loop-i.count) e c.loop-i.invariant) in
+    let exact : (c.values_in-size.result ≡ size (stream_in c.args.streams (c.loop-i.i - 1)).range) × (0 < c.values_in-size.result) = size_exact c.args.streams c.requires (c.loop-i.i - 1) (stream-there).0 c.values_in-size.ensures in
     let start = c in
     let step = c in
     let size = c.values_in-size.result in
-    let there = (stream-there c).0 in
-    let behind = taken c in
-    let same = (exact c).0 in
-    ⊎_elim (λ w. rw w.1 (rw w.2 (digits-read start.args.streams start.requires start.args.letter (step.loop.i - 1) step.loop.rest step.loop.number step.loop.count size there behind same w.0.true)))
-    (λ w. rw w.1 (rw w.2 (digits-set start.args.streams start.requires start.args.letter (step.loop.i - 1) step.loop.rest step.loop.number step.loop.count size there behind same w.0.left))) c.if-kinds-i-eq-READ_STREAM.branch
+    let there = (stream-there).0 in
+    let behind = taken in
+    let same = (exact).0 in
+    ⊎_elim (λ w. rw w.1 (rw w.2 (digits-read start.args.streams start.requires start.args.letter (step.loop-i.i - 1) step.loop-i.rest step.loop-i.number step.loop-i.count size there behind same w.0.true)))
+    (λ w. rw w.1 (rw w.2 (digits-set start.args.streams start.requires start.args.letter (step.loop-i.i - 1) step.loop-i.rest step.loop-i.number step.loop-i.count size there behind same w.0.left))) c.if-kinds-i-eq-READ_STREAM.branch
 
 pub returns : goal.returns
 returns c = digits-all c.args.streams c.requires (omega (arith, c.loop-i-test.false)) c.loop-i.invariant

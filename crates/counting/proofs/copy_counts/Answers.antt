@@ -16,8 +16,5 @@ loop-i-preserved c =
     let from = c.args.from.now in
     (omega arith, simp length-set loop.invariant.1, below_set (λ s v. v ≡ get_or from s 0) loop.to loop.i (get_or from loop.i 0) (omega arith) loop.invariant.2 refl)
 
-pub shape_of-to : goal.shape_of-to
-shape_of-to c = c.loop-i.invariant.1
-
 pub returns : goal.returns
 returns c = λ j h. c.loop-i.invariant.2 j (omega arith)

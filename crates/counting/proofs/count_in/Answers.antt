@@ -5,10 +5,10 @@ use mathlib.Core.Path.{sym, ◌∙◌, ap}
 use Rattle.counting.proofs.count_in.Goals as goal
 
 pub first_counts-requires : goal.first_counts-requires
-first_counts-requires c κs = (c.requires.1, c.requires.2)
+first_counts-requires c = (c.requires.1, c.requires.2)
 
 pub fill_figures-requires : goal.fill_figures-requires
-fill_figures-requires c κs =
+fill_figures-requires c =
     let s = c in
     let whole = s.requires.0.whole in
     let rows = c.first_counts.auto.1.0 ∙ s.requires.1 in (

@@ -10,28 +10,14 @@ use Rattle.automaton.specs.WellFormed.{IsWellFormed}
 use Rattle.counting.proofs.Figures.{not-counted, all-counted, too_high}
 use Rattle.counting.proofs.count_records.Goals as goal
 
--- The table and the rooms have passed.
-formed : (c : tie.Else1) → let a = c.before.before.before.before.before.before.before.before.before.before.before.before.before.before.args in IsWellFormed a.letters a.entries.now a.finals.now × (a.most < length a.figures.now) × (a.most < length a.final-figures.now)
-formed c =
-    let a = c.before.before.before.before.before.before.before.before.before.before.before.before.before.before.args in
-    let passed : IsWellFormed a.letters a.entries.now a.finals.now × (a.most < length c.before.before.before.before.before.before.before.before.clear-figures.new.0) × (a.most < length c.before.before.before.before.clear-figures2.new.0) =
-    says_yes (not-false c.before.can-be-counted.result c.if1.false) c.before.can-be-counted.ensures in
-    (passed.0, omega (arith, passed.1, c.before.before.before.before.before.before.before.before.clear-figures.auto.0), omega (arith, passed.2, c.before.before.before.before.clear-figures2.auto.0))
-
 pub clear_figures-requires : goal.clear_figures-requires
-clear_figures-requires c κs = tt
+clear_figures-requires c = tt
 
 pub clear_figures-requires-2 : goal.clear_figures-requires-2
-clear_figures-requires-2 c κs = tt
+clear_figures-requires-2 c = tt
 
 pub can_be_counted-requires : goal.can_be_counted-requires
-can_be_counted-requires c κs = tt
-
-pub shape_of-figures-then-not-can_be_counted : goal.shape_of-figures-then-not-can_be_counted
-shape_of-figures-then-not-can_be_counted c = c.clear_figures.auto.0
-
-pub shape_of-final_figures-then-not-can_be_counted : goal.shape_of-final_figures-then-not-can_be_counted
-shape_of-final_figures-then-not-can_be_counted c = c.clear_figures-2.auto.0
+can_be_counted-requires c = tt
 
 pub returns-then-not-can_be_counted : goal.returns-then-not-can_be_counted
 returns-then-not-can_be_counted c =
@@ -46,42 +32,38 @@ returns-then-not-can_be_counted c =
     clear.ensures final-clear.ensures
 
 pub count_rows-requires : goal.count_rows-requires
-count_rows-requires c κs = says_yes (not-false c.can_be_counted.result c.if-not-can_be_counted.false) c.can_be_counted.ensures
+count_rows-requires c = says_yes (not-false c.can_be_counted.result c.if-not-can_be_counted.false) c.can_be_counted.ensures
 
 pub are_bounded-requires : goal.are_bounded-requires
-are_bounded-requires c κs = tt
-
-pub shape_of-figures-then-are_bounded : goal.shape_of-figures-then-are_bounded
-shape_of-figures-then-are_bounded c = c.count_rows.auto.1.1.1.1.0 ∙ c.clear_figures.auto.0
-
-pub shape_of-final_figures-then-are_bounded : goal.shape_of-final_figures-then-are_bounded
-shape_of-final_figures-then-are_bounded c = c.count_rows.auto.1.1.1.1.1.0 ∙ c.clear_figures-2.auto.0
+are_bounded-requires c = tt
 
 pub returns-then-are_bounded : goal.returns-then-are_bounded
 returns-then-are_bounded c =
+    let formed : let a = c.args in IsWellFormed a.letters a.entries.now a.finals.now × (a.most < length a.figures.now) × (a.most < length a.final-figures.now) = (let a = c.args in
+    let passed : IsWellFormed a.letters a.entries.now a.finals.now × (a.most < length c.clear_figures.new.list) × (a.most < length c.clear_figures-2.new.list) =
+    says_yes (not-false c.can_be_counted.result c.if-not-can_be_counted.false) c.can_be_counted.ensures in
+    (passed.0, omega (arith, passed.1, c.clear_figures.auto.0), omega (arith, passed.2, c.clear_figures-2.auto.0))) in
     let a = c.args in
     let counted = c.count_rows.ensures in
     all-counted a.letters a.entries.now a.finals.now a.most (length a.figures.now) (length a.final-figures.now) c.clear_figures.ensures c.clear_figures-2.ensures
-    (formed c) counted.0 counted.1 (says_yes c.if-are_bounded.true c.are_bounded.ensures)
+    (formed) counted.0 counted.1 (says_yes c.if-are_bounded.true c.are_bounded.ensures)
 
 pub clear_figures-requires-3 : goal.clear_figures-requires-3
-clear_figures-requires-3 c κs = tt
+clear_figures-requires-3 c = tt
 
 pub clear_figures-requires-4 : goal.clear_figures-requires-4
-clear_figures-requires-4 c κs = tt
-
-pub shape_of-figures : goal.shape_of-figures
-shape_of-figures c = c.clear_figures-3.auto.0 ∙ c.count_rows.auto.1.1.1.1.0 ∙ c.clear_figures.auto.0
-
-pub shape_of-final_figures : goal.shape_of-final_figures
-shape_of-final_figures c = c.clear_figures-4.auto.0 ∙ c.count_rows.auto.1.1.1.1.1.0 ∙ c.clear_figures-2.auto.0
+clear_figures-requires-4 c = tt
 
 pub returns : goal.returns
 returns c =
+    let formed : let a = c.args in IsWellFormed a.letters a.entries.now a.finals.now × (a.most < length a.figures.now) × (a.most < length a.final-figures.now) = (let a = c.args in
+    let passed : IsWellFormed a.letters a.entries.now a.finals.now × (a.most < length c.clear_figures.new.list) × (a.most < length c.clear_figures-2.new.list) =
+    says_yes (not-false c.can_be_counted.result c.if-not-can_be_counted.false) c.can_be_counted.ensures in
+    (passed.0, omega (arith, passed.1, c.clear_figures.auto.0), omega (arith, passed.2, c.clear_figures-2.auto.0))) in
     let a = c.args in
     let rows = c.count_rows in
     let clear = c.clear_figures in
     let final-clear = c.clear_figures-2 in
     not-counted a.letters a.entries.now a.finals.now a.most (length a.figures.now) (length a.final-figures.now)
-    (too_high a.letters a.entries.now a.finals.now a.most (length a.figures.now) (length a.final-figures.now) clear.ensures final-clear.ensures (formed c) rows.ensures.0 rows.ensures.1 (says_no c.if-are_bounded.false c.are_bounded.ensures))
+    (too_high a.letters a.entries.now a.finals.now a.most (length a.figures.now) (length a.final-figures.now) clear.ensures final-clear.ensures (formed) rows.ensures.0 rows.ensures.1 (says_no c.if-are_bounded.false c.are_bounded.ensures))
     (zeroed c.clear_figures-3.ensures (rows.auto.1.1.1.1.0 ∙ clear.auto.0)) (zeroed c.clear_figures-4.ensures (rows.auto.1.1.1.1.1.0 ∙ final-clear.auto.0))

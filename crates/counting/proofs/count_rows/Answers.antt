@@ -17,7 +17,7 @@ pub slice_bounds-count_in-end-2 : goal.slice_bounds-count_in-end-2
 slice_bounds-count_in-end-2 c = sym (length-take-le _ _ (array-borrow-prefix-final-counts c))
 
 pub count_in-requires : goal.count_in-requires
-count_in-requires c κs = (c.requires.0, sym (slice-aggregate-count-in c), sym (slice-aggregate-count-in-2 c), c.requires.1, c.requires.2)
+count_in-requires c = (c.requires.0, sym (slice-aggregate-count-in c), sym (slice-aggregate-count-in-2 c), c.requires.1, c.requires.2)
 
 pub returns : goal.returns
 returns c = c.count_in.ensures

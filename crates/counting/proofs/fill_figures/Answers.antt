@@ -29,11 +29,11 @@ loop-t-init c =
       refl,
       refl,
       filling-first a.letters a.entries.now (λ finals. any_state) a.counts.now a.figures.now s.requires.0.some_row (omega (arith, s.requires.1)),
-      filling-first a.letters a.entries.now has_final_byte a.final-counts.now a.final-figures.now (omega (arith, s.requires.0.some_row, s.requires.0.same_rows)) (omega (arith, s.requires.2)),
+      filling-first a.letters a.entries.now has_final_byte a.final-counts.now a.final_figures.now (omega (arith, s.requires.0.some_row, s.requires.0.same_rows)) (omega (arith, s.requires.2)),
     )
 
 pub add_letter-requires : goal.add_letter-requires
-add_letter-requires c κs =
+add_letter-requires c =
     let s = c in
     let loop = c.loop-t in
     let begun = s.requires.0 in
@@ -55,10 +55,10 @@ pub bounds-final_counts-0-in-loop-t : goal.bounds-final_counts-0-in-loop-t
 bounds-final_counts-0-in-loop-t c = omega (arith, c.add_letter.auto.1.1.1.0, c.loop-t.invariant.2, c.requires.0.some_row, c.requires.0.same_rows)
 
 pub offset_bounds-final_figures-t : goal.offset_bounds-final_figures-t
-offset_bounds-final_figures-t c = let a = c.args in omega (arith, c.loop-t-test.true, c.loop-t.invariant.4, c.requires.2, length-set a.final-figures.now 0 (get_or a.final-counts.now 0 0))
+offset_bounds-final_figures-t c = let a = c.args in omega (arith, c.loop-t-test.true, c.loop-t.invariant.4, c.requires.2, length-set a.final_figures.now 0 (get_or a.final-counts.now 0 0))
 
 pub bounds-final_figures-t : goal.bounds-final_figures-t
-bounds-final_figures-t c = let a = c.args in omega (arith, c.loop-t-test.true, c.loop-t.invariant.4, c.requires.2, length-set a.final-figures.now 0 (get_or a.final-counts.now 0 0))
+bounds-final_figures-t c = let a = c.args in omega (arith, c.loop-t-test.true, c.loop-t.invariant.4, c.requires.2, length-set a.final_figures.now 0 (get_or a.final-counts.now 0 0))
 
 pub loop-t-smaller : goal.loop-t-smaller
 loop-t-smaller c = omega (arith, c.loop-t-test.true)
@@ -75,24 +75,12 @@ loop-t-preserved c =
       call.auto.1.1.0 ∙ loop.invariant.1,
       call.auto.1.1.1.0 ∙ loop.invariant.2,
       length-set loop.figures (loop.t + 1) (get_or call.new.1.1.0 0 0) ∙ loop.invariant.3,
-      length-set loop.final-figures (loop.t + 1) (get_or call.new.1.1.1.0 0 0) ∙ loop.invariant.4,
+      length-set loop.final_figures (loop.t + 1) (get_or call.new.1.1.1.0 0 0) ∙ loop.invariant.4,
       filling-more a.letters a.entries.now (λ finals. any_state) a.counts.now (set a.figures.now 0 (get_or a.counts.now 0 0)) (omega (arith, loop.invariant.1, begun.some_row)) call.auto.1.1.0
           (omega (arith, loop.invariant.3, s.requires.1, length-set a.figures.now 0 (get_or a.counts.now 0 0))) loop.invariant.5 call.ensures.0,
-      filling-more a.letters a.entries.now has_final_byte a.final-counts.now (set a.final-figures.now 0 (get_or a.final-counts.now 0 0)) (omega (arith, loop.invariant.2, begun.some_row, begun.same_rows)) call.auto.1.1.1.0
-          (omega (arith, loop.invariant.4, s.requires.2, length-set a.final-figures.now 0 (get_or a.final-counts.now 0 0))) loop.invariant.6 (λ i l. call.ensures.1 i (omega (arith, loop.invariant.1, loop.invariant.2, begun.same_rows))),
+      filling-more a.letters a.entries.now has_final_byte a.final-counts.now (set a.final_figures.now 0 (get_or a.final-counts.now 0 0)) (omega (arith, loop.invariant.2, begun.some_row, begun.same_rows)) call.auto.1.1.1.0
+          (omega (arith, loop.invariant.4, s.requires.2, length-set a.final_figures.now 0 (get_or a.final-counts.now 0 0))) loop.invariant.6 (λ i l. call.ensures.1 i (omega (arith, loop.invariant.1, loop.invariant.2, begun.same_rows))),
     )
-
-pub shape_of-counts : goal.shape_of-counts
-shape_of-counts c = c.loop-t.invariant.1
-
-pub shape_of-final_counts : goal.shape_of-final_counts
-shape_of-final_counts c = c.loop-t.invariant.2
-
-pub shape_of-figures : goal.shape_of-figures
-shape_of-figures c = let a = c.args in c.loop-t.invariant.3 ∙ length-set a.figures.now 0 (get_or a.counts.now 0 0)
-
-pub shape_of-final_figures : goal.shape_of-final_figures
-shape_of-final_figures c = let a = c.args in c.loop-t.invariant.4 ∙ length-set a.final-figures.now 0 (get_or a.final-counts.now 0 0)
 
 pub returns : goal.returns
 returns c =

@@ -1,7 +1,7 @@
 -- `counting::first_counts` meets its contract: the rows passed have their counts for no letter (Figures).
 use Prim.Native.Nat.{◌-◌}
 use native.Mathlib.Omega.{arith}
-use mathlib.Core.Path.{◌≡◌, refl, sym, ◌∙◌}
+use mathlib.Core.Path.{◌≡◌, refl}
 use mathlib.Core.Bool.{cond}
 use lib.ListN.{length, length-set}
 use Rattle.basics.proofs.Lists.{below_set}
@@ -13,7 +13,7 @@ pub loop-row-init : goal.loop-row-init
 loop-row-init c = (omega arith, c.requires.0, c.requires.1, λ j h. absurd (omega arith), λ j h. absurd (omega arith))
 
 pub final_count-requires : goal.final_count-requires
-final_count-requires c κs = tt
+final_count-requires c = tt
 
 pub loop-row-preserved : goal.loop-row-preserved
 loop-row-preserved c =
@@ -23,18 +23,12 @@ loop-row-preserved c =
       simp length-set loop.invariant.1,
       simp length-set loop.invariant.2,
       below_set (λ s v. v ≡ 1) loop.counts loop.row 1 (omega arith) loop.invariant.3 refl,
-      below_set (λ s v. v ≡ cond (has_final_byte finals s) 1 0) loop.final-counts loop.row c.final_count.result (omega arith) loop.invariant.4 c.final_count.ensures,
+      below_set (λ s v. v ≡ cond (has_final_byte finals s) 1 0) loop.final_counts loop.row c.final_count.result (omega arith) loop.invariant.4 c.final_count.ensures,
     )
-
-pub shape_of-counts : goal.shape_of-counts
-shape_of-counts c = c.loop-row.invariant.1 ∙ sym c.requires.0
-
-pub shape_of-final_counts : goal.shape_of-final_counts
-shape_of-final_counts c = c.loop-row.invariant.2 ∙ sym c.requires.1
 
 pub returns : goal.returns
 returns c =
     λ k entries.
     let finals = c.args.finals.now in
     let loop = c.loop-row in
-    (first-held k entries finals loop.counts any_state loop.invariant.1 (λ j l. loop.invariant.3 j (omega arith)), first-held k entries finals loop.final-counts (has_final_byte finals) loop.invariant.2 (λ j l. loop.invariant.4 j (omega arith)))
+    (first-held k entries finals loop.counts any_state loop.invariant.1 (λ j l. loop.invariant.3 j (omega arith)), first-held k entries finals loop.final_counts (has_final_byte finals) loop.invariant.2 (λ j l. loop.invariant.4 j (omega arith)))

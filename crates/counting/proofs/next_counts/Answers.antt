@@ -10,32 +10,41 @@ use Rattle.figure_sums.specs.Sums.{letter_sum, figure_cut}
 use Rattle.counting.proofs.Figures.{row-counted, next_start}
 use Rattle.counting.proofs.next_counts.Goals as goal
 
--- The row lies within the entries.
-row_within : (c : tie.In-loop invariant-loop decreases-loop) → c.before.loop.row * c.before.before.before.before.before.before.before.args.letters + c.before.before.before.before.before.before.before.args.letters ≤ length c.before.before.before.before.before.before.before.args.entries.now
-row_within c =
-    let a = c.before.before.before.before.before.before.before.args in
-    row_fits c.before.loop.row (length a.counts.now) a.letters (length a.entries.now) c.loop-test.true (omega (arith, c.before.before.before.before.before.before.before.requires.0))
-
 pub loop-row-init : goal.loop-row-init
 loop-row-init c = (omega arith, omega arith, refl, refl, λ i l. absurd (omega arith), λ i l. absurd (omega arith))
 
 pub overflow_add-end : goal.overflow_add-end
-overflow_add-end c = omega (arith, row_within c, c.loop-row.invariant.1)
+overflow_add-end c =
+    let row_within : c.loop-row.row * c.args.letters + c.args.letters ≤ length c.args.entries.now = (let a = c.args in
+    row_fits c.loop-row.row (length a.counts.now) a.letters (length a.entries.now) c.loop-row-test.true (omega (arith, c.requires.0))) in
+    omega (arith, row_within, c.loop-row.invariant.1)
 
 pub offset_bounds-entries-start : goal.offset_bounds-entries-start
-offset_bounds-entries-start c = omega (arith, row_within c, c.loop-row.invariant.1)
+offset_bounds-entries-start c =
+    let row_within : c.loop-row.row * c.args.letters + c.args.letters ≤ length c.args.entries.now = (let a = c.args in
+    row_fits c.loop-row.row (length a.counts.now) a.letters (length a.entries.now) c.loop-row-test.true (omega (arith, c.requires.0))) in
+    omega (arith, row_within, c.loop-row.invariant.1)
 
 pub slice_bounds-row_sums-count : goal.slice_bounds-row_sums-count
-slice_bounds-row_sums-count c = omega (arith, row_within c, c.loop-row.invariant.1)
+slice_bounds-row_sums-count c =
+    let row_within : c.loop-row.row * c.args.letters + c.args.letters ≤ length c.args.entries.now = (let a = c.args in
+    row_fits c.loop-row.row (length a.counts.now) a.letters (length a.entries.now) c.loop-row-test.true (omega (arith, c.requires.0))) in
+    omega (arith, row_within, c.loop-row.invariant.1)
 
 pub slice_bounds-row_sums-start : goal.slice_bounds-row_sums-start
-slice_bounds-row_sums-start c = omega (arith, row_within c, c.loop-row.invariant.1)
+slice_bounds-row_sums-start c =
+    let row_within : c.loop-row.row * c.args.letters + c.args.letters ≤ length c.args.entries.now = (let a = c.args in
+    row_fits c.loop-row.row (length a.counts.now) a.letters (length a.entries.now) c.loop-row-test.true (omega (arith, c.requires.0))) in
+    omega (arith, row_within, c.loop-row.invariant.1)
 
 pub slice_bounds-row_sums-end : goal.slice_bounds-row_sums-end
-slice_bounds-row_sums-end c = omega (arith, row_within c, c.loop-row.invariant.1)
+slice_bounds-row_sums-end c =
+    let row_within : c.loop-row.row * c.args.letters + c.args.letters ≤ length c.args.entries.now = (let a = c.args in
+    row_fits c.loop-row.row (length a.counts.now) a.letters (length a.entries.now) c.loop-row-test.true (omega (arith, c.requires.0))) in
+    omega (arith, row_within, c.loop-row.invariant.1)
 
 pub row_sums-sums-requires : goal.row_sums-sums-requires
-row_sums-sums-requires c κs = tt
+row_sums-sums-requires c = tt
 
 pub offset_bounds-next-row : goal.offset_bounds-next-row
 offset_bounds-next-row c = omega arith
@@ -57,10 +66,12 @@ loop-row-smaller c = omega arith
 
 pub loop-row-preserved : goal.loop-row-preserved
 loop-row-preserved c =
+    let row_within : c.loop-row.row * c.args.letters + c.args.letters ≤ length c.args.entries.now = (let a = c.args in
+    row_fits c.loop-row.row (length a.counts.now) a.letters (length a.entries.now) c.loop-row-test.true (omega (arith, c.requires.0))) in
     let a = c.args in
     let entries = a.entries.now in
     let loop = c.loop-row in
-    let within = row_within c in
+    let within = row_within in
     let next : List ℕ → ℕ → ℕ → Type 0 = λ counts s v. v ≡ min (letter_sum a.letters (λ b. get_or counts (entry_at a.letters entries s b) 0)) figure_cut in (
       omega arith,
       next_start loop.row a.letters loop.invariant.1,
@@ -68,15 +79,9 @@ loop-row-preserved c =
       simp length-set loop.invariant.3,
       below_set (next a.counts.now) loop.next loop.row c.row_sums-sums.result.all (omega arith) loop.invariant.4
           (row-counted a.letters entries a.counts.now loop.row within loop.invariant.1 refl c.row_sums-sums.ensures.0),
-      below_set (next a.final-counts.now) loop.final-next loop.row c.row_sums-sums.result.ending (omega arith) loop.invariant.5
-          (row-counted a.letters entries a.final-counts.now loop.row within loop.invariant.1 refl c.row_sums-sums.ensures.1),
+      below_set (next a.final_counts.now) loop.final_next loop.row c.row_sums-sums.result.ending (omega arith) loop.invariant.5
+          (row-counted a.letters entries a.final_counts.now loop.row within loop.invariant.1 refl c.row_sums-sums.ensures.1),
     )
-
-pub shape_of-next : goal.shape_of-next
-shape_of-next c = c.loop-row.invariant.2
-
-pub shape_of-final_next : goal.shape_of-final_next
-shape_of-final_next c = c.loop-row.invariant.3
 
 pub returns : goal.returns
 returns c = (λ i l. c.loop-row.invariant.4 i (omega arith), λ i l. c.loop-row.invariant.5 i (omega arith))

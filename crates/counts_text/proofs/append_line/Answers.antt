@@ -13,16 +13,16 @@ pub returns-then-out-at : goal.returns-then-out-at
 returns-then-out-at c = no_place c.args.out.now c.if-out-at.true c.requires
 
 pub shown-requires : goal.shown-requires
-shown-requires c κs = tt
+shown-requires c = tt
 
 pub shown-requires-2 : goal.shown-requires-2
-shown-requires-2 c κs = tt
+shown-requires-2 c = tt
 
 pub shown-requires-3 : goal.shown-requires-3
-shown-requires-3 c κs = tt
+shown-requires-3 c = tt
 
 pub numbers_line-requires : goal.numbers_line-requires
-numbers_line-requires c κs = tt
+numbers_line-requires c = tt
 
 pub overflow_add-result : goal.overflow_add-result
 overflow_add-result c =
@@ -34,5 +34,5 @@ returns c =
     let a = c.args in
     let x = shown-value a.letters c.shown.ensures in
     let y = shown-value a.figure c.shown-2.ensures in
-    let z = shown-value a.final-figure c.shown-3.ensures in
+    let z = shown-value a.final_figure c.shown-3.ensures in
     placed-line a.out.now a.at c.if-out-at.false (appends_same c.numbers_line.ensures (λ i. tokens_line (decimal (x i) ∷ (decimal (y i) ∷ (decimal (z i) ∷ [])))))

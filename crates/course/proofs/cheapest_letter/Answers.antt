@@ -13,15 +13,6 @@ use Rattle.course.specs.Costs.{Layered, layered_in, behind}
 use Rattle.course.proofs.Cheapest.{total-small, IsFirstLeast, least_start, least-lower, least_kept, least-end}
 use Rattle.course.proofs.cheapest_letter.Goals as goal
 
-abbrev table : (c : tie.Start invariant-loop decreases-loop) → Layered
-table c = let a = c.args in layered_in a.letters a.entries.now a.finals.now a.layers.now a.goal
-
--- the place of the letter's entry
-place : (c : tie.In-loop invariant-loop decreases-loop) → let a = c.before.before.before.before.before.before.before.before.args in a.row * a.letters + c.before.loop.letter < length a.entries.now
-place c =
-    let start = c.before.before.before.before.before.before.before.before in
-    place_inside start.requires.0 start.args.row c.before.loop.letter start.requires.1.2 c.loop-test.true
-
 pub overflow_mul-start : goal.overflow_mul-start
 overflow_mul-start c =
     let start = c in
@@ -34,19 +25,30 @@ pub overflow_add-next : goal.overflow_add-next
 overflow_add-next c = omega (arith, c.requires.1.3)
 
 pub loop-letter-init : goal.loop-letter-init
-loop-letter-init c = let start = c in (omega arith, least_start (table start) start.args.costs.now (at start.args.changes.now) start.args.row)
+loop-letter-init c =
+    let table : Layered = let a = c.args in layered_in a.letters a.entries.now a.finals.now a.layers.now a.goal in
+    let start = c in (omega arith, least_start (table) start.args.costs.now (at start.args.changes.now) start.args.row)
 
 pub overflow_add-entry : goal.overflow_add-entry
-overflow_add-entry c = omega (arith, place c)
+overflow_add-entry c =
+    let place : let a = c.args in a.row * a.letters + c.loop-letter.letter < length a.entries.now = (let start = c in
+    place_inside start.requires.0 start.args.row c.loop-letter.letter start.requires.1.2 c.loop-letter-test.true) in
+    omega (arith, place)
 
 pub offset_bounds-entries-start : goal.offset_bounds-entries-start
-offset_bounds-entries-start c = omega (arith, place c)
+offset_bounds-entries-start c =
+    let place : let a = c.args in a.row * a.letters + c.loop-letter.letter < length a.entries.now = (let start = c in
+    place_inside start.requires.0 start.args.row c.loop-letter.letter start.requires.1.2 c.loop-letter-test.true) in
+    omega (arith, place)
 
 pub bounds-entries-start : goal.bounds-entries-start
-bounds-entries-start c = place c
+bounds-entries-start c =
+    let place : let a = c.args in a.row * a.letters + c.loop-letter.letter < length a.entries.now = (let start = c in
+    place_inside start.requires.0 start.args.row c.loop-letter.letter start.requires.1.2 c.loop-letter-test.true) in
+    place
 
 pub cost_behind-cost-requires : goal.cost_behind-cost-requires
-cost_behind-cost-requires c κs =
+cost_behind-cost-requires c =
     let start = c in
     let taken = c.loop-letter-test.true in
     (some-row-entry (whole-entries start.requires.0) start.args.row c.loop-letter.letter start.requires.1.2 taken, (start.requires.1.0, start.requires.1.1, taken))
@@ -65,17 +67,18 @@ loop-letter-smaller c = omega arith
 
 pub loop-letter-preserved : goal.loop-letter-preserved
 loop-letter-preserved c =
+    let table : Layered = let a = c.args in layered_in a.letters a.entries.now a.finals.now a.layers.now a.goal in
     let up = c in
     let start = up in
     let a = start.args in
     let t = table start in
     let first = at a.changes.now in
-    let turn = up.loop in
-    let cost = up.cost-behind.ensures a.entries.now in
+    let turn = up.loop-letter in
+    let cost = up.cost_behind-cost.ensures a.entries.now in
     let total : c.total_cost-total.result ≡ total_cost (first turn.letter) (behind t a.costs.now a.row turn.letter) =
     c.total_cost-total.ensures ∙ ap (total_cost (first turn.letter)) cost in
     let small : behind t a.costs.now a.row turn.letter ≢ no_course → total_cost (first turn.letter) (behind t a.costs.now a.row turn.letter) < 131072 =
-    λ ne. total-small (first turn.letter) (behind t a.costs.now a.row turn.letter) (omega (arith, c.type_inv.changes turn.letter)) (omega (arith, cost, up.cost-behind.type-inv)) ne in (
+    λ ne. total-small (first turn.letter) (behind t a.costs.now a.row turn.letter) (omega (arith, c.type_inv.changes turn.letter)) (omega (arith, cost, up.cost_behind-cost.type-inv)) ne in (
       omega arith,
       ⊎_elim
           (λ w. subst (λ (n : ℕ). IsFirstLeast t a.costs.now first a.row (turn.letter + 1) n c.if-total-least.least) (sym w.1) (subst (λ (n : ℕ). IsFirstLeast t a.costs.now first a.row (turn.letter + 1) turn.letter n) (sym (w.2 ∙ total))
@@ -87,8 +90,9 @@ loop-letter-preserved c =
 
 pub returns : goal.returns
 returns c =
+    let table : Layered = let a = c.args in layered_in a.letters a.entries.now a.finals.now a.layers.now a.goal in
     let start = c in
     let a = start.args in
     let end : c.loop-letter.letter ≡ a.letters = omega arith in
-    least-end (table start) a.costs.now (at a.changes.now) a.row
-    (subst (λ (m : ℕ). IsFirstLeast (table start) a.costs.now (at a.changes.now) a.row m c.loop-letter.best c.loop-letter.least) end c.loop-letter.invariant.1)
+    least-end (table) a.costs.now (at a.changes.now) a.row
+    (subst (λ (m : ℕ). IsFirstLeast (table) a.costs.now (at a.changes.now) a.row m c.loop-letter.best c.loop-letter.least) end c.loop-letter.invariant.1)

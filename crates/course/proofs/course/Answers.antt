@@ -7,13 +7,7 @@ use Rattle.course.specs.Outcome.{BestCourse}
 use Rattle.course.proofs.course.Goals as goal
 
 pub judged_course-answer-requires : goal.judged_course-answer-requires
-judged_course-answer-requires c κs = zeroed c.fill.ensures (sym c.fill.auto.0)
-
-pub shape_of-list : goal.shape_of-list
-shape_of-list c = c.judged_course-answer.auto.1.1.1.1.1.0 ∙ c.fill.auto.0
-
-pub shape_of-work : goal.shape_of-work
-shape_of-work c = c.clear_entries.auto.0 ∙ c.judged_course-answer.auto.1.1.1.1.1.1.0
+judged_course-answer-requires c = zeroed c.fill.ensures (sym c.fill.auto.0)
 
 pub returns : goal.returns
 returns c =

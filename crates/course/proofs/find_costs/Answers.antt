@@ -10,16 +10,6 @@ use Rattle.course.proofs.Queue.{queue_most}
 use Rattle.course.proofs.Costs.{known_start, known_passed, known_more, known_end}
 use Rattle.course.proofs.find_costs.Goals as goal
 
--- the place before `left` lies in the queue, and its row in the table
-place : (c : tie.In-loop invariant-loop decreases-loop) → c.before.loop.left - 1 < c.before.before.before.before.before.before.before.args.met.count
-place c = omega arith
-
-in_queue : (c : tie.In-loop invariant-loop decreases-loop) → c.before.loop.left - 1 < length c.before.before.before.before.before.before.before.args.queue.now
-in_queue c = let start = c.before.before.before.before.before.before.before in omega (arith, place c, queue_most start.requires.1.1, start.requires.1.0.1)
-
-row_inside : (c : tie.In-loop invariant-loop decreases-loop) → at c.before.before.before.before.before.before.before.args.queue.now (c.before.loop.left - 1) < length c.before.before.before.before.before.before.before.args.layers.now
-row_inside c = c.before.before.before.before.before.before.before.requires.1.1.rows (c.before.loop.left - 1) (place c)
-
 pub loop-left-init : goal.loop-left-init
 loop-left-init c = (omega arith, refl, known_start c.requires.1.1)
 
@@ -27,26 +17,43 @@ pub overflow_sub-left : goal.overflow_sub-left
 overflow_sub-left c = omega arith
 
 pub offset_bounds-queue-left : goal.offset_bounds-queue-left
-offset_bounds-queue-left c = omega (arith, in_queue c)
+offset_bounds-queue-left c =
+    let place : c.loop-left.left - 1 < c.args.met.count = omega arith in
+    let in_queue : c.loop-left.left - 1 < length c.args.queue.now = let start = c in omega (arith, place, queue_most start.requires.1.1, start.requires.1.0.1) in
+    omega (arith, in_queue)
 
 pub bounds-queue-left : goal.bounds-queue-left
-bounds-queue-left c = in_queue c
+bounds-queue-left c =
+    let place : c.loop-left.left - 1 < c.args.met.count = omega arith in
+    let in_queue : c.loop-left.left - 1 < length c.args.queue.now = let start = c in omega (arith, place, queue_most start.requires.1.1, start.requires.1.0.1) in
+    in_queue
 
 pub overflow_cast-row : goal.overflow_cast-row
-overflow_cast-row c = omega (arith, row_inside c, c.requires.0.few_rows)
+overflow_cast-row c =
+    let place : c.loop-left.left - 1 < c.args.met.count = omega arith in
+    let row_inside : at c.args.queue.now (c.loop-left.left - 1) < length c.args.layers.now = c.requires.1.1.rows (c.loop-left.left - 1) (place) in
+    omega (arith, row_inside, c.requires.0.few_rows)
 
 pub offset_bounds-layers-row : goal.offset_bounds-layers-row
-offset_bounds-layers-row c = omega (arith, row_inside c, c.requires.0.few_rows)
+offset_bounds-layers-row c =
+    let place : c.loop-left.left - 1 < c.args.met.count = omega arith in
+    let row_inside : at c.args.queue.now (c.loop-left.left - 1) < length c.args.layers.now = c.requires.1.1.rows (c.loop-left.left - 1) (place) in
+    omega (arith, row_inside, c.requires.0.few_rows)
 
 pub bounds-layers-row : goal.bounds-layers-row
-bounds-layers-row c = row_inside c
+bounds-layers-row c =
+    let place : c.loop-left.left - 1 < c.args.met.count = omega arith in
+    let row_inside : at c.args.queue.now (c.loop-left.left - 1) < length c.args.layers.now = c.requires.1.1.rows (c.loop-left.left - 1) (place) in
+    row_inside
 
 pub find_row-requires : goal.find_row-requires
-find_row-requires c κs =
+find_row-requires c =
+    let place : c.loop-left.left - 1 < c.args.met.count = omega arith in
+    let row_inside : at c.args.queue.now (c.loop-left.left - 1) < length c.args.layers.now = c.requires.1.1.rows (c.loop-left.left - 1) (place) in
     let start = c in
     let sizes = start.requires.1.0 in
     let turn = c.loop-left in
-    (start.requires.0, (sizes.0, omega (arith, sizes.2, turn.invariant.1), row_inside c, omega (arith, c.if-layers-row.true, sizes.3), sizes.4))
+    (start.requires.0, (sizes.0, omega (arith, sizes.2, turn.invariant.1), row_inside, omega (arith, c.if-layers-row.true, sizes.3), sizes.4))
 
 pub loop-left-smaller-then-layers-row : goal.loop-left-smaller-then-layers-row
 loop-left-smaller-then-layers-row c = omega arith
@@ -70,9 +77,6 @@ loop-left-preserved c =
     let start = c in
     let turn = c.loop-left in
     (omega arith, turn.invariant.1, known_passed start.requires.1.1 c.loop-left-test.true c.if-layers-row.false turn.invariant.2)
-
-pub shape_of-costs : goal.shape_of-costs
-shape_of-costs c = c.loop-left.invariant.1
 
 pub returns : goal.returns
 returns c = known_end c.requires.1.1 c.loop-left-test.false c.loop-left.invariant.2

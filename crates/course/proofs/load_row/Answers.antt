@@ -9,23 +9,10 @@ use Rattle.course.specs.Costs.{Layered, layered_in, LoadsRow}
 use Rattle.course.proofs.Rows.{load_start, load_next}
 use Rattle.course.proofs.load_row.Goals as goal
 
-abbrev table : (c : tie.Start invariant-loop decreases-loop) → Layered
-table c = let a = c.args in layered_in a.letters a.entries.now a.finals.now a.layers.now a.goal
-
--- the row's places
-row_inside : (c : tie.Start invariant-loop decreases-loop) → c.args.row * c.args.letters + c.args.letters ≤ length c.args.costs.now
-row_inside c = row_fits c.args.row (length c.args.layers.now) c.args.letters (length c.args.costs.now) c.requires.1.2 c.requires.1.1
-
-place : (c : tie.In-loop invariant-loop decreases-loop) → let a = c.before.before.before.before.before.before.before.args in a.row * a.letters + c.before.loop.letter < length c.before.loop.costs
-place c = omega (arith, row_inside c.before.before.before.before.before.before.before, c.before.loop.invariant.1.same_length)
-
-entry_place : (c : tie.In-loop invariant-loop decreases-loop) → let a = c.before.before.before.before.before.before.before.args in a.row * a.letters + c.before.loop.letter < length a.entries.now
-entry_place c =
-    let start = c.before.before.before.before.before.before.before in
-    place_inside start.requires.0 start.args.row c.before.loop.letter start.requires.1.2 c.loop-test.true
-
 pub overflow_mul-start : goal.overflow_mul-start
-overflow_mul-start c = omega (arith, row_inside c)
+overflow_mul-start c =
+    let row_inside : c.args.row * c.args.letters + c.args.letters ≤ length c.args.costs.now = row_fits c.args.row (length c.args.layers.now) c.args.letters (length c.args.costs.now) c.requires.1.2 c.requires.1.1 in
+    omega (arith, row_inside)
 
 pub bounds-layers-row : goal.bounds-layers-row
 bounds-layers-row c = c.requires.1.2
@@ -34,19 +21,30 @@ pub overflow_add-next : goal.overflow_add-next
 overflow_add-next c = omega (arith, c.requires.1.3)
 
 pub loop-letter-init : goal.loop-letter-init
-loop-letter-init c = let start = c in (omega arith, load_start (table start) start.args.row start.args.costs.now)
+loop-letter-init c =
+    let table : Layered = let a = c.args in layered_in a.letters a.entries.now a.finals.now a.layers.now a.goal in
+    let start = c in (omega arith, load_start (table) start.args.row start.args.costs.now)
 
 pub overflow_add-entry : goal.overflow_add-entry
-overflow_add-entry c = omega (arith, entry_place c)
+overflow_add-entry c =
+    let entry_place : let a = c.args in a.row * a.letters + c.loop-letter.letter < length a.entries.now = (let start = c in
+    place_inside start.requires.0 start.args.row c.loop-letter.letter start.requires.1.2 c.loop-letter-test.true) in
+    omega (arith, entry_place)
 
 pub offset_bounds-entries-start : goal.offset_bounds-entries-start
-offset_bounds-entries-start c = omega (arith, entry_place c)
+offset_bounds-entries-start c =
+    let entry_place : let a = c.args in a.row * a.letters + c.loop-letter.letter < length a.entries.now = (let start = c in
+    place_inside start.requires.0 start.args.row c.loop-letter.letter start.requires.1.2 c.loop-letter-test.true) in
+    omega (arith, entry_place)
 
 pub bounds-entries-start : goal.bounds-entries-start
-bounds-entries-start c = entry_place c
+bounds-entries-start c =
+    let entry_place : let a = c.args in a.row * a.letters + c.loop-letter.letter < length a.entries.now = (let start = c in
+    place_inside start.requires.0 start.args.row c.loop-letter.letter start.requires.1.2 c.loop-letter-test.true) in
+    entry_place
 
 pub cost_behind-requires : goal.cost_behind-requires
-cost_behind-requires c κs =
+cost_behind-requires c =
     let start = c in
     let turn = c.loop-letter in (
       some-row-entry (whole-entries start.requires.0) start.args.row turn.letter start.requires.1.2 c.loop-letter-test.true,
@@ -54,13 +52,22 @@ cost_behind-requires c κs =
     )
 
 pub overflow_add-costs : goal.overflow_add-costs
-overflow_add-costs c = omega (arith, place c)
+overflow_add-costs c =
+    let row_inside : c.args.row * c.args.letters + c.args.letters ≤ length c.args.costs.now = row_fits c.args.row (length c.args.layers.now) c.args.letters (length c.args.costs.now) c.requires.1.2 c.requires.1.1 in
+    let place : let a = c.args in a.row * a.letters + c.loop-letter.letter < length c.loop-letter.costs = omega (arith, row_inside, c.loop-letter.invariant.1.same_length) in
+    omega (arith, place)
 
 pub offset_bounds-costs-start : goal.offset_bounds-costs-start
-offset_bounds-costs-start c = omega (arith, place c)
+offset_bounds-costs-start c =
+    let row_inside : c.args.row * c.args.letters + c.args.letters ≤ length c.args.costs.now = row_fits c.args.row (length c.args.layers.now) c.args.letters (length c.args.costs.now) c.requires.1.2 c.requires.1.1 in
+    let place : let a = c.args in a.row * a.letters + c.loop-letter.letter < length c.loop-letter.costs = omega (arith, row_inside, c.loop-letter.invariant.1.same_length) in
+    omega (arith, place)
 
 pub bounds-costs-start : goal.bounds-costs-start
-bounds-costs-start c = place c
+bounds-costs-start c =
+    let row_inside : c.args.row * c.args.letters + c.args.letters ≤ length c.args.costs.now = row_fits c.args.row (length c.args.layers.now) c.args.letters (length c.args.costs.now) c.requires.1.2 c.requires.1.1 in
+    let place : let a = c.args in a.row * a.letters + c.loop-letter.letter < length c.loop-letter.costs = omega (arith, row_inside, c.loop-letter.invariant.1.same_length) in
+    place
 
 pub overflow_add-letter : goal.overflow_add-letter
 overflow_add-letter c = omega arith
@@ -70,15 +77,16 @@ loop-letter-smaller c = omega arith
 
 pub loop-letter-preserved : goal.loop-letter-preserved
 loop-letter-preserved c =
+    let table : Layered = let a = c.args in layered_in a.letters a.entries.now a.finals.now a.layers.now a.goal in
+    let row_inside : c.args.row * c.args.letters + c.args.letters ≤ length c.args.costs.now = row_fits c.args.row (length c.args.layers.now) c.args.letters (length c.args.costs.now) c.requires.1.2 c.requires.1.1 in
+    let place : let a = c.args in a.row * a.letters + c.loop-letter.letter < length c.loop-letter.costs = omega (arith, row_inside, c.loop-letter.invariant.1.same_length) in
     let start = c in
     let turn = c.loop-letter in
-    (omega arith, load_next (table start) start.args.row c.loop-letter-test.true (place c) turn.invariant.1 (c.cost_behind.ensures start.args.entries.now))
-
-pub shape_of-costs : goal.shape_of-costs
-shape_of-costs c = c.loop-letter.invariant.1.same_length
+    (omega arith, load_next (table) start.args.row c.loop-letter-test.true (place) turn.invariant.1 (c.cost_behind.ensures start.args.entries.now))
 
 pub returns : goal.returns
 returns c =
+    let table : Layered = let a = c.args in layered_in a.letters a.entries.now a.finals.now a.layers.now a.goal in
     let start = c in
     let end : c.loop-letter.letter ≡ start.args.letters = omega arith in
-    subst (λ (m : ℕ). LoadsRow (table start) start.args.row m start.args.costs.now c.loop-letter.costs) end c.loop-letter.invariant.1
+    subst (λ (m : ℕ). LoadsRow (table) start.args.row m start.args.costs.now c.loop-letter.costs) end c.loop-letter.invariant.1

@@ -11,18 +11,18 @@ use Rattle.course.proofs.Meeting.{row-turn-start, row_turn_room, row_turn_next, 
 use Rattle.course.proofs.meet_row.Goals as goal
 
 -- the row at the head is a row of the table, and its layer is small
-head-inside : (start : tie.Start invariant-loop decreases-loop) → at start.args.queue.now start.args.head < length start.args.layers.now
+head-inside : (start : goal.Start) → at start.args.queue.now start.args.head < length start.args.layers.now
 head-inside start = start.requires.1.1.is_queue.rows start.args.head start.requires.1.0.1
 
 -- the queue is no longer than the rows, of which there are few
-small : (start : tie.Start invariant-loop decreases-loop) → (start.args.head < length start.args.queue.now) × (length start.args.layers.now ≤ most_rows)
+small : (start : goal.Start) → (start.args.head < length start.args.queue.now) × (length start.args.layers.now ≤ most_rows)
 small start = (omega (arith, queue_most start.requires.1.1.is_queue, start.requires.1.0.0, start.requires.1.0.1), start.requires.0.few_rows)
 
-head_layer : (start : tie.Start invariant-loop decreases-loop) → at start.args.layers.now (at start.args.queue.now start.args.head) ≤ start.args.head
+head_layer : (start : goal.Start) → at start.args.layers.now (at start.args.queue.now start.args.head) ≤ start.args.head
 head_layer start = start.requires.1.1.is_queue.small start.args.head start.requires.1.0.1
 
 -- the place of the letter's entry
-place : (start : tie.Start invariant-loop decreases-loop) (letter : ℕ) → letter < start.args.letters
+place : (start : goal.Start) (letter : ℕ) → letter < start.args.letters
     → at start.args.queue.now start.args.head * start.args.letters + letter < length start.args.entries.now
 place start letter h = place_inside start.requires.0 (at start.args.queue.now start.args.head) letter (head-inside start) h
 
@@ -62,7 +62,7 @@ pub bounds-entries-start : goal.bounds-entries-start
 bounds-entries-start c = place c c.loop-letter.letter c.loop-letter-test.true
 
 pub meet-met-requires : goal.meet-met-requires
-meet-met-requires c κs = let start = c in row_turn_room start.requires.0 start.requires.1.0.0 c.loop-letter.invariant c.loop-letter-test.true
+meet-met-requires c = let start = c in row_turn_room start.requires.0 start.requires.1.0.0 c.loop-letter.invariant c.loop-letter-test.true
 
 pub overflow_add-letter : goal.overflow_add-letter
 overflow_add-letter c = omega arith
@@ -74,12 +74,6 @@ pub loop-letter-preserved : goal.loop-letter-preserved
 loop-letter-preserved c =
     let start = c in
     row_turn_next start.requires.0 start.requires.1.0.0 c.loop-letter.invariant c.loop-letter-test.true c.meet-met.ensures
-
-pub shape_of-layers : goal.shape_of-layers
-shape_of-layers c = c.loop-letter.invariant.same_layers
-
-pub shape_of-queue : goal.shape_of-queue
-shape_of-queue c = c.loop-letter.invariant.same_queue
 
 pub returns : goal.returns
 returns c = row-turn-end c.loop-letter-test.false c.loop-letter.invariant

@@ -9,7 +9,7 @@ use Rattle.course.proofs.Meeting.{rows_turn_start, rows-turn-stored, rows_turn_n
 use Rattle.course.proofs.meet_rows.Goals as goal
 
 -- the table is whole for as many rows as the lists have numbers
-whole : (start : tie.Start invariant-loop decreases-loop) → WholeTable start.args.letters (length (set start.args.layers.now start.args.start 0)) start.args.entries.now
+whole : (start : goal.Start) → WholeTable start.args.letters (length (set start.args.layers.now start.args.start 0)) start.args.entries.now
 whole start = rw length-set start.requires.0
 
 pub bounds-queue-0 : goal.bounds-queue-0
@@ -22,7 +22,7 @@ loop-head-init c =
     rows_turn_start a.layers.now a.queue.now (sym (length-set a.layers.now a.start 0)) (start.requires.1.0 ∙ sym (length-set a.layers.now a.start 0)) (rw length-set start.requires.1.1) start.requires.1.2
 
 pub meet_row-count-requires : goal.meet_row-count-requires
-meet_row-count-requires c κs =
+meet_row-count-requires c =
     let start = c in
     let t = c.loop-head.invariant in
     (rw t.long_layers (whole start), ((t.long_queue ∙ sym t.long_layers, c.loop-head-test.true), rows-turn-stored (whole start).few_rows t))
@@ -35,12 +35,6 @@ loop-head-smaller c = omega (arith, queue_most c.loop-head.invariant.turn.is_que
 
 pub loop-head-preserved : goal.loop-head-preserved
 loop-head-preserved c = rows_turn_next (whole c).few_rows c.loop-head.invariant c.meet_row-count.auto.1.1.1.0 c.meet_row-count.auto.1.1.1.1.0 c.meet_row-count.ensures
-
-pub shape_of-layers : goal.shape_of-layers
-shape_of-layers c = let a = c.args in c.loop-head.invariant.long_layers ∙ length-set a.layers.now a.start 0
-
-pub shape_of-queue : goal.shape_of-queue
-shape_of-queue c = let start = c in c.loop-head.invariant.long_queue ∙ length-set start.args.layers.now start.args.start 0 ∙ sym start.requires.1.0
 
 pub returns : goal.returns
 returns c = rows_turn_end (whole c).few_rows c.loop-head.invariant c.loop-head-test.false

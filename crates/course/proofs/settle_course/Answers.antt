@@ -10,7 +10,7 @@ returns-then-refusal-ne0 c streams shape fit =
     outcome-refused c.refused.ensures start.requires.1.0.4 (outcome-goal-refused fit start.requires.1.0.0 start.requires.1.1 c.goal_refusal-refusal.ensures c.if-refusal-ne0.true)
 
 pub write_course-requires : goal.write_course-requires
-write_course-requires c κs =
+write_course-requires c =
     let start = c in
     let sizes = start.requires.1.0 in
     let passes = goal-passes c.goal_refusal-refusal.ensures c.if-refusal-ne0.false in
@@ -22,12 +22,6 @@ overflow_cast-result c =
     let start = c in
     let passes = goal-passes c.goal_refusal-refusal.ensures c.if-refusal-ne0.false in
     omega (arith, goal-few start.requires.1.1.ended.is_queue start.requires.0.few_rows passes.0 start.requires.1.1.goal_below)
-
-pub shape_of-list : goal.shape_of-list
-shape_of-list c = c.write_course.auto.1.1.1.1.1.1.1.1.0
-
-pub shape_of-work : goal.shape_of-work
-shape_of-work c = c.write_course.auto.1.1.1.1.1.1.1.1.1.0
 
 pub returns : goal.returns
 returns c streams shape fit =

@@ -12,17 +12,12 @@ use Rattle.course.proofs.Goal.{goal-some, goal-few}
 use Rattle.course.proofs.Outcome.{filled-length, filled-part}
 use Rattle.course.proofs.write_course.Goals as goal
 
-short : (c : tie.Start) → c.args.met.goal < most_rows
-short c = goal-few c.requires.1.1.ended.is_queue c.requires.0.few_rows c.requires.1.0.3 c.requires.1.1.goal_below
-
-is-goal : (c : tie.Start) → IsGoal (final_at c.args.finals.now) (IsMet (length c.args.layers.now) (at c.args.layers.now)) (at c.args.layers.now) c.args.met.goal
-is-goal c = goal-some c.requires.1.1.ended.is_queue c.requires.0.few_rows c.requires.1.0.3 c.requires.1.1.goal_below
-
 pub find_costs-requires : goal.find_costs-requires
-find_costs-requires c κs =
+find_costs-requires c =
+    let short : c.args.met.goal < most_rows = goal-few c.requires.1.1.ended.is_queue c.requires.0.few_rows c.requires.1.0.3 c.requires.1.1.goal_below in
     let start = c in
     let sizes = start.requires.1.0 in
-    (start.requires.0, ((sizes.0, sizes.1, sizes.2, short start, sizes.5), start.requires.1.1.ended.is_queue))
+    (start.requires.0, ((sizes.0, sizes.1, sizes.2, short, sizes.5), start.requires.1.1.ended.is_queue))
 
 pub slice_bounds-follow-end : goal.slice_bounds-follow-end
 slice_bounds-follow-end c =
@@ -30,22 +25,18 @@ slice_bounds-follow-end c =
     sym (filled-length start.args.letters 1024 0 start.requires.1.0.6)
 
 pub follow-requires : goal.follow-requires
-follow-requires c κs =
+follow-requires c =
+    let short : c.args.met.goal < most_rows = goal-few c.requires.1.1.ended.is_queue c.requires.0.few_rows c.requires.1.0.3 c.requires.1.1.goal_below in
+    let is-goal : IsGoal (final_at c.args.finals.now) (IsMet (length c.args.layers.now) (at c.args.layers.now)) (at c.args.layers.now) c.args.met.goal = goal-some c.requires.1.1.ended.is_queue c.requires.0.few_rows c.requires.1.0.3 c.requires.1.1.goal_below in
     let start = c in
     let sizes = start.requires.1.0 in
     let costs = c.find_costs in (
       start.requires.0,
       (
-        (sizes.0, omega (arith, sizes.2, costs.auto.1.1.1.1.1.1.1.0), sizes.4, short start, sizes.5, sizes.6, filled-part start.args.letters 1024 0 sizes.6),
-        (start.requires.1.1.ended.is_layers, (is-goal start, costs.ensures)),
+        (sizes.0, omega (arith, sizes.2, costs.auto.1.1.1.1.1.1.1.0), sizes.4, short, sizes.5, sizes.6, filled-part start.args.letters 1024 0 sizes.6),
+        (start.requires.1.1.ended.is_layers, (is-goal, costs.ensures)),
       ),
     )
-
-pub shape_of-list : goal.shape_of-list
-shape_of-list c = c.follow.auto.1.1.1.1.1.1.1.1.1.0
-
-pub shape_of-work : goal.shape_of-work
-shape_of-work c = c.find_costs.auto.1.1.1.1.1.1.1.0
 
 pub returns : goal.returns
 returns c = c.follow.ensures

@@ -10,7 +10,7 @@ pub returns-then-kinds-inner-ne-NEGATION_NODE : goal.returns-then-kinds-inner-ne
 returns-then-kinds-inner-ne-NEGATION_NODE c = c.loop-inner.invariant
 
 pub loop-inner-preserved : goal.loop-inner-preserved
-loop-inner-preserved c = let loop = c in negates_more loop.loop.again loop.loop.invariant c.loop-inner-test.true c.if-kinds-inner-ne-NEGATION_NODE.false
+loop-inner-preserved c = let loop = c in negates_more loop.loop-inner.again loop.loop-inner.invariant c.loop-inner-test.true c.if-kinds-inner-ne-NEGATION_NODE.false
 
 pub returns : goal.returns
 returns c = c.loop-inner.invariant

@@ -18,7 +18,7 @@ pub loop-j-preserved : goal.loop-j-preserved
 loop-j-preserved c =
     let at-loop = c in
     let more = c.loop-j-test.true in
-    ⊎_elim (λ w. rw w.1 (counted-until _ _ _ more at-loop.loop.invariant w.0.true)) (λ w. rw w.1 (counted-sign _ _ _ more at-loop.loop.invariant w.0.left)) c.if-relations-j-eq-UNTIL_RELATION.branch
+    ⊎_elim (λ w. rw w.1 (counted-until _ _ _ more at-loop.loop-j.invariant w.0.true)) (λ w. rw w.1 (counted-sign _ _ _ more at-loop.loop-j.invariant w.0.left)) c.if-relations-j-eq-UNTIL_RELATION.branch
 
 pub overflow_cast-result : goal.overflow_cast-result
 overflow_cast-result c = record { fits = counted-fits _ _ _ c.requires c.loop-j.invariant }

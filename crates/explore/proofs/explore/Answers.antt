@@ -11,21 +11,6 @@ use Rattle.explore.proofs.SearchLaws.{sizes-lent, settled-start, settled-behind,
 use Rattle.explore.proofs.SizeLaws.{sizes-ready, sizes-lent-tables, not-ready, not-lent, ready}
 use Rattle.explore.proofs.explore.Goals as goal
 
--- ---- behind the tests
-abbrev start_of : tie.Else2 → tie.Start
-start_of c = c.before.before.before.before.before.before.before.before.before.before.before.before.before
-
-abbrev store : tie.Start → Store
-store c =
-    let a = c.args in
-    store_of a.kinds.now a.values.now a.starts.now a.relations.now a.lefts.now a.rights.now a.first-nodes.now a.letter-values.now a.streams a.ahead a.width
-
-keeps-bounds : (c : tie.Else2) → IsReady (store (start_of c))
-keeps-bounds c = sizes-ready (says_yes (not-false c.before.before.before.is-ready.result c.before.before.if1.false) c.before.before.before.is-ready.ensures)
-
-lent : (c : tie.Else2) → let a = (start_of c).args in IsLent (store (start_of c)) a.letters a.limit a.keys.now a.heads.now a.links.now a.entries.now a.flags.now
-lent c = sizes-lent-tables _ _ _ _ (says_yes (not-false c.before.is-lent.result c.if2.false) c.before.is-lent.ensures)
-
 pub returns-then-not-is_ready : goal.returns-then-not-is_ready
 returns-then-not-is_ready c = not-ready _ _ _ _ (says_no (not-true c.is_ready.result c.if-not-is_ready.true) c.is_ready.ensures)
 
@@ -33,46 +18,45 @@ pub returns-then-not-is_lent : goal.returns-then-not-is_lent
 returns-then-not-is_lent c = not-lent _ _ _ _ (says_no (not-true c.is_lent.result c.if-not-is_lent.true) c.is_lent.ensures)
 
 pub every_mark-every-requires : goal.every_mark-every-requires
-every_mark-every-requires c κs = (keeps-bounds c).few_constraints
+every_mark-every-requires c =
+    let store : Store = (let a = c.args in
+    store_of a.kinds.now a.values.now a.starts.now a.relations.now a.lefts.now a.rights.now a.first_nodes.now a.letter_values.now a.streams a.ahead a.width) in
+    let keeps-bounds : IsReady (store) = sizes-ready (says_yes (not-false c.is_ready.result c.if-not-is_ready.false) c.is_ready.ensures) in
+    (keeps-bounds).few_constraints
 
 pub settle-requires : goal.settle-requires
-settle-requires c κs =
+settle-requires c =
+    let store : Store = (let a = c.args in
+    store_of a.kinds.now a.values.now a.starts.now a.relations.now a.lefts.now a.rights.now a.first_nodes.now a.letter_values.now a.streams a.ahead a.width) in
+    let lent : let a = c.args in IsLent (store) a.letters a.limit a.keys.now a.heads.now a.links.now a.entries.now a.flags.now = sizes-lent-tables _ _ _ _ (says_yes (not-false c.is_lent.result c.if-not-is_lent.false) c.is_lent.ensures) in
     let tested = c in
-    let l = lent tested in
-    (cleared-chained (start_of tested).args.heads.now _ _ _ (omega (arith, l.some_row, l.heads_room)) c.fill.ensures, (refl, l.few_rows, l.links_room, l.keys_room, l.flags_room))
+    let l = lent in
+    (cleared-chained c.args.heads.now _ _ _ (omega (arith, l.some_row, l.heads_room)) c.fill.ensures, (refl, l.few_rows, l.links_room, l.keys_room, l.flags_room))
 
 pub search-found-requires : goal.search-found-requires
-search-found-requires c κs =
+search-found-requires c =
+    let store : Store = (let a = c.args in
+    store_of a.kinds.now a.values.now a.starts.now a.relations.now a.lefts.now a.rights.now a.first_nodes.now a.letter_values.now a.streams a.ahead a.width) in
+    let keeps-bounds : IsReady (store) = sizes-ready (says_yes (not-false c.is_ready.result c.if-not-is_ready.false) c.is_ready.ensures) in
+    let lent : let a = c.args in IsLent (store) a.letters a.limit a.keys.now a.heads.now a.links.now a.entries.now a.flags.now = sizes-lent-tables _ _ _ _ (says_yes (not-false c.is_lent.result c.if-not-is_lent.false) c.is_lent.ensures) in
     let tested = c in
-    let l = lent tested in
+    let l = lent in
     let settle = c.settle in
     let begun = settled-start l.some_row l.flags_room settle.ensures in
     record {
-      ready = keeps-bounds tested;
+      ready = keeps-bounds;
       lent = sizes-lent (record { keys_long = settle.auto.1.1.0; heads_long = settle.auto.0 ∙ c.fill.auto.0; links_long = settle.auto.1.0; entries_long = refl; flags_long = settle.auto.1.1.1.0 }) l;
       tables = begun.0;
       known = begun.1;
     }
 
-pub shape_of-keys : goal.shape_of-keys
-shape_of-keys c = c.search-found.auto.1.1.1.1.1.1.1.1.1.1.0 ∙ c.settle.auto.1.1.0
-
-pub shape_of-heads : goal.shape_of-heads
-shape_of-heads c = c.search-found.auto.1.1.1.1.1.1.1.1.1.1.1.0 ∙ (c.settle.auto.0 ∙ c.fill.auto.0)
-
-pub shape_of-links : goal.shape_of-links
-shape_of-links c = c.search-found.auto.1.1.1.1.1.1.1.1.1.1.1.1.0 ∙ c.settle.auto.1.0
-
-pub shape_of-entries : goal.shape_of-entries
-shape_of-entries c = c.search-found.auto.1.1.1.1.1.1.1.1.1.1.1.1.1.0
-
-pub shape_of-flags : goal.shape_of-flags
-shape_of-flags c = c.search-found.auto.1.1.1.1.1.1.1.1.1.1.1.1.1.1.0 ∙ c.settle.auto.1.1.1.0
-
 pub returns : goal.returns
 returns c =
+    let store : Store = (let a = c.args in
+    store_of a.kinds.now a.values.now a.starts.now a.relations.now a.lefts.now a.rights.now a.first_nodes.now a.letter_values.now a.streams a.ahead a.width) in
+    let lent : let a = c.args in IsLent (store) a.letters a.limit a.keys.now a.heads.now a.links.now a.entries.now a.flags.now = sizes-lent-tables _ _ _ _ (says_yes (not-false c.is_lent.result c.if-not-is_lent.false) c.is_lent.ensures) in
     let tested = c in
     let search = c.search-found in
     let settle = c.settle in
-    ready _ _ _ _ (says_yes (not-false tested.is-ready.result tested.if1.false) tested.is-ready.ensures) (says_yes (not-false tested.is-lent.result tested.if2.false) tested.is-lent.ensures) (searched-every c.every_mark-every.ensures search.ensures.0)
-    (λ e. settled-behind (lent tested).some_row search.ensures.0.searched.known.some_row settle.auto.1.1.1.0 settle.ensures (search.ensures.1 e))
+    ready _ _ _ _ (says_yes (not-false tested.is_ready.result tested.if-not-is_ready.false) tested.is_ready.ensures) (says_yes (not-false tested.is_lent.result tested.if-not-is_lent.false) tested.is_lent.ensures) (searched-every c.every_mark-every.ensures search.ensures.0)
+    (λ e. settled-behind (lent).some_row search.ensures.0.searched.known.some_row settle.auto.1.1.1.0 settle.ensures (search.ensures.1 e))

@@ -2,7 +2,7 @@
 use Prim.Native.Nat.{◌-◌}
 use native.Mathlib.Omega.{arith}
 use mathlib.Core.Path.{ap}
-use lib.ListN.{length, take}
+use lib.ListN.{take}
 use lib.Seq.{take_all}
 use Rattle.print.specs.Text.{digits}
 use Rattle.print.proofs.Append.{appends_nothing, appends_then, appends_same}
@@ -20,7 +20,7 @@ pub overflow_cast-bytes : goal.overflow_cast-bytes
 overflow_cast-bytes c = omega (arith, c.type_inv.bytes c.loop-i.i)
 
 pub append_element-to-requires : goal.append_element-to-requires
-append_element-to-requires c κs = tt
+append_element-to-requires c = tt
 
 pub overflow_add-i : goal.overflow_add-i
 overflow_add-i c = omega arith
@@ -31,10 +31,7 @@ loop-i-smaller c = omega arith
 pub loop-i-preserved : goal.loop-i-preserved
 loop-i-preserved c =
     let t = c in
-    (omega arith, appends_same (appends_then t.loop.invariant.1 c.append_element-to.ensures) (next-element digits c.args.bytes.now 0 t.loop.i (omega arith)))
-
-pub shape_of-out : goal.shape_of-out
-shape_of-out c = c.loop-i.invariant.1.same_length
+    (omega arith, appends_same (appends_then t.loop-i.invariant.1 c.append_element-to.ensures) (next-element digits c.args.bytes.now 0 t.loop-i.i (omega arith)))
 
 pub returns : goal.returns
 returns c = appends_same c.loop-i.invariant.1 (ap (elements digits) (take_all c.loop-i.i c.args.bytes.now (omega arith)))

@@ -9,41 +9,35 @@ use Rattle.print.proofs.Append.{appends_same}
 use Rattle.export_text.specs.Export.{stream_arrays}
 use Rattle.export_text.proofs.append_described.Goals as goal
 
-lows-long : (c : tie.Start) → length c.args.streams.lows ≡ 8
-lows-long c = search rules
-
-highs-long : (c : tie.Start) → length c.args.streams.highs ≡ 8
-highs-long c = search rules
-
-kinds-long : (c : tie.Start) → length c.args.streams.kinds ≡ 8
-kinds-long c = search rules
-
 pub fewer-count-requires : goal.fewer-count-requires
-fewer-count-requires c κs = tt
+fewer-count-requires c = tt
 
 pub slice_bounds-lows-end : goal.slice_bounds-lows-end
-slice_bounds-lows-end c = omega (arith, c.fewer-count.ensures, lows-long c)
+slice_bounds-lows-end c =
+    let lows-long : length c.args.streams.lows ≡ 8 = search rules in
+    omega (arith, c.fewer-count.ensures, lows-long)
 
 pub slice_bounds-append_streams-end-3 : goal.slice_bounds-append_streams-end-3
 slice_bounds-append_streams-end-3 c = sym (length-take-le _ _ (array-share-prefix-lows c))
 
 pub slice_bounds-highs-end : goal.slice_bounds-highs-end
-slice_bounds-highs-end c = omega (arith, c.fewer-count.ensures, highs-long c)
+slice_bounds-highs-end c =
+    let highs-long : length c.args.streams.highs ≡ 8 = search rules in
+    omega (arith, c.fewer-count.ensures, highs-long)
 
 pub slice_bounds-append_streams-end-4 : goal.slice_bounds-append_streams-end-4
 slice_bounds-append_streams-end-4 c = sym (length-take-le _ _ (array-share-prefix-highs c))
 
 pub slice_bounds-kinds-end : goal.slice_bounds-kinds-end
-slice_bounds-kinds-end c = omega (arith, c.fewer-count.ensures, kinds-long c)
+slice_bounds-kinds-end c =
+    let kinds-long : length c.args.streams.kinds ≡ 8 = search rules in
+    omega (arith, c.fewer-count.ensures, kinds-long)
 
 pub slice_bounds-append_streams-end-5 : goal.slice_bounds-append_streams-end-5
 slice_bounds-append_streams-end-5 c = sym (length-take-le _ _ (array-share-prefix-kinds c))
 
 pub append_streams-requires : goal.append_streams-requires
-append_streams-requires c κs = tt
-
-pub shape_of-out : goal.shape_of-out
-shape_of-out c = c.append_streams.ensures.same_length
+append_streams-requires c = tt
 
 pub returns : goal.returns
 returns c =

@@ -2,7 +2,7 @@
 use Prim.Native.Nat.{◌-◌}
 use native.Mathlib.Omega.{arith}
 use mathlib.Core.Path.{ap}
-use lib.ListN.{length, take}
+use lib.ListN.{take}
 use lib.Seq.{take_all}
 use Rattle.stored.specs.Number.{table_bytes}
 use Rattle.step.specs.Step.{entry_width}
@@ -12,9 +12,8 @@ use Rattle.export_text.specs.Export.{elements}
 use Rattle.export_text.proofs.Elements.{next-entry}
 use Rattle.export_text.proofs.append_entry_elements.Goals as goal
 
-unfolding table_bytes
-
 pub loop-i-init : goal.loop-i-init
+unfolding table_bytes
 loop-i-init c = (omega arith, appends_nothing c.requires)
 
 pub offset_bounds-entries-i : goal.offset_bounds-entries-i
@@ -27,10 +26,10 @@ pub overflow_cast-entry : goal.overflow_cast-entry
 overflow_cast-entry c = omega (arith, c.type_inv.entries c.loop-i.i)
 
 pub append_element-high_at-requires : goal.append_element-high_at-requires
-append_element-high_at-requires c κs = tt
+append_element-high_at-requires c = tt
 
 pub append_element-to-requires : goal.append_element-to-requires
-append_element-to-requires c κs = tt
+append_element-to-requires c = tt
 
 pub overflow_add-i : goal.overflow_add-i
 overflow_add-i c = omega arith
@@ -42,10 +41,7 @@ pub loop-i-preserved : goal.loop-i-preserved
 loop-i-preserved c =
     let t = c in
     let entries = c.args.entries.now in
-    (omega arith, appends_same (appends_then t.loop.invariant.1 (appends_then c.append_element-high_at.ensures c.append_element-to.ensures)) (next-entry entries t.loop.i (omega arith) (omega (arith, c.type_inv.entries t.loop.i))))
-
-pub shape_of-out : goal.shape_of-out
-shape_of-out c = c.loop-i.invariant.1.same_length
+    (omega arith, appends_same (appends_then t.loop-i.invariant.1 (appends_then c.append_element-high_at.ensures c.append_element-to.ensures)) (next-entry entries t.loop-i.i (omega arith) (omega (arith, c.type_inv.entries t.loop-i.i))))
 
 pub returns : goal.returns
 returns c = appends_same c.loop-i.invariant.1 (ap (λ l. elements digits (table_bytes entry_width l)) (take_all c.loop-i.i c.args.entries.now (omega arith)))

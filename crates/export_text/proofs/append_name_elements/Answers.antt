@@ -8,22 +8,21 @@ use Rattle.export_text.specs.Export.{element, elements, quoted}
 use Rattle.export_text.proofs.Elements.{name-element, next-name}
 use Rattle.export_text.proofs.append_name_elements.Goals as goal
 
-unfolding stored_names
-
 pub loop-i-init : goal.loop-i-init
+unfolding stored_names
 loop-i-init c = (omega arith, appends_nothing c.requires)
 
 pub append_bytes-name_at-requires : goal.append_bytes-name_at-requires
-append_bytes-name_at-requires c κs = tt
+append_bytes-name_at-requires c = tt
 
 pub name_in-requires : goal.name_in-requires
-name_in-requires c κs = tt
+name_in-requires c = tt
 
 pub append_bytes-end-requires : goal.append_bytes-end-requires
-append_bytes-end-requires c κs = tt
+append_bytes-end-requires c = tt
 
 pub append_bytes-to-requires : goal.append_bytes-to-requires
-append_bytes-to-requires c κs = tt
+append_bytes-to-requires c = tt
 
 pub overflow_add-i : goal.overflow_add-i
 overflow_add-i c = omega arith
@@ -37,10 +36,7 @@ loop-i-preserved c =
     let a = c.args in
     let name = c.name_in.ensures in
     let one = appends_same (appends_then (appends_then c.append_bytes-name_at.ensures c.append_bytes-end.ensures) c.append_bytes-to.ensures) (name-element c.name_in.result.now ∙ ap (λ n. element (quoted n)) name) in
-    (omega arith, appends_same (appends_then t.loop.invariant.1 one) (next-name a.names.now a.lengths.now t.loop.i))
-
-pub shape_of-out : goal.shape_of-out
-shape_of-out c = c.loop-i.invariant.1.same_length
+    (omega arith, appends_same (appends_then t.loop-i.invariant.1 one) (next-name a.names.now a.lengths.now t.loop-i.i))
 
 pub returns : goal.returns
 returns c =

@@ -5,34 +5,31 @@ use Rattle.export_text.proofs.Parts.{streams-parts}
 use Rattle.export_text.proofs.append_streams.Goals as goal
 
 pub append_bytes-names_at-requires : goal.append_bytes-names_at-requires
-append_bytes-names_at-requires c κs = tt
+append_bytes-names_at-requires c = tt
 
 pub append_name_elements-names_end-requires : goal.append_name_elements-names_end-requires
-append_name_elements-names_end-requires c κs = reached c.append_bytes-names_at.ensures
+append_name_elements-names_end-requires c = reached c.append_bytes-names_at.ensures
 
 pub append_bytes-lows_at-requires : goal.append_bytes-lows_at-requires
-append_bytes-lows_at-requires c κs = tt
+append_bytes-lows_at-requires c = tt
 
 pub append_integer_elements-lows_end-requires : goal.append_integer_elements-lows_end-requires
-append_integer_elements-lows_end-requires c κs = reached c.append_bytes-lows_at.ensures
+append_integer_elements-lows_end-requires c = reached c.append_bytes-lows_at.ensures
 
 pub append_bytes-highs_at-requires : goal.append_bytes-highs_at-requires
-append_bytes-highs_at-requires c κs = tt
+append_bytes-highs_at-requires c = tt
 
 pub append_integer_elements-highs_end-requires : goal.append_integer_elements-highs_end-requires
-append_integer_elements-highs_end-requires c κs = reached c.append_bytes-highs_at.ensures
+append_integer_elements-highs_end-requires c = reached c.append_bytes-highs_at.ensures
 
 pub append_bytes-kinds_at-requires : goal.append_bytes-kinds_at-requires
-append_bytes-kinds_at-requires c κs = tt
+append_bytes-kinds_at-requires c = tt
 
 pub append_byte_elements-kinds_end-requires : goal.append_byte_elements-kinds_end-requires
-append_byte_elements-kinds_end-requires c κs = reached c.append_bytes-kinds_at.ensures
+append_byte_elements-kinds_end-requires c = reached c.append_bytes-kinds_at.ensures
 
 pub append_bytes-requires : goal.append_bytes-requires
-append_bytes-requires c κs = tt
-
-pub shape_of-out : goal.shape_of-out
-shape_of-out c = (appends_then (appends_then (appends_then (appends_then (appends_then (appends_then (appends_then (appends_then c.append_bytes-names_at.ensures c.append_name_elements-names_end.ensures) c.append_bytes-lows_at.ensures) c.append_integer_elements-lows_end.ensures) c.append_bytes-highs_at.ensures) c.append_integer_elements-highs_end.ensures) c.append_bytes-kinds_at.ensures) c.append_byte_elements-kinds_end.ensures) c.append_bytes.ensures).same_length
+append_bytes-requires c = tt
 
 pub returns : goal.returns
 returns c =

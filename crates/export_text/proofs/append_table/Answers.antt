@@ -5,22 +5,19 @@ use Rattle.export_text.proofs.Parts.{table-parts}
 use Rattle.export_text.proofs.append_table.Goals as goal
 
 pub append_bytes-rows_at-requires : goal.append_bytes-rows_at-requires
-append_bytes-rows_at-requires c κs = tt
+append_bytes-rows_at-requires c = tt
 
 pub append_rows-rows_end-requires : goal.append_rows-rows_end-requires
-append_rows-rows_end-requires c κs = reached c.append_bytes-rows_at.ensures
+append_rows-rows_end-requires c = reached c.append_bytes-rows_at.ensures
 
 pub append_bytes-finals_at-requires : goal.append_bytes-finals_at-requires
-append_bytes-finals_at-requires c κs = tt
+append_bytes-finals_at-requires c = tt
 
 pub append_byte_elements-finals_end-requires : goal.append_byte_elements-finals_end-requires
-append_byte_elements-finals_end-requires c κs = reached c.append_bytes-finals_at.ensures
+append_byte_elements-finals_end-requires c = reached c.append_bytes-finals_at.ensures
 
 pub append_bytes-requires : goal.append_bytes-requires
-append_bytes-requires c κs = tt
-
-pub shape_of-out : goal.shape_of-out
-shape_of-out c = (appends_then (appends_then (appends_then (appends_then c.append_bytes-rows_at.ensures c.append_rows-rows_end.ensures) c.append_bytes-finals_at.ensures) c.append_byte_elements-finals_end.ensures) c.append_bytes.ensures).same_length
+append_bytes-requires c = tt
 
 pub returns : goal.returns
 returns c =

@@ -4,19 +4,16 @@ use Rattle.export_text.proofs.Parts.{export_parts}
 use Rattle.export_text.proofs.fill.Goals as goal
 
 pub fewer-count-requires : goal.fewer-count-requires
-fewer-count-requires c κs = tt
+fewer-count-requires c = tt
 
 pub put_counts-streams_at-requires : goal.put_counts-streams_at-requires
-put_counts-streams_at-requires c κs = tt
+put_counts-streams_at-requires c = tt
 
 pub append_described-table_at-requires : goal.append_described-table_at-requires
-append_described-table_at-requires c κs = tt
+append_described-table_at-requires c = tt
 
 pub append_table-requires : goal.append_table-requires
-append_table-requires c κs = tt
-
-pub shape_of-out : goal.shape_of-out
-shape_of-out c = (appends_then (appends_then c.put_counts-streams_at.ensures c.append_described-table_at.ensures) c.append_table.ensures).same_length
+append_table-requires c = tt
 
 pub returns : goal.returns
 returns c =

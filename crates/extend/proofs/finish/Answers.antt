@@ -15,45 +15,32 @@ use Rattle.extend.specs.Step.{Store, store_of, judged_in}
 use Rattle.extend.proofs.StepLaws.{some-kept, none_kept, last-letters}
 use Rattle.extend.proofs.finish.Goals as goal
 
-abbrev start_of : tie.After-judge-letter → tie.Start
-start_of c = c.before.before.before.before.before.before.before.before
-
-abbrev store : tie.Start → Store
-store c =
-    let a = c.args in
-    store_of a.kinds.now a.values.now a.starts.now a.relations.now a.lefts.now a.rights.now a.first-nodes.now [] a.dimensions.streams a.dimensions.ahead a.dimensions.width
-
--- the letters that are known and the newest one
-abbrev all-letters : tie.Start → List ℕ
-all-letters c = c.args.letters.now ++ (c.args.letter ∷ [])
-
-all-long : (c : tie.Start) → length (all-letters c) ≡ length c.args.letters.now + 1
-all-long c = length-append c.args.letters.now (c.args.letter ∷ [])
-
-few : (c : tie.Start) → length c.args.letters.now ≤ window_bound
-few c = omega (arith, c.requires.0.few_letters, c.requires.1.0)
-
-judged-is : (c : tie.After-judge-letter) → let a = (start_of c).args in
-    c.judge-letter.result ≡ judged_in (store (start_of c)) (view a.window.now a.dimensions.streams a.firsts.now (leb a.size a.dimensions.width)) (length (all-letters (start_of c)) - 1) a.marks
-judged-is c =
-    let a = (start_of c).args in
-    let e : length a.letters.now ≡ length (all-letters (start_of c)) - 1 = omega (arith, all-long (start_of c)) in
-    c.judge-letter.ensures ∙ ap (λ n. judged_in (store (start_of c)) (view a.window.now a.dimensions.streams a.firsts.now (leb a.size a.dimensions.width)) n a.marks) e
-
 pub returns-then-not-judged : goal.returns-then-not-judged
 returns-then-not-judged c =
+    let store : Store = (let a = c.args in
+    store_of a.kinds.now a.values.now a.starts.now a.relations.now a.lefts.now a.rights.now a.first_nodes.now [] a.dimensions.streams a.dimensions.ahead a.dimensions.width) in
+    let all-letters : List ℕ = c.args.letters.now ++ (c.args.letter ∷ []) in
+    let all-long : length (all-letters) ≡ length c.args.letters.now + 1 = length-append c.args.letters.now (c.args.letter ∷ []) in
+    let judged-is : let a = c.args in
+    c.judge_letter-judged.result ≡ judged_in (store) (view a.window.now a.dimensions.streams a.firsts.now (leb a.size a.dimensions.width)) (length (all-letters) - 1) a.marks = (let a = c.args in
+    let e : length a.letters.now ≡ length (all-letters) - 1 = omega (arith, all-long) in
+    c.judge_letter-judged.ensures ∙ ap (λ n. judged_in (store) (view a.window.now a.dimensions.streams a.firsts.now (leb a.size a.dimensions.width)) n a.marks) e) in
     let at = c in
     record {
-      answer = sym (not-true at.judge-letter.result.ok c.if-not-judged.true) ∙ ap (λ j. j.ok) (judged-is at);
+      answer = sym (not-true at.judge_letter-judged.result.ok c.if-not-judged.true) ∙ ap (λ j. j.ok) (judged-is);
       new = λ e. not-both e;
       kept = λ e. refl;
     }
 
 pub overflow_cast-count : goal.overflow_cast-count
-overflow_cast-count c = omega (arith, few (start_of c))
+overflow_cast-count c =
+    let few : length c.args.letters.now ≤ window_bound = omega (arith, c.requires.0.few_letters, c.requires.1.0) in
+    omega (arith, few)
 
 pub offset_bounds-letters-from : goal.offset_bounds-letters-from
-offset_bounds-letters-from c = omega (arith, few (start_of c))
+offset_bounds-letters-from c =
+    let few : length c.args.letters.now ≤ window_bound = omega (arith, c.requires.0.few_letters, c.requires.1.0) in
+    omega (arith, few)
 
 pub slice_bounds-write_key-end-2 : goal.slice_bounds-write_key-end-2
 slice_bounds-write_key-end-2 c =
@@ -61,8 +48,8 @@ slice_bounds-write_key-end-2 c =
     sym (length-take-le after.result after.new.1.1.1.1.1.1.1.1.1.1.1.0 (omega (arith, after.ensures.1, after.auto.1.1.1.1.1.1.1.1.1.1.1.0)))
 
 pub write_key-requires : goal.write_key-requires
-write_key-requires c κs =
-    let start = start_of c in
+write_key-requires c =
+    let start = c in
     let after = c.firsts_after-filled in
     let kept = c.fewer-kept in
     let from = c.fewer-from in
@@ -75,20 +62,25 @@ write_key-requires c κs =
       none_kept letters start.args.letter width kept.result from.result start.pre.1.0 kept.ensures from.ensures,
     )
 
-pub shape_of-fresh : goal.shape_of-fresh
-shape_of-fresh c = c.write_key.auto.0
-
 pub returns : goal.returns
 returns c =
+    let all-letters : List ℕ = c.args.letters.now ++ (c.args.letter ∷ []) in
+    let all-long : length (all-letters) ≡ length c.args.letters.now + 1 = length-append c.args.letters.now (c.args.letter ∷ []) in
+    let store : Store = (let a = c.args in
+    store_of a.kinds.now a.values.now a.starts.now a.relations.now a.lefts.now a.rights.now a.first_nodes.now [] a.dimensions.streams a.dimensions.ahead a.dimensions.width) in
+    let judged-is : let a = c.args in
+    c.judge_letter-judged.result ≡ judged_in (store) (view a.window.now a.dimensions.streams a.firsts.now (leb a.size a.dimensions.width)) (length (all-letters) - 1) a.marks = (let a = c.args in
+    let e : length a.letters.now ≡ length (all-letters) - 1 = omega (arith, all-long) in
+    c.judge_letter-judged.ensures ∙ ap (λ n. judged_in (store) (view a.window.now a.dimensions.streams a.firsts.now (leb a.size a.dimensions.width)) n a.marks) e) in
     let at = c in
-    let start = start_of at in
+    let start = c in
     let args = start.args in
-    let judged = judged-is at in
+    let judged = judged-is in
     let kept = c.fewer-kept in
     let from = c.fewer-from in
     let letters = last-letters args.letters.now args.letter args.dimensions.width kept.result from.result start.pre.1.0 kept.ensures from.ensures in
     record {
-      answer = sym (not-false at.judge-letter.result.ok c.if-not-judged.false) ∙ ap (λ j. j.ok) judged;
+      answer = sym (not-false at.judge_letter-judged.result.ok c.if-not-judged.false) ∙ ap (λ j. j.ok) judged;
       new = λ e. c.write_key.ensures ∙ (λ i. encoded_key (sym (all-long start) i) (letters i) (c.firsts_after-filled.ensures.0 i) (judged i).marks);
       kept = λ e. not-both (sym e);
     }

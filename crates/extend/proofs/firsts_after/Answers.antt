@@ -23,4 +23,4 @@ pub returns : goal.returns
 returns c =
     let args = c.args in
     let more : args.width < args.size = omega (arith, c.if-size-width.false, c.if-size-width-2.false) in
-    (ap (take (length args.held-firsts.now)) (c.put.ensures.copied (omega (arith, c.requires.1))) ∙ copied_all args.numbers.now args.held-firsts.now (omega (arith, c.requires.1)) ∙ sym (simp (lt-leb args.size args.width more)), search rules)
+    (ap (take (length args.held_firsts.now)) (c.put.ensures.copied (omega (arith, c.requires.1))) ∙ copied_all args.numbers.now args.held_firsts.now (omega (arith, c.requires.1)) ∙ sym (simp (lt-leb args.size args.width more)), search rules)

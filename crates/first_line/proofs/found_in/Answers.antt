@@ -4,16 +4,16 @@ use Rattle.first_line.specs.Machine.{found_in}
 use Rattle.first_line.proofs.found_in.Goals as goal
 
 pub no_number-requires : goal.no_number-requires
-no_number-requires c κs = tt
+no_number-requires c = tt
 
 pub no_number-requires-in-Zero : goal.no_number-requires-in-Zero
-no_number-requires-in-Zero c κs = tt
+no_number-requires-in-Zero c = tt
 
 pub no_number-requires-in-Digits : goal.no_number-requires-in-Digits
-no_number-requires-in-Digits c κs = tt
+no_number-requires-in-Digits c = tt
 
 pub no_number-requires-in-NoNumber : goal.no_number-requires-in-NoNumber
-no_number-requires-in-NoNumber c κs = tt
+no_number-requires-in-NoNumber c = tt
 
 pub returns-in-Start : goal.returns-in-Start
 returns-in-Start c = c.no_number.ensures ∙ sym (ap (λ p. found_in p c.args.value) c.enum_told-1.given.1)

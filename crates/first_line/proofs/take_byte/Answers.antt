@@ -15,7 +15,7 @@ pub returns-then-byte-eq10 : goal.returns-then-byte-eq10
 returns-then-byte-eq10 c = sym (simp (c.if-taken.false, eq-eqb _ _ c.if-byte-eq10.true))
 
 pub line_byte-requires : goal.line_byte-requires
-line_byte-requires c κs = tt
+line_byte-requires c = tt
 
 pub returns : goal.returns
 returns c =

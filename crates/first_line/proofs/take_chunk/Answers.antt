@@ -13,7 +13,7 @@ pub loop-i-init : goal.loop-i-init
 loop-i-init c = (omega arith, refl, refl)
 
 pub take_byte-kept-requires : goal.take_byte-kept-requires
-take_byte-kept-requires c κs = tt
+take_byte-kept-requires c = tt
 
 pub overflow_add-i : goal.overflow_add-i
 overflow_add-i c = omega arith
@@ -31,9 +31,6 @@ loop-i-preserved c =
       call.auto.1.1.0 ∙ loop.invariant.1,
       chunk_more (keeping a.true a.sheet.now) a.chunk.now loop.i (omega arith) (call.ensures ∙ ap (λ s. keep_byte s byte) loop.invariant.2),
     )
-
-pub shape_of-sheet : goal.shape_of-sheet
-shape_of-sheet c = c.loop-i.invariant.1
 
 pub returns : goal.returns
 returns c =

@@ -1,17 +1,12 @@
 -- `game::force` meets its contract: the compile in the cut room and the play table made of it are those of the law `whole-call`.
 use native.Mathlib.Omega.{arith}
-use mathlib.Core.Path.{sym, ◌∙◌}
-use lib.Seq.{length_front}
+use mathlib.Core.Path.{sym}
 use Rattle.game.proofs.Parts.{rows_taken, whole-call}
 use Rattle.game.proofs.force.Goals as goal
 
 pub slice_bounds-compile-end-2 : goal.slice_bounds-compile-end-2
 slice_bounds-compile-end-2 c =
     sym (rows_taken (omega (arith, c.fewer-rows.ensures)) c.clear_bytes.ensures)
-
-pub shape_of-finals : goal.shape_of-finals
-shape_of-finals c =
-    c.make_play.auto.1.1.0 ∙ length_front c.clear_bytes.new.0 c.compile-told.new.1.1.0 c.fewer-rows.result c.compile-told.auto.1.1.0 ∙ c.clear_bytes.auto.0
 
 pub returns : goal.returns
 returns c =

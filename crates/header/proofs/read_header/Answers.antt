@@ -15,15 +15,15 @@ returns-then-token_count-gt8 c =
     }
 
 pub read_streams-streams-requires : goal.read_streams-streams-requires
-read_streams-streams-requires c κs = (omega (arith, c.if-token_count-gt8.false, c.token_count.ensures), refl)
+read_streams-streams-requires c = (omega (arith, c.if-token_count-gt8.false, c.token_count.ensures), refl)
 
 pub read_kinds-said-requires : goal.read_kinds-said-requires
-read_kinds-said-requires c κs = (omega (arith, c.fewer.ensures), refl)
+read_kinds-said-requires c = (omega (arith, c.fewer.ensures), refl)
 
 pub returns : goal.returns
 returns c =
     record {
       many = λ h. absurd (omega (arith, h, c.if-token_count-gt8.false, c.token_count.ensures));
       streams = λ h. c.read_streams-streams.ensures;
-      kinds = λ h. subst (λ (n : ℕ). KindsOutcome (tokens c.args.kinds-line.now) n c.read_kinds-said.result c.read_kinds-said.new.1.1.0) c.fewer.ensures c.read_kinds-said.ensures;
+      kinds = λ h. subst (λ (n : ℕ). KindsOutcome (tokens c.args.kinds_line.now) n c.read_kinds-said.result c.read_kinds-said.new.stream_kinds) c.fewer.ensures c.read_kinds-said.ensures;
     }

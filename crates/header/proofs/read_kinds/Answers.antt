@@ -28,7 +28,7 @@ pub returns-then-kind : goal.returns-then-kind
 returns-then-kind c =
     let start = c in
     kinds-other c.loop-stream.invariant c.next_token-token.ensures c.stream_kind_code-kind.ensures
-    start.token-count.ensures c.if-total-eq0.false c.if-total-count.false c.loop-stream-test.true c.if-kind.true
+    start.token_count-total.ensures c.if-total-eq0.false c.if-total-count.false c.loop-stream-test.true c.if-kind.true
 
 pub bounds-stream_kinds-stream : goal.bounds-stream_kinds-stream
 bounds-stream_kinds-stream c = omega (arith, c.requires.0)

@@ -2,7 +2,6 @@
 -- in the three lines. From the laws of one stream more.
 use Prim.Native.Nat.{◌-◌}
 use native.Mathlib.Omega.{arith}
-use borrow.Author.Tests.{not-true, not-false}
 use mathlib.Core.Path.{sym, ◌∙◌}
 use Rattle.scan.proofs.Tokens.{token-within, token-after}
 use Rattle.header.specs.Streams.{no_form}
@@ -43,7 +42,7 @@ pub slice_bounds-read_integer-end-in-loop-count : goal.slice_bounds-read_integer
 slice_bounds-read_integer-end-in-loop-count c = let w = token-within c.next_token-high.ensures in let a = w.0 in let b = w.1 in omega arith
 
 pub returns-then-not-named-lowest : goal.returns-then-not-named-lowest
-returns-then-not-named-lowest c = no_form (no_stream c.loop-count.invariant c.next_token-name.ensures c.next_token-low.ensures c.next_token-high.ensures c.if-name_start-name_end.false c.is_name-named.ensures c.read_integer-lowest.ensures c.read_integer-highest.ensures (not-true _ c.if-not-named-lowest.true)) c.no_streams.ensures
+returns-then-not-named-lowest c = no_form (no_stream c.loop-count.invariant c.next_token-name.ensures c.next_token-low.ensures c.next_token-high.ensures c.if-name_start-name_end.false c.is_name-named.ensures c.read_integer-lowest.ensures c.read_integer-highest.ensures c.if-not-named-lowest.true) c.no_streams.ensures
 
 pub slice_bounds-put_name-count : goal.slice_bounds-put_name-count
 slice_bounds-put_name-count c = let w = token-within c.next_token-name.ensures in let a = w.0 in let b = w.1 in omega arith
@@ -55,12 +54,12 @@ pub slice_bounds-put_name-end : goal.slice_bounds-put_name-end
 slice_bounds-put_name-end c = let w = token-within c.next_token-name.ensures in let a = w.0 in let b = w.1 in omega arith
 
 pub put_name-requires : goal.put_name-requires
-put_name-requires c κs =
-    let named = (all_true c.is_name-named.result c.read_integer-lowest.result.ok c.read_integer-highest.result.ok (not-false _ c.if-not-named-lowest.false)).0 in
+put_name-requires c =
+    let named = (all_true c.is_name-named.result c.read_integer-lowest.result.ok c.read_integer-highest.result.ok c.if-not-named-lowest.false).0 in
     (count_low c.loop-count.invariant c.next_token-name.ensures c.next_token-low.ensures c.next_token-high.ensures c.if-name_start-name_end.false, name-fits _ (sym c.is_name-named.ensures ∙ named))
 
 pub put_range-requires : goal.put_range-requires
-put_range-requires c κs = count_low c.loop-count.invariant c.next_token-name.ensures c.next_token-low.ensures c.next_token-high.ensures c.if-name_start-name_end.false
+put_range-requires c = count_low c.loop-count.invariant c.next_token-name.ensures c.next_token-low.ensures c.next_token-high.ensures c.if-name_start-name_end.false
 
 pub overflow_add-count : goal.overflow_add-count
 overflow_add-count c = let below = count_low c.loop-count.invariant c.next_token-name.ensures c.next_token-low.ensures c.next_token-high.ensures c.if-name_start-name_end.false in omega arith
@@ -73,7 +72,7 @@ loop-count-smaller c =
 
 pub loop-count-preserved : goal.loop-count-preserved
 loop-count-preserved c =
-    let all = all_true c.is_name-named.result c.read_integer-lowest.result.ok c.read_integer-highest.result.ok (not-false _ c.if-not-named-lowest.false) in
+    let all = all_true c.is_name-named.result c.read_integer-lowest.result.ok c.read_integer-highest.result.ok c.if-not-named-lowest.false in
     let names = c.put_name.ensures in
     let ranges = c.put_range.ensures in
     sofar_step c.loop-count.invariant c.next_token-name.ensures c.next_token-low.ensures c.next_token-high.ensures c.if-name_start-name_end.false (sym c.is_name-named.ensures ∙ all.0) c.read_integer-lowest.ensures all.1 c.read_integer-highest.ensures all.2 names.0 names.1 ranges.0 ranges.1 c.either-faulty.ensures c.range_faulty.ensures

@@ -29,7 +29,7 @@ pub slice_bounds-letter_count-end-4 : goal.slice_bounds-letter_count-end-4
 slice_bounds-letter_count-end-4 c = sym (length-take-le _ _ (omega (arith, c.fewer.ensures, c.if-fewer-stream.false)))
 
 pub sum_blocks-requires : goal.sum_blocks-requires
-sum_blocks-requires c κs = (omega (arith, c.letter_count-before.ensures), omega (arith, c.letter_count-size.ensures), omega (arith, c.letter_count-behind.ensures))
+sum_blocks-requires c = (omega (arith, c.letter_count-before.ensures), omega (arith, c.letter_count-size.ensures), omega (arith, c.letter_count-behind.ensures))
 
 pub returns : goal.returns
 returns c =

@@ -14,10 +14,10 @@ pub overflow_add-from : goal.overflow_add-from
 overflow_add-from c = omega (arith, c.requires)
 
 pub count_at-requires : goal.count_at-requires
-count_at-requires c κs = tt
+count_at-requires c = tt
 
 pub add_lines-sum-requires : goal.add_lines-sum-requires
-add_lines-sum-requires c κs = tt
+add_lines-sum-requires c = tt
 
 pub overflow_add-i : goal.overflow_add-i
 overflow_add-i c = omega (arith, c.ranges.size)

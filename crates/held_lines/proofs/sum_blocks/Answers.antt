@@ -6,32 +6,43 @@ use Rattle.held_lines.specs.Held.{cut_lines, block_lines, blocks_lines}
 use Rattle.held_lines.proofs.Sums.{no_sum, sum_more, first_fits}
 use Rattle.held_lines.proofs.sum_blocks.Goals as goal
 
--- The first letter of the block.
-bounds : (c : tie.In-loop invariant-loop decreases-loop)
-    → (c.before.loop.i * c.before.before.before.args.size ≤ 1050625)
-    × (c.before.loop.i * c.before.before.before.args.size + c.before.before.before.args.digit ≤ 4296017920)
-    × ((c.before.loop.i * c.before.before.before.args.size + c.before.before.before.args.digit) * c.before.before.before.args.behind ≤ 4403418368000)
-bounds c =
-    let s = c.before.before.before in
-    first_fits c.before.loop.i s.args.size s.args.behind s.args.digit (omega (arith, c.loop-test.true, s.requires.0)) s.requires.1 s.requires.2 (omega (arith, s.ranges.digit))
-
 pub loop-i-init : goal.loop-i-init
 loop-i-init c = (omega arith, no_sum _)
 
 pub overflow_mul-from : goal.overflow_mul-from
-overflow_mul-from c = omega (arith, (bounds c).0)
+overflow_mul-from c =
+    let bounds : (c.loop-i.i * c.args.size ≤ 1050625)
+    × (c.loop-i.i * c.args.size + c.args.digit ≤ 4296017920)
+    × ((c.loop-i.i * c.args.size + c.args.digit) * c.args.behind ≤ 4403418368000) = (let s = c in
+    first_fits c.loop-i.i s.args.size s.args.behind s.args.digit (omega (arith, c.loop-i-test.true, s.requires.0)) s.requires.1 s.requires.2 (omega (arith, s.ranges.digit))) in
+    omega (arith, (bounds).0)
 
 pub overflow_add-from : goal.overflow_add-from
-overflow_add-from c = omega (arith, (bounds c).1)
+overflow_add-from c =
+    let bounds : (c.loop-i.i * c.args.size ≤ 1050625)
+    × (c.loop-i.i * c.args.size + c.args.digit ≤ 4296017920)
+    × ((c.loop-i.i * c.args.size + c.args.digit) * c.args.behind ≤ 4403418368000) = (let s = c in
+    first_fits c.loop-i.i s.args.size s.args.behind s.args.digit (omega (arith, c.loop-i-test.true, s.requires.0)) s.requires.1 s.requires.2 (omega (arith, s.ranges.digit))) in
+    omega (arith, (bounds).1)
 
 pub overflow_mul-from-in-loop-i : goal.overflow_mul-from-in-loop-i
-overflow_mul-from-in-loop-i c = omega (arith, (bounds c).2)
+overflow_mul-from-in-loop-i c =
+    let bounds : (c.loop-i.i * c.args.size ≤ 1050625)
+    × (c.loop-i.i * c.args.size + c.args.digit ≤ 4296017920)
+    × ((c.loop-i.i * c.args.size + c.args.digit) * c.args.behind ≤ 4403418368000) = (let s = c in
+    first_fits c.loop-i.i s.args.size s.args.behind s.args.digit (omega (arith, c.loop-i-test.true, s.requires.0)) s.requires.1 s.requires.2 (omega (arith, s.ranges.digit))) in
+    omega (arith, (bounds).2)
 
 pub sum_block-requires : goal.sum_block-requires
-sum_block-requires c κs = omega (arith, (bounds c).2, c.requires.2)
+sum_block-requires c =
+    let bounds : (c.loop-i.i * c.args.size ≤ 1050625)
+    × (c.loop-i.i * c.args.size + c.args.digit ≤ 4296017920)
+    × ((c.loop-i.i * c.args.size + c.args.digit) * c.args.behind ≤ 4403418368000) = (let s = c in
+    first_fits c.loop-i.i s.args.size s.args.behind s.args.digit (omega (arith, c.loop-i-test.true, s.requires.0)) s.requires.1 s.requires.2 (omega (arith, s.ranges.digit))) in
+    omega (arith, (bounds).2, c.requires.2)
 
 pub add_lines-sum-requires : goal.add_lines-sum-requires
-add_lines-sum-requires c κs = tt
+add_lines-sum-requires c = tt
 
 pub overflow_add-i : goal.overflow_add-i
 overflow_add-i c = omega (arith, c.loop-i-test.true, c.requires.0)

@@ -9,7 +9,7 @@ use Rattle.pages.proofs.Placed.{placed-text}
 use Rattle.histogram_text.proofs.fill_page.Goals as goal
 
 pub place_count-count-requires : goal.place_count-count-requires
-place_count-count-requires c κs = tt
+place_count-count-requires c = tt
 
 pub loop-place-init : goal.loop-place-init
 loop-place-init c = (no_lines _, refl)
@@ -18,13 +18,13 @@ pub slice_bounds-line_at-end : goal.slice_bounds-line_at-end
 slice_bounds-line_at-end c = sym c.loop-place.invariant.1
 
 pub line_at-length-requires : goal.line_at-length-requires
-line_at-length-requires c κs = c.loop-place.invariant.1
+line_at-length-requires c = c.loop-place.invariant.1
 
 pub overflow_sub-out : goal.overflow_sub-out
 overflow_sub-out c = let t = c.loop-place.invariant.0 in omega (arith, same-room _ t, t.room)
 
 pub fewer-requires : goal.fewer-requires
-fewer-requires c κs = tt
+fewer-requires c = tt
 
 pub slice_bounds-line-end : goal.slice_bounds-line-end
 slice_bounds-line-end c = omega (arith, c.line_at_lem.auto.1.1.1.1.1.1.1.1.0, c.loop-place.invariant.1, c.fewer.ensures, c.if-fewer-length.false)
@@ -39,7 +39,7 @@ pub slice_bounds-text-start : goal.slice_bounds-text-start
 slice_bounds-text-start c = let t = c.loop-place.invariant.0 in omega (arith, same-room _ t, t.room)
 
 pub text-requires : goal.text-requires
-text-requires c κs = tt
+text-requires c = tt
 
 pub overflow_add-size : goal.overflow_add-size
 overflow_add-size c =
@@ -58,14 +58,8 @@ loop-place-preserved c =
     let placed = placed-text c.loop-place.out c.loop-place.size c.text.ensures (omega (arith, slice-aggregate-text c, same-room _ t.0, t.0.room, c.fewer.ensures, c.if-fewer-length.false)) in
     (copied-line _ t.0 c.line_at_lem.ensures c.fewer.ensures c.loop-place-test.true c.if-fewer-length.false placed, c.line_at_lem.auto.1.1.1.1.1.1.1.1.0 ∙ t.1)
 
-pub shape_of-out-after-loop-place : goal.shape_of-out-after-loop-place
-shape_of-out-after-loop-place c = same-room _ c.loop-place.invariant.0
-
 pub returns-after-loop-place : goal.returns-after-loop-place
 returns-after-loop-place c = page_last _ c.loop-place.invariant.0 c.place_count-count.ensures c.loop-place-test.false
-
-pub shape_of-out-then-fewer-length : goal.shape_of-out-then-fewer-length
-shape_of-out-then-fewer-length c = same-room _ c.loop-place.invariant.0
 
 pub returns-then-fewer-length : goal.returns-then-fewer-length
 returns-then-fewer-length c = page_full _ c.loop-place.invariant.0 c.line_at_lem.ensures c.fewer.ensures c.place_count-count.ensures c.if-fewer-length.true

@@ -23,7 +23,7 @@ returns-then-stream_count-stream c =
     appended-line c.requires (appends_same c.named_line.ensures (total-place p c.if-refusal-ne0.false c.if-place-eq0.false c.stream_count.ensures c.if-stream_count-stream.true))
 
 pub value_line-requires : goal.value_line-requires
-value_line-requires c κs = omega (arith, c.stream_count.ensures, c.if-stream_count-stream.false)
+value_line-requires c = omega (arith, c.stream_count.ensures, c.if-stream_count-stream.false)
 
 pub returns : goal.returns
 returns c =

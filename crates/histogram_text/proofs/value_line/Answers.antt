@@ -5,7 +5,6 @@ use mathlib.Core.Path.{◌≡◌, refl, sym, ◌∙◌}
 use lib.IntN.{pos}
 use lib.ListN.{length, replicate}
 use lib.Seq.{length-take-le}
-use borrow.Author.Tests.{not-true, not-false}
 use Rattle.print.proofs.Append.{appends_nothing, appends_same}
 use Rattle.held_lines.proofs.Streams.{one-stream}
 use Rattle.histogram_text.proofs.Output.{no_value, value_there}
@@ -18,13 +17,13 @@ returns-then-not-letter_values c =
     λ refusal total.
     appends_same (appends_nothing (omega arith))
     (no_value (record { refusal = refusal; total = total; names = a.names.now; lengths = a.lengths.now; lows = a.lows.now; highs = a.highs.now; counts = a.counts.now }) a.stream a.digit (one-stream a.lows.now a.highs.now a.stream _ one)
-    (sym c.letter_values.ensures.0 ∙ not-true _ c.if-not-letter_values.true))
+    (sym c.letter_values.ensures.0 ∙ c.if-not-letter_values.true))
 
 pub slice_bounds-values-end : goal.slice_bounds-values-end
-slice_bounds-values-end c = let k : length c.letter_values.new.1.1.1.0 ≡ 8 = c.letter_values.auto.1.1.1.0 in omega arith
+slice_bounds-values-end c = let k : length c.letter_values.new.out ≡ 8 = c.letter_values.auto.1.1.1.0 in omega arith
 
 pub slice_bounds-named_line-end : goal.slice_bounds-named_line-end
-slice_bounds-named_line-end c = sym (length-take-le 1 c.letter_values.new.1.1.1.0 (array-share-prefix-values c))
+slice_bounds-named_line-end c = sym (length-take-le 1 c.letter_values.new.out (array-share-prefix-values c))
 
 pub returns : goal.returns
 returns c =
@@ -33,4 +32,4 @@ returns c =
     λ refusal total.
     appends_same c.named_line.ensures
     (value_there (record { refusal = refusal; total = total; names = a.names.now; lengths = a.lengths.now; lows = a.lows.now; highs = a.highs.now; counts = a.counts.now }) a.stream a.digit (one-stream a.lows.now a.highs.now a.stream _ one)
-    (sym c.letter_values.ensures.0 ∙ not-false _ c.if-not-letter_values.false) c.requires (replicate 8 (pos 0)) refl c.letter_values.ensures.1 c.held_lines-held.ensures c.name_in-name.ensures)
+    (sym c.letter_values.ensures.0 ∙ c.if-not-letter_values.false) c.requires (replicate 8 (pos 0)) refl c.letter_values.ensures.1 c.held_lines-held.ensures c.name_in-name.ensures)

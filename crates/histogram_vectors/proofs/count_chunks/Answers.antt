@@ -5,16 +5,16 @@ use mathlib.Core.Path.{refl, ◌∙◌}
 use Rattle.histogram_vectors.proofs.count_chunks.Goals as goal
 
 pub begin-reading-requires : goal.begin-reading-requires
-begin-reading-requires c κs = tt
+begin-reading-requires c = tt
 
 pub loop-at-init : goal.loop-at-init
 loop-at-init c = (omega arith, refl)
 
 pub fewer-requires : goal.fewer-requires
-fewer-requires c κs = tt
+fewer-requires c = tt
 
 pub count_chunk-reading-requires : goal.count_chunk-reading-requires
-count_chunk-reading-requires c κs = tt
+count_chunk-reading-requires c = tt
 
 pub loop-at-smaller : goal.loop-at-smaller
 loop-at-smaller c = omega (arith, c.fewer.ensures, c.loop-at-test.true, c.requires)
@@ -25,10 +25,7 @@ loop-at-preserved c =
     (omega (arith, c.fewer.ensures, t.invariant.0), c.count_chunk-reading.auto.1.1.1.1.1.1.0 ∙ t.invariant.1)
 
 pub finish-requires : goal.finish-requires
-finish-requires c κs = tt
-
-pub shape_of-counts : goal.shape_of-counts
-shape_of-counts c = c.finish.auto.1.1.1.1.1.0 ∙ c.loop-at.invariant.1
+finish-requires c = tt
 
 pub returns : goal.returns
 returns c = tt

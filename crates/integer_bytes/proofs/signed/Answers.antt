@@ -10,21 +10,23 @@ use Rattle.scan.specs.Integer.{with_sign}
 use Rattle.scan.proofs.Integers.{zero-less}
 use Rattle.integer_bytes.proofs.signed.Goals as goal
 
-magnitude : (c : tie.Start) → to_z w64 c.args.magnitude ≡ pos c.args.magnitude
-magnitude c = to_z_pos w64 c.args.magnitude (omega arith)
-
-taken-away : (c : tie.Start) → pos 0 -ℤ to_z w64 c.args.magnitude ≡ neg_ℤ (pos c.args.magnitude)
-taken-away c = ap (λ z. pos 0 -ℤ z) (magnitude c) ∙ zero-less c.args.magnitude
-
 negative_fits : (n : ℕ) → n < 4294967296 → SFits w64 (neg_ℤ (pos n))
 negative_fits zero h = record { sfits = omega arith }
 negative_fits (suc n) h = record { sfits = omega arith }
 
 pub overflow_sub-result : goal.overflow_sub-result
-overflow_sub-result c = subst (SFits w64) (sym (taken-away c)) (negative_fits c.args.magnitude (omega arith))
+overflow_sub-result c =
+    let magnitude : to_z w64 c.args.magnitude ≡ pos c.args.magnitude = to_z_pos w64 c.args.magnitude (omega arith) in
+    let taken-away : pos 0 -ℤ to_z w64 c.args.magnitude ≡ neg_ℤ (pos c.args.magnitude) = ap (λ z. pos 0 -ℤ z) (magnitude) ∙ zero-less c.args.magnitude in
+    subst (SFits w64) (sym (taken-away)) (negative_fits c.args.magnitude (omega arith))
 
 pub returns-then-negative : goal.returns-then-negative
-returns-then-negative c = to_z-of_z w64 _ (sub-result c) ∙ taken-away c ∙ ap (λ b. with_sign b c.args.magnitude) (sym c.if-negative.true)
+returns-then-negative c =
+    let magnitude : to_z w64 c.args.magnitude ≡ pos c.args.magnitude = to_z_pos w64 c.args.magnitude (omega arith) in
+    let taken-away : pos 0 -ℤ to_z w64 c.args.magnitude ≡ neg_ℤ (pos c.args.magnitude) = ap (λ z. pos 0 -ℤ z) (magnitude) ∙ zero-less c.args.magnitude in
+    to_z-of_z w64 _ (sub-result c) ∙ taken-away ∙ ap (λ b. with_sign b c.args.magnitude) (sym c.if-negative.true)
 
 pub returns-else-negative : goal.returns-else-negative
-returns-else-negative c = magnitude c ∙ ap (λ b. with_sign b c.args.magnitude) (sym c.if-negative.false)
+returns-else-negative c =
+    let magnitude : to_z w64 c.args.magnitude ≡ pos c.args.magnitude = to_z_pos w64 c.args.magnitude (omega arith) in
+    magnitude ∙ ap (λ b. with_sign b c.args.magnitude) (sym c.if-negative.false)

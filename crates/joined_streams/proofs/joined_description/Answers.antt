@@ -6,20 +6,19 @@ use Rattle.joined_streams.specs.Describing.{none_described, with_others}
 use Rattle.joined_streams.proofs.Describing.{first_count}
 use Rattle.joined_streams.proofs.joined_description.Goals as goal
 
--- the left streams alone
-first : (c : tie.After-with-others) → c.with-others.result ≡ with_others none_described c.before.before.args.left none_described 0 c.before.before.args.left.count
-first c = let left = c.before.before.args.left in c.with-others.ensures ∙ ap (λ s. with_others s left s 0 left.count) c.before.no_streams.ensures
-
 pub with_others-first-requires : goal.with_others-first-requires
-with_others-first-requires c κs =
+with_others-first-requires c =
     let none = ap (λ (s : StreamsDescription). s.count) c.no_streams-none.ensures in
     (omega arith, omega arith, c.requires.0)
 
 pub with_others-requires : goal.with_others-requires
-with_others-requires c κs =
-    let count = ap (λ (s : StreamsDescription). s.count) (first c) in
+with_others-requires c =
+    let first : c.with_others-first.result ≡ with_others none_described c.args.left none_described 0 c.args.left.count = let left = c.args.left in c.with_others-first.ensures ∙ ap (λ s. with_others s left s 0 left.count) c.no_streams-none.ensures in
+    let count = ap (λ (s : StreamsDescription). s.count) (first) in
     let few = first_count c.args.left in
     (omega (arith, c.requires.0), c.requires.0, c.requires.1)
 
 pub returns : goal.returns
-returns c = let a = c.args in c.with_others.ensures ∙ ap (λ s. with_others a.left a.right s 0 a.right.count) (first c)
+returns c =
+    let first : c.with_others-first.result ≡ with_others none_described c.args.left none_described 0 c.args.left.count = let left = c.args.left in c.with_others-first.ensures ∙ ap (λ s. with_others s left s 0 left.count) c.no_streams-none.ensures in
+    let a = c.args in c.with_others.ensures ∙ ap (λ s. with_others a.left a.right s 0 a.right.count) (first)

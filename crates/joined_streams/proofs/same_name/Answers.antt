@@ -6,17 +6,15 @@ use Rattle.joined_streams.proofs.Places.{names-told}
 use borrow.Author.Rules.{rules}
 use Rattle.joined_streams.proofs.same_name.Goals as goal
 
-names_long : (c : tie.Start) → length c.args.a.names ≡ 64
-names_long c = search rules
-
-other-long : (c : tie.Start) → length c.args.b.names ≡ 64
-other-long c = search rules
-
 pub slice_bounds-same_bytes-end : goal.slice_bounds-same_bytes-end
-slice_bounds-same_bytes-end c = omega (arith, names_long c, c.fewer.ensures, c.requires)
+slice_bounds-same_bytes-end c =
+    let names_long : length c.args.a.names ≡ 64 = search rules in
+    omega (arith, names_long, c.fewer.ensures, c.requires)
 
 pub slice_bounds-same_bytes-end-2 : goal.slice_bounds-same_bytes-end-2
-slice_bounds-same_bytes-end-2 c = omega (arith, other-long c, c.fewer-2.ensures, c.requires)
+slice_bounds-same_bytes-end-2 c =
+    let other-long : length c.args.b.names ≡ 64 = search rules in
+    omega (arith, other-long, c.fewer-2.ensures, c.requires)
 
 pub returns : goal.returns
 returns c = let a = c.args in names-told a.a a.b a.i a.j c.fewer.ensures c.fewer-2.ensures c.same_bytes.ensures

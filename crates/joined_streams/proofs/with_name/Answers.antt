@@ -8,17 +8,15 @@ use Rattle.joined_streams.proofs.Places.{byte-copied}
 use borrow.Author.Rules.{rules}
 use Rattle.joined_streams.proofs.with_name.Goals as goal
 
-given-long : (c : tie.Start invariant-loop decreases-loop) → length c.args.from.names ≡ 64
-given-long c = search rules
-
 pub loop-i-init : goal.loop-i-init
 loop-i-init c = (omega arith, refl, refl)
 
 pub loop-i-preserved : goal.loop-i-preserved
 loop-i-preserved c =
+    let given-long : length c.args.from.names ≡ 64 = search rules in
     let loop = c.loop-i in
     let s = c in
-    (omega (arith, c.loop-i-test.true), search rules, ap (λ l. set l (s.args.to.count * 8 + loop.i) (get_or s.args.from.names (s.args.stream * 8 + loop.i) 0)) loop.invariant.2 ∙ byte-copied s.args.to.names s.args.from.names (s.args.to.count * 8) (s.args.stream * 8) loop.i (let d = length-drop (s.args.stream * 8) s.args.from.names in let n = given-long s in let f = c.fewer-length.ensures in omega (arith, c.loop-i-test.true, s.requires)))
+    (omega (arith, c.loop-i-test.true), search rules, ap (λ l. set l (s.args.to.count * 8 + loop.i) (get_or s.args.from.names (s.args.stream * 8 + loop.i) 0)) loop.invariant.2 ∙ byte-copied s.args.to.names s.args.from.names (s.args.to.count * 8) (s.args.stream * 8) loop.i (let d = length-drop (s.args.stream * 8) s.args.from.names in let n = given-long in let f = c.fewer-length.ensures in omega (arith, c.loop-i-test.true, s.requires)))
 
 pub returns : goal.returns
 returns c =

@@ -19,10 +19,10 @@ pub loop-stream-init : goal.loop-stream-init
 loop-stream-init c = let a = c.args in let e : a.from.count - 0 ≡ a.from.count = omega arith in (omega arith, omega (arith, c.requires.0), ap (with_others a.known a.from a.to 0) e)
 
 pub place_of-requires : goal.place_of-requires
-place_of-requires c κs = let s = c in (s.requires.1, omega (arith, c.loop-stream-test.true, s.requires.2))
+place_of-requires c = let s = c in (s.requires.1, omega (arith, c.loop-stream-test.true, s.requires.2))
 
 pub with_stream-all-requires : goal.with_stream-all-requires
-with_stream-all-requires c κs = let s = c in (omega (arith, c.loop-stream.invariant.1, c.loop-stream-test.true, s.requires.2), omega (arith, c.loop-stream-test.true, s.requires.2))
+with_stream-all-requires c = let s = c in (omega (arith, c.loop-stream.invariant.1, c.loop-stream-test.true, s.requires.2), omega (arith, c.loop-stream-test.true, s.requires.2))
 
 pub overflow_add-stream : goal.overflow_add-stream
 overflow_add-stream c = omega (arith, c.loop-stream-test.true, c.requires.2)

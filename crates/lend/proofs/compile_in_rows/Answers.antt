@@ -6,25 +6,25 @@ use Rattle.lend.proofs.Room.{in_rows}
 use Rattle.lend.proofs.compile_in_rows.Goals as goal
 
 pub key_room-keys-requires : goal.key_room-keys-requires
-key_room-keys-requires c κs = tt
+key_room-keys-requires c = tt
 
 pub work_room-live-requires : goal.work_room-live-requires
-work_room-live-requires c κs = tt
+work_room-live-requires c = tt
 
 pub work_room-class-requires : goal.work_room-class-requires
-work_room-class-requires c κs = tt
+work_room-class-requires c = tt
 
 pub work_room-next-requires : goal.work_room-next-requires
-work_room-next-requires c κs = tt
+work_room-next-requires c = tt
 
 pub work_room-heads-requires : goal.work_room-heads-requires
-work_room-heads-requires c κs = tt
+work_room-heads-requires c = tt
 
 pub work_room-links-requires : goal.work_room-links-requires
-work_room-links-requires c κs = tt
+work_room-links-requires c = tt
 
 pub work_room-envelopes-requires : goal.work_room-envelopes-requires
-work_room-envelopes-requires c κs = tt
+work_room-envelopes-requires c = tt
 
 pub slice_bounds-compile-end : goal.slice_bounds-compile-end
 slice_bounds-compile-end c = sym (length-take-le _ _ (array-borrow-prefix-keys c))
@@ -48,10 +48,10 @@ pub slice_bounds-compile-end-7 : goal.slice_bounds-compile-end-7
 slice_bounds-compile-end-7 c = sym (length-take-le _ _ (array-borrow-prefix-envelopes c))
 
 pub compile-compiled-requires : goal.compile-compiled-requires
-compile-compiled-requires c κs = tt
+compile-compiled-requires c = tt
 
 pub answer-requires : goal.answer-requires
-answer-requires c κs = tt
+answer-requires c = tt
 
 pub returns : goal.returns
 returns c =

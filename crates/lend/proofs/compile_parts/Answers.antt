@@ -7,15 +7,15 @@ use Rattle.lend.proofs.Rows.{lent-entries}
 use Rattle.lend.proofs.Room.{parts-lent}
 use Rattle.lend.proofs.compile_parts.Goals as goal
 
--- The entries of the rows lent.
-entries_fit : (c : tie.After-rows-lent) → c.rows-lent.result * c.before.before.before.before.args.letters ≤ 32768
-entries_fit c = let letters = c.before.before.before.before.args.letters in subst (λ n. n * letters ≤ 32768) (sym c.rows-lent.ensures) (lent-entries letters)
-
 pub overflow_mul-room : goal.overflow_mul-room
-overflow_mul-room c = let h = entries_fit c in omega arith
+overflow_mul-room c =
+    let entries_fit : c.rows_lent-rows.result * c.args.letters ≤ 32768 = let letters = c.args.letters in subst (λ n. n * letters ≤ 32768) (sym c.rows_lent-rows.ensures) (lent-entries letters) in
+    let h = entries_fit in omega arith
 
 pub slice_bounds-compile_in_rows-end : goal.slice_bounds-compile_in_rows-end
-slice_bounds-compile_in_rows-end c = omega (arith, entries_fit c, c.clear_entries.auto.0, c.requires.0)
+slice_bounds-compile_in_rows-end c =
+    let entries_fit : c.rows_lent-rows.result * c.args.letters ≤ 32768 = let letters = c.args.letters in subst (λ n. n * letters ≤ 32768) (sym c.rows_lent-rows.ensures) (lent-entries letters) in
+    omega (arith, entries_fit, c.clear_entries.auto.0, c.requires.0)
 
 pub slice_bounds-compile_in_rows-end-2 : goal.slice_bounds-compile_in_rows-end-2
 slice_bounds-compile_in_rows-end-2 c = sym (length-take-le _ _ (slice-relend-prefix-compile-in-rows c))

@@ -5,13 +5,6 @@ use lib.IntN.{nat_abs, ◌-ℤ◌}
 use Rattle.letters.proofs.Above.{sum_fits, far, near-left, near-right, difference_fits, difference_cast, difference_cut}
 use Rattle.letters.proofs.distance.Goals as goal
 
--- Where the difference is taken it is below 1,024.
-near : (c : tie.Joined1) → nat_abs (c.before.args.high -ℤ c.before.args.low) < 1024
-near c =
-    let s = c.before in
-    ⊎_elim (λ w. near-left s.args.low s.args.high s.ranges.low s.ranges.high s.requires w.0.taken w.1.left)
-    (λ w. near-right s.args.low s.args.high s.ranges.low s.ranges.high s.requires w.left) c.if1.branch
-
 pub overflow_add-low : goal.overflow_add-low
 overflow_add-low c = let s = c in sum_fits s.args.low s.args.high s.ranges.low s.ranges.high c.if-low-lt9223372036854774784.true
 
@@ -19,10 +12,22 @@ pub returns-then-low-high : goal.returns-then-low-high
 returns-then-low-high c = let s = c in far s.args.low s.args.high s.ranges.low s.ranges.high c.if-low-lt9223372036854774784.true c.if-low-high.true
 
 pub overflow_sub-result : goal.overflow_sub-result
-overflow_sub-result c = let s = c in difference_fits s.args.low s.args.high s.ranges.low s.ranges.high s.requires (near c)
+overflow_sub-result c =
+    let near : nat_abs (c.args.high -ℤ c.args.low) < 1024 = (let s = c in
+    ⊎_elim (λ w. near-left s.args.low s.args.high s.ranges.low s.ranges.high s.requires w.0.true w.1.left)
+    (λ w. near-right s.args.low s.args.high s.ranges.low s.ranges.high s.requires w.left) c.if-low-lt9223372036854774784.branch) in
+    let s = c in difference_fits s.args.low s.args.high s.ranges.low s.ranges.high s.requires (near)
 
 pub overflow_cast-result : goal.overflow_cast-result
-overflow_cast-result c = let s = c in difference_cast s.args.low s.args.high s.ranges.low s.ranges.high s.requires (near c)
+overflow_cast-result c =
+    let near : nat_abs (c.args.high -ℤ c.args.low) < 1024 = (let s = c in
+    ⊎_elim (λ w. near-left s.args.low s.args.high s.ranges.low s.ranges.high s.requires w.0.true w.1.left)
+    (λ w. near-right s.args.low s.args.high s.ranges.low s.ranges.high s.requires w.left) c.if-low-lt9223372036854774784.branch) in
+    let s = c in difference_cast s.args.low s.args.high s.ranges.low s.ranges.high s.requires (near)
 
 pub returns : goal.returns
-returns c = let s = c in difference_cut s.args.low s.args.high s.ranges.low s.ranges.high s.requires (near c)
+returns c =
+    let near : nat_abs (c.args.high -ℤ c.args.low) < 1024 = (let s = c in
+    ⊎_elim (λ w. near-left s.args.low s.args.high s.ranges.low s.ranges.high s.requires w.0.true w.1.left)
+    (λ w. near-right s.args.low s.args.high s.ranges.low s.ranges.high s.requires w.left) c.if-low-lt9223372036854774784.branch) in
+    let s = c in difference_cut s.args.low s.args.high s.ranges.low s.ranges.high s.requires (near)

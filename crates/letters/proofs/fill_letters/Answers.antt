@@ -9,13 +9,6 @@ use Rattle.letters.proofs.AllLetters.{filled, too_many, no_letter, no_room, fill
 use Rattle.letters.proofs.Widths.{count_fits}
 use Rattle.letters.proofs.fill_letters.Goals as goal
 
--- In a turn one more letter fits into the list.
-fits_in : (c : tie.In-loop invariant-loop decreases-loop) → c.before.loop.at + c.before.before.before.fewer.result ≤ length c.before.loop.out
-fits_in c =
-    let s = c.before.before.before.before.before.before.before in
-    let h = letter-fits s.args.lows.now s.args.highs.now s.args.out.now c.before.before.before.before.before.before.letter-count.ensures c.before.before.before.before.before.if1.false c.before.before.before.fewer.ensures c.before.before.before.before.if2.false c.before.before.if3.false c.before.loop.number c.loop-test.true in
-    omega (arith, h, c.before.loop.invariant.2, c.before.loop.invariant.0)
-
 pub returns-then-count-gt1024 : goal.returns-then-count-gt1024
 returns-then-count-gt1024 c = let s = c in too_many s.args.lows.now s.args.highs.now s.args.out.now c.letter_count-count.ensures c.if-count-gt1024.true
 
@@ -35,10 +28,18 @@ pub loop-number-init : goal.loop-number-init
 loop-number-init c = let s = c in (refl, omega arith, sym (zero-mul c.fewer-n.result), filled-start s.args.lows.now s.args.highs.now s.args.out.now)
 
 pub overflow_add-end : goal.overflow_add-end
-overflow_add-end c = omega (arith, fits_in c)
+overflow_add-end c =
+    let fits_in : c.loop-number.at + c.fewer-n.result ≤ length c.loop-number.out = (let s = c in
+    let h = letter-fits s.args.lows.now s.args.highs.now s.args.out.now c.letter_count-count.ensures c.if-count-gt1024.false c.fewer-n.ensures c.if-count-eq0.false c.if-out-count.false c.loop-number.number c.loop-number-test.true in
+    omega (arith, h, c.loop-number.invariant.2, c.loop-number.invariant.0)) in
+    omega (arith, fits_in)
 
 pub offset_bounds-out-at : goal.offset_bounds-out-at
-offset_bounds-out-at c = omega (arith, fits_in c)
+offset_bounds-out-at c =
+    let fits_in : c.loop-number.at + c.fewer-n.result ≤ length c.loop-number.out = (let s = c in
+    let h = letter-fits s.args.lows.now s.args.highs.now s.args.out.now c.letter_count-count.ensures c.if-count-gt1024.false c.fewer-n.ensures c.if-count-eq0.false c.if-out-count.false c.loop-number.number c.loop-number-test.true in
+    omega (arith, h, c.loop-number.invariant.2, c.loop-number.invariant.0)) in
+    omega (arith, fits_in)
 
 pub slice_bounds-write_letter-count : goal.slice_bounds-write_letter-count
 slice_bounds-write_letter-count c = omega arith
@@ -47,10 +48,14 @@ pub slice_bounds-write_letter-start : goal.slice_bounds-write_letter-start
 slice_bounds-write_letter-start c = omega arith
 
 pub slice_bounds-write_letter-end : goal.slice_bounds-write_letter-end
-slice_bounds-write_letter-end c = omega (arith, fits_in c)
+slice_bounds-write_letter-end c =
+    let fits_in : c.loop-number.at + c.fewer-n.result ≤ length c.loop-number.out = (let s = c in
+    let h = letter-fits s.args.lows.now s.args.highs.now s.args.out.now c.letter_count-count.ensures c.if-count-gt1024.false c.fewer-n.ensures c.if-count-eq0.false c.if-out-count.false c.loop-number.number c.loop-number-test.true in
+    omega (arith, h, c.loop-number.invariant.2, c.loop-number.invariant.0)) in
+    omega (arith, fits_in)
 
 pub write_letter-requires : goal.write_letter-requires
-write_letter-requires c κs =
+write_letter-requires c =
     let s = c in
     let loop = c.loop-number in
     let n = c.fewer-n.result in
@@ -78,9 +83,6 @@ loop-number-preserved c =
           loop.invariant.2 wide loop.invariant.3 c.write_letter.ensures
           ∙ ap (filled s.args.lows.now s.args.highs.now s.args.out.now) more,
     )
-
-pub shape_of-out : goal.shape_of-out
-shape_of-out c = c.loop-number.invariant.0
 
 pub returns : goal.returns
 returns c = let s = c in all-filled s.args.lows.now s.args.highs.now s.args.out.now c.letter_count-count.ensures c.if-count-gt1024.false c.fewer-n.ensures c.if-count-eq0.false c.if-out-count.false (omega arith) c.loop-number.invariant.3

@@ -24,7 +24,7 @@ pub bounds-highs-i : goal.bounds-highs-i
 bounds-highs-i c = omega (arith, c.loop-i.invariant.0)
 
 pub product-count-requires : goal.product-count-requires
-product-count-requires c κs = omega (arith, c.values.ensures, c.loop-i.invariant.1)
+product-count-requires c = omega (arith, c.values.ensures, c.loop-i.invariant.1)
 
 pub loop-i-smaller : goal.loop-i-smaller
 loop-i-smaller c = omega arith

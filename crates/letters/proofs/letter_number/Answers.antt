@@ -18,42 +18,14 @@ use Rattle.letters.proofs.Widths.{count_fits}
 use Rattle.letters.proofs.letter_number.Goals as goal
 
 -- In a turn whose value is in its range: the two tests, and what `values` answers.
-record Turn (c : tie.After-values invariant-loop decreases-loop) : Type 0 where
-  below : c.before.before.before.before.before.before.before.loop.i < min (length c.before.before.before.before.before.before.before.before.before.before.before.before.before.args.lows.now) (length c.before.before.before.before.before.before.before.before.before.before.before.before.before.args.highs.now)
-  long : length c.before.before.before.before.before.before.before.before.before.before.before.before.before.args.letter.now ≡ min (length c.before.before.before.before.before.before.before.before.before.before.before.before.before.args.lows.now) (length c.before.before.before.before.before.before.before.before.before.before.before.before.before.args.highs.now)
-  positive : 0 < count_from c.before.before.before.before.before.before.before.before.before.before.before.before.before.args.lows.now c.before.before.before.before.before.before.before.before.before.before.before.before.before.args.highs.now 0
-  few : count_from c.before.before.before.before.before.before.before.before.before.before.before.before.before.args.lows.now c.before.before.before.before.before.before.before.before.before.before.before.before.before.args.highs.now 0 ≤ 1024
-  above_low : le_z (get_or c.before.before.before.before.before.before.before.before.before.before.before.before.before.args.lows.now c.before.before.before.before.before.before.before.loop.i (pos 0)) (get_or c.before.before.before.before.before.before.before.before.before.before.before.before.before.args.letter.now c.before.before.before.before.before.before.before.loop.i (pos 0)) ≡ true
-  below-high : le_z (get_or c.before.before.before.before.before.before.before.before.before.before.before.before.before.args.letter.now c.before.before.before.before.before.before.before.loop.i (pos 0)) (get_or c.before.before.before.before.before.before.before.before.before.before.before.before.before.args.highs.now c.before.before.before.before.before.before.before.loop.i (pos 0)) ≡ true
-  size_is : c.values.result ≡ size (ranged (get_or c.before.before.before.before.before.before.before.before.before.before.before.before.before.args.lows.now c.before.before.before.before.before.before.before.loop.i (pos 0)) (get_or c.before.before.before.before.before.before.before.before.before.before.before.before.before.args.highs.now c.before.before.before.before.before.before.before.loop.i (pos 0))).range
-
-turn : (c : tie.After-values invariant-loop decreases-loop) → Turn c
-turn c =
-    let s = c.before.before.before.before.before.before.before.before.before.before.before.before.before in
-    let i = c.before.before.before.before.before.before.before.loop.i in
-    let b : i < min (length s.args.lows.now) (length s.args.highs.now) = omega (arith, c.before.before.before.before.before.before.loop-test.true, c.before.before.before.before.before.before.before.before.before.fewer.ensures) in
-    let p = some-letters s.args.lows.now s.args.highs.now s.args.letter.now c.before.before.before.before.before.before.before.before.before.before.before.before.letter-count.ensures c.before.before.before.before.before.before.before.before.before.before.before.if1.false c.before.before.before.before.before.before.before.before.before.before.if2.false in
-    record {
-      below = b;
-      long = c.before.before.before.before.before.before.before.before.if3.false ∙ c.before.before.before.before.before.before.before.before.before.fewer.ensures;
-      positive = p.0;
-      few = p.1;
-      above_low = below_yes (get_or c.before.before.before.before.before.before.before.before.before.before.before.before.before.args.letter.now c.before.before.before.before.before.before.before.loop.i (pos 0)) (get_or c.before.before.before.before.before.before.before.before.before.before.before.before.before.args.lows.now c.before.before.before.before.before.before.before.loop.i (pos 0)) (record { sfits = c.before.before.before.value.given }) (record { sfits = c.before.before.before.before.before.low.given }) c.before.before.if4.false;
-      below-high = below_yes (get_or c.before.before.before.before.before.before.before.before.before.before.before.before.before.args.highs.now c.before.before.before.before.before.before.before.loop.i (pos 0)) (get_or c.before.before.before.before.before.before.before.before.before.before.before.before.before.args.letter.now c.before.before.before.before.before.before.before.loop.i (pos 0)) (record { sfits = c.before.before.before.before.high.given }) (record { sfits = c.before.before.before.value.given }) c.before.if5.false;
-      size_is = (size_exact s.args.lows.now s.args.highs.now p.0 p.1 i b (record { sfits = c.before.before.before.before.before.low.given }) (record { sfits = c.before.before.before.before.high.given }) c.values.ensures).0;
-    }
-
--- The number with one digit more is below 1,024.
-next-below : (c : tie.After-distance invariant-loop decreases-loop)
-    → c.before.before.before.before.before.before.before.before.loop.number * c.before.values.result + c.distance.result < 1024
-next-below c =
-    let s = c.before.before.before.before.before.before.before.before.before.before.before.before.before.before in
-    let t = turn c.before in
-    let loop = c.before.before.before.before.before.before.before.before.loop in
-    let low = get_or s.args.lows.now loop.i (pos 0) in
-    let value = get_or s.args.letter.now loop.i (pos 0) in
-    let digit = c.distance.ensures ∙ held_both (λ a b. min (nat_abs (b -ℤ a)) 1024) low value (record { sfits = c.before.before.before.before.before.before.low.given }) (record { sfits = c.before.before.before.before.value.given }) in
-    omega (arith, next_small s.args.lows.now s.args.highs.now s.args.letter.now loop.i t.below t.long loop.invariant t.positive t.few t.above_low t.below-high, ap (λ x. loop.number * x) t.size_is, digit-exact s.args.lows.now s.args.highs.now s.args.letter.now loop.i t.below t.long loop.invariant t.positive t.few t.above_low t.below-high digit)
+record Turn (c : goal.After-values-size) : Type 0 where
+  below : c.loop-i.i < min (length c.args.lows.now) (length c.args.highs.now)
+  long : length c.args.letter.now ≡ min (length c.args.lows.now) (length c.args.highs.now)
+  positive : 0 < count_from c.args.lows.now c.args.highs.now 0
+  few : count_from c.args.lows.now c.args.highs.now 0 ≤ 1024
+  above_low : le_z (get_or c.args.lows.now c.loop-i.i (pos 0)) (get_or c.args.letter.now c.loop-i.i (pos 0)) ≡ true
+  below-high : le_z (get_or c.args.letter.now c.loop-i.i (pos 0)) (get_or c.args.highs.now c.loop-i.i (pos 0)) ≡ true
+  size_is : c.values-size.result ≡ size (ranged (get_or c.args.lows.now c.loop-i.i (pos 0)) (get_or c.args.highs.now c.loop-i.i (pos 0))).range
 
 pub returns-then-count-eq0 : goal.returns-then-count-eq0
 returns-then-count-eq0 c = let s = c in no_letters s.args.lows.now s.args.highs.now s.args.letter.now c.letter_count-count.ensures c.if-count-eq0.true
@@ -103,13 +75,55 @@ returns-then-high-value c =
     (below_no (get_or s.args.highs.now (i) (pos 0)) (get_or s.args.letter.now (i) (pos 0)) (record { sfits = c.high-1.given }) (record { sfits = c.value-1.given }) c.if-high-value.true))
 
 pub distance-digit-requires : goal.distance-digit-requires
-distance-digit-requires c κs = lt_z_false _ _ c.if-value-low.false
+distance-digit-requires c = lt_z_false _ _ c.if-value-low.false
 
 pub overflow_mul-number : goal.overflow_mul-number
-overflow_mul-number c = record { fits = count_fits 32 (omega arith) (omega (arith, next-below c)) }
+overflow_mul-number c =
+    let turn : Turn c = (let s = c in
+    let i = c.loop-i.i in
+    let b : i < min (length s.args.lows.now) (length s.args.highs.now) = omega (arith, c.loop-i-test.true, c.fewer-n.ensures) in
+    let p = some-letters s.args.lows.now s.args.highs.now s.args.letter.now c.letter_count-count.ensures c.if-count-eq0.false c.if-count-gt1024.false in
+    record {
+      below = b;
+      long = c.if-letter-n.false ∙ c.fewer-n.ensures;
+      positive = p.0;
+      few = p.1;
+      above_low = below_yes (get_or c.args.letter.now c.loop-i.i (pos 0)) (get_or c.args.lows.now c.loop-i.i (pos 0)) (record { sfits = c.value-1.given }) (record { sfits = c.low-1.given }) c.if-value-low.false;
+      below-high = below_yes (get_or c.args.highs.now c.loop-i.i (pos 0)) (get_or c.args.letter.now c.loop-i.i (pos 0)) (record { sfits = c.high-1.given }) (record { sfits = c.value-1.given }) c.if-high-value.false;
+      size_is = (size_exact s.args.lows.now s.args.highs.now p.0 p.1 i b (record { sfits = c.low-1.given }) (record { sfits = c.high-1.given }) c.values-size.ensures).0;
+    }) in
+    let next-below : c.loop-i.number * c.values-size.result + c.distance-digit.result < 1024 = (let s = c in
+    let t = turn in
+    let loop = c.loop-i in
+    let low = get_or s.args.lows.now loop.i (pos 0) in
+    let value = get_or s.args.letter.now loop.i (pos 0) in
+    let digit = c.distance-digit.ensures ∙ held_both (λ a b. min (nat_abs (b -ℤ a)) 1024) low value (record { sfits = c.low-1.given }) (record { sfits = c.value-1.given }) in
+    omega (arith, next_small s.args.lows.now s.args.highs.now s.args.letter.now loop.i t.below t.long loop.invariant t.positive t.few t.above_low t.below-high, ap (λ x. loop.number * x) t.size_is, digit-exact s.args.lows.now s.args.highs.now s.args.letter.now loop.i t.below t.long loop.invariant t.positive t.few t.above_low t.below-high digit)) in
+    record { fits = count_fits 32 (omega arith) (omega (arith, next-below)) }
 
 pub overflow_add-number : goal.overflow_add-number
-overflow_add-number c = record { fits = count_fits 32 (omega arith) (omega (arith, next-below c)) }
+overflow_add-number c =
+    let turn : Turn c = (let s = c in
+    let i = c.loop-i.i in
+    let b : i < min (length s.args.lows.now) (length s.args.highs.now) = omega (arith, c.loop-i-test.true, c.fewer-n.ensures) in
+    let p = some-letters s.args.lows.now s.args.highs.now s.args.letter.now c.letter_count-count.ensures c.if-count-eq0.false c.if-count-gt1024.false in
+    record {
+      below = b;
+      long = c.if-letter-n.false ∙ c.fewer-n.ensures;
+      positive = p.0;
+      few = p.1;
+      above_low = below_yes (get_or c.args.letter.now c.loop-i.i (pos 0)) (get_or c.args.lows.now c.loop-i.i (pos 0)) (record { sfits = c.value-1.given }) (record { sfits = c.low-1.given }) c.if-value-low.false;
+      below-high = below_yes (get_or c.args.highs.now c.loop-i.i (pos 0)) (get_or c.args.letter.now c.loop-i.i (pos 0)) (record { sfits = c.high-1.given }) (record { sfits = c.value-1.given }) c.if-high-value.false;
+      size_is = (size_exact s.args.lows.now s.args.highs.now p.0 p.1 i b (record { sfits = c.low-1.given }) (record { sfits = c.high-1.given }) c.values-size.ensures).0;
+    }) in
+    let next-below : c.loop-i.number * c.values-size.result + c.distance-digit.result < 1024 = (let s = c in
+    let t = turn in
+    let loop = c.loop-i in
+    let low = get_or s.args.lows.now loop.i (pos 0) in
+    let value = get_or s.args.letter.now loop.i (pos 0) in
+    let digit = c.distance-digit.ensures ∙ held_both (λ a b. min (nat_abs (b -ℤ a)) 1024) low value (record { sfits = c.low-1.given }) (record { sfits = c.value-1.given }) in
+    omega (arith, next_small s.args.lows.now s.args.highs.now s.args.letter.now loop.i t.below t.long loop.invariant t.positive t.few t.above_low t.below-high, ap (λ x. loop.number * x) t.size_is, digit-exact s.args.lows.now s.args.highs.now s.args.letter.now loop.i t.below t.long loop.invariant t.positive t.few t.above_low t.below-high digit)) in
+    record { fits = count_fits 32 (omega arith) (omega (arith, next-below)) }
 
 pub overflow_add-i : goal.overflow_add-i
 overflow_add-i c = omega (arith, c.loop-i-test.true, c.fewer-n.ensures, c.well_formed)
@@ -119,8 +133,21 @@ loop-i-smaller c = omega (arith, c.loop-i-test.true)
 
 pub loop-i-preserved : goal.loop-i-preserved
 loop-i-preserved c =
+    let turn : Turn c = (let s = c in
+    let i = c.loop-i.i in
+    let b : i < min (length s.args.lows.now) (length s.args.highs.now) = omega (arith, c.loop-i-test.true, c.fewer-n.ensures) in
+    let p = some-letters s.args.lows.now s.args.highs.now s.args.letter.now c.letter_count-count.ensures c.if-count-eq0.false c.if-count-gt1024.false in
+    record {
+      below = b;
+      long = c.if-letter-n.false ∙ c.fewer-n.ensures;
+      positive = p.0;
+      few = p.1;
+      above_low = below_yes (get_or c.args.letter.now c.loop-i.i (pos 0)) (get_or c.args.lows.now c.loop-i.i (pos 0)) (record { sfits = c.value-1.given }) (record { sfits = c.low-1.given }) c.if-value-low.false;
+      below-high = below_yes (get_or c.args.highs.now c.loop-i.i (pos 0)) (get_or c.args.letter.now c.loop-i.i (pos 0)) (record { sfits = c.high-1.given }) (record { sfits = c.value-1.given }) c.if-high-value.false;
+      size_is = (size_exact s.args.lows.now s.args.highs.now p.0 p.1 i b (record { sfits = c.low-1.given }) (record { sfits = c.high-1.given }) c.values-size.ensures).0;
+    }) in
     let s = c in
-    let t = turn c in
+    let t = turn in
     subst (λ k. Counted s.args.lows.now s.args.highs.now s.args.letter.now k (c.loop-i.number * c.values-size.result + c.distance-digit.result)) (sym (add-one c.loop-i.i))
     (counted-again s.args.lows.now s.args.highs.now s.args.letter.now c.loop-i.i t.below t.long c.loop-i.invariant t.positive t.few t.above_low t.below-high
     (ap₂ (λ x y. c.loop-i.number * x + y) t.size_is (digit-exact s.args.lows.now s.args.highs.now s.args.letter.now c.loop-i.i t.below t.long c.loop-i.invariant t.positive t.few t.above_low t.below-high (c.distance-digit.ensures ∙ held_both (λ a b. min (nat_abs (b -ℤ a)) 1024) (get_or s.args.lows.now c.loop-i.i (pos 0)) (get_or s.args.letter.now c.loop-i.i (pos 0)) (record { sfits = c.low-1.given }) (record { sfits = c.value-1.given })))))

@@ -6,13 +6,6 @@ use Rattle.letters.specs.Described.{described, has_letter}
 use Rattle.letters.proofs.Numbers.{too_many, not-number, no_room, can_write}
 use Rattle.letters.proofs.letter_values.Goals as goal
 
--- The letter is there, with room.
-can-write-here : (c : tie.Else3)
-    → has_letter (described c.before.before.before.before.before.args.lows.now c.before.before.before.before.before.args.highs.now) c.before.before.before.before.before.args.number (length c.before.before.before.before.before.args.out.now) ≡ true
-can-write-here c =
-    let s = c.before.before.before.before.before in
-    can_write s.args.lows.now s.args.highs.now s.args.number s.args.out.now c.before.before.before.before.letter-count.ensures c.before.before.before.if1.false c.before.before.if2.false c.before.fewer.ensures c.if3.false
-
 pub returns-then-count-gt1024 : goal.returns-then-count-gt1024
 returns-then-count-gt1024 c = let s = c in too_many s.args.lows.now s.args.highs.now s.args.number s.args.out.now c.letter_count-count.ensures c.if-count-gt1024.true
 
@@ -23,10 +16,13 @@ pub returns-then-out-fewer : goal.returns-then-out-fewer
 returns-then-out-fewer c = let s = c in no_room s.args.lows.now s.args.highs.now s.args.number s.args.out.now c.letter_count-count.ensures c.if-count-gt1024.false c.if-count-number.false c.fewer.ensures c.if-out-fewer.true
 
 pub write_letter-requires : goal.write_letter-requires
-write_letter-requires c κs = can-write-here c
-
-pub shape_of-out : goal.shape_of-out
-shape_of-out c = c.write_letter.auto.1.1.1.0
+write_letter-requires c =
+    let can-write-here : has_letter (described c.args.lows.now c.args.highs.now) c.args.number (length c.args.out.now) ≡ true = (let s = c in
+    can_write s.args.lows.now s.args.highs.now s.args.number s.args.out.now c.letter_count-count.ensures c.if-count-gt1024.false c.if-count-number.false c.fewer.ensures c.if-out-fewer.false) in
+    can-write-here
 
 pub returns : goal.returns
-returns c = (sym (can-write-here c), c.write_letter.ensures)
+returns c =
+    let can-write-here : has_letter (described c.args.lows.now c.args.highs.now) c.args.number (length c.args.out.now) ≡ true = (let s = c in
+    can_write s.args.lows.now s.args.highs.now s.args.number s.args.out.now c.letter_count-count.ensures c.if-count-gt1024.false c.if-count-number.false c.fewer.ensures c.if-out-fewer.false) in
+    (sym (can-write-here), c.write_letter.ensures)

@@ -14,7 +14,7 @@ pub returns-then-high-low : goal.returns-then-high-low
 returns-then-high-low c = let s = c in ap cut_count (empty-size s.args.low s.args.high (held-order s.args.high s.args.low s.ranges.high s.ranges.low c.if-high-low.true))
 
 pub distance-requires : goal.distance-requires
-distance-requires c κs = lt_z_false _ _ c.if-high-low.false
+distance-requires c = lt_z_false _ _ c.if-high-low.false
 
 pub overflow_add-result : goal.overflow_add-result
 overflow_add-result c = record { fits = count_fits 32 (omega arith) (omega (arith, c.distance.ensures)) }

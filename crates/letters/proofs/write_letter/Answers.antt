@@ -17,27 +17,14 @@ use Rattle.letters.proofs.Streams.{LetterThere, letter_reflects}
 use Rattle.letters.proofs.write_letter.Goals as goal
 
 -- In a turn there is a letter with room, and i - 1 is a stream's number.
-there : (s : tie.Start invariant-loop decreases-loop) → LetterThere (described s.args.lows.now s.args.highs.now) s.args.number (length s.args.out.now)
+there : (s : goal.Start) → LetterThere (described s.args.lows.now s.args.highs.now) s.args.number (length s.args.out.now)
 there s = from_true (letter_reflects (described s.args.lows.now s.args.highs.now) s.args.number (length s.args.out.now)) s.requires
 
-some_letter : (s : tie.Start invariant-loop decreases-loop) → 0 < count_from s.args.lows.now s.args.highs.now 0
+some_letter : (s : goal.Start) → 0 < count_from s.args.lows.now s.args.highs.now 0
 some_letter s = omega (arith, (there s).known)
 
-room-there : (s : tie.Start invariant-loop decreases-loop) → min (length s.args.lows.now) (length s.args.highs.now) ≤ length s.args.out.now
+room-there : (s : goal.Start) → min (length s.args.lows.now) (length s.args.highs.now) ≤ length s.args.out.now
 room-there s = omega (arith, (there s).ranges, length-described s.args.lows.now s.args.highs.now)
-
-stream-there : (c : tie.In-loop invariant-loop decreases-loop)
-    → c.before.loop.i - 1 < min (length c.before.before.before.args.lows.now) (length c.before.before.before.args.highs.now)
-stream-there c = omega (arith, c.before.loop.invariant.0, c.loop-test.true)
-
--- What `values` answers is exact, and not 0.
-exact : (c : tie.After-values invariant-loop decreases-loop)
-    → (c.values.result ≡ size (ranged (get_or c.before.before.before.before.before.before.args.lows.now (c.before.before.before.before.loop.i - 1) (pos 0)) (get_or c.before.before.before.before.before.before.args.highs.now (c.before.before.before.before.loop.i - 1) (pos 0))).range) × (0 < c.values.result)
-exact c =
-    let s = c.before.before.before.before.before.before in
-    let t = c.before.before.before in
-    size_exact s.args.lows.now s.args.highs.now (some_letter s) (there s).few (c.before.before.before.before.loop.i - 1) (stream-there t) (record { sfits = c.before.before.values-arg.given })
-    (record { sfits = c.before.values-arg2.given }) c.values.ensures
 
 pub loop-i-init : goal.loop-i-init
 loop-i-init c =
@@ -67,16 +54,27 @@ pub bounds-lows-i-in-loop-i : goal.bounds-lows-i-in-loop-i
 bounds-lows-i-in-loop-i c = omega (arith, c.loop-i.invariant.0)
 
 pub nonzero_rem-rest : goal.nonzero_rem-rest
-nonzero_rem-rest c = (exact c).1
+nonzero_rem-rest c =
+    let stream-there : c.loop-i.i - 1 < min (length c.args.lows.now) (length c.args.highs.now) = omega (arith, c.loop-i.invariant.0, c.loop-i-test.true) in
+    let exact : (c.values-size.result ≡ size (ranged (get_or c.args.lows.now (c.loop-i.i - 1) (pos 0)) (get_or c.args.highs.now (c.loop-i.i - 1) (pos 0))).range) × (0 < c.values-size.result) = (let s = c in
+    let t = c in
+    size_exact s.args.lows.now s.args.highs.now (some_letter s) (there s).few (c.loop-i.i - 1) (stream-there) (record { sfits = c.values-arg-1.given })
+    (record { sfits = c.values-arg-in-loop-i-1.given }) c.values-size.ensures) in
+    (exact).1
 
 pub raised-requires : goal.raised-requires
-raised-requires c κs =
+raised-requires c =
+    let stream-there : c.loop-i.i - 1 < min (length c.args.lows.now) (length c.args.highs.now) = omega (arith, c.loop-i.invariant.0, c.loop-i-test.true) in
+    let exact : (c.values-size.result ≡ size (ranged (get_or c.args.lows.now (c.loop-i.i - 1) (pos 0)) (get_or c.args.highs.now (c.loop-i.i - 1) (pos 0))).range) × (0 < c.values-size.result) = (let s = c in
+    let t = c in
+    size_exact s.args.lows.now s.args.highs.now (some_letter s) (there s).few (c.loop-i.i - 1) (stream-there) (record { sfits = c.values-arg-1.given })
+    (record { sfits = c.values-arg-in-loop-i-1.given }) c.values-size.ensures) in
     let s = c in
     let i = c.loop-i.i - 1 in
     let fl : SFits w64 (get_or s.args.lows.now i (pos 0)) = record { sfits = c.values-arg-1.given } in
     subst (λ z. SFits w64 (z +ℤ pos (c.loop-i.rest % c.values-size.result))) (sym (to_z-of_z w64 (get_or s.args.lows.now i (pos 0)) fl))
-    (digit-fits s.args.lows.now s.args.highs.now (some_letter s) i (stream-there c) fl (record { sfits = c.values-arg-in-loop-i-1.given }) c.loop-i.rest
-    (exact c).0)
+    (digit-fits s.args.lows.now s.args.highs.now (some_letter s) i (stream-there) fl (record { sfits = c.values-arg-in-loop-i-1.given }) c.loop-i.rest
+    (exact).0)
 
 pub offset_bounds-out-i : goal.offset_bounds-out-i
 offset_bounds-out-i c = omega (arith, c.loop-i.invariant.0, c.well_formed)
@@ -85,32 +83,40 @@ pub bounds-out-i : goal.bounds-out-i
 bounds-out-i c = omega (arith, c.loop-i.invariant.0, c.loop-i.invariant.1, room-there c)
 
 pub nonzero_div-rest : goal.nonzero_div-rest
-nonzero_div-rest c = (exact c).1
+nonzero_div-rest c =
+    let stream-there : c.loop-i.i - 1 < min (length c.args.lows.now) (length c.args.highs.now) = omega (arith, c.loop-i.invariant.0, c.loop-i-test.true) in
+    let exact : (c.values-size.result ≡ size (ranged (get_or c.args.lows.now (c.loop-i.i - 1) (pos 0)) (get_or c.args.highs.now (c.loop-i.i - 1) (pos 0))).range) × (0 < c.values-size.result) = (let s = c in
+    let t = c in
+    size_exact s.args.lows.now s.args.highs.now (some_letter s) (there s).few (c.loop-i.i - 1) (stream-there) (record { sfits = c.values-arg-1.given })
+    (record { sfits = c.values-arg-in-loop-i-1.given }) c.values-size.ensures) in
+    (exact).1
 
 pub loop-i-smaller : goal.loop-i-smaller
 loop-i-smaller c = omega arith
 
 pub loop-i-preserved : goal.loop-i-preserved
 loop-i-preserved c =
+    let stream-there : c.loop-i.i - 1 < min (length c.args.lows.now) (length c.args.highs.now) = omega (arith, c.loop-i.invariant.0, c.loop-i-test.true) in
+    let exact : (c.values-size.result ≡ size (ranged (get_or c.args.lows.now (c.loop-i.i - 1) (pos 0)) (get_or c.args.highs.now (c.loop-i.i - 1) (pos 0))).range) × (0 < c.values-size.result) = (let s = c in
+    let t = c in
+    size_exact s.args.lows.now s.args.highs.now (some_letter s) (there s).few (c.loop-i.i - 1) (stream-there) (record { sfits = c.values-arg-1.given })
+    (record { sfits = c.values-arg-in-loop-i-1.given }) c.values-size.ensures) in
     let s = c in
     let loop = c.loop-i in
     let i = loop.i - 1 in
     let t = c in
-    let n : loop.i ≡ suc i = omega (arith, t.loop-test.true) in
+    let n : loop.i ≡ suc i = omega (arith, t.loop-i-test.true) in
     let low = get_or s.args.lows.now i (pos 0) in
-    let size = (exact c).0 in
+    let size = (exact).0 in
     let rest = loop.invariant.3 ∙ ap (λ k. s.args.number / count_from s.args.lows.now s.args.highs.now k) n in (
       omega (arith, loop.invariant.0),
       length-set loop.out i _ ∙ loop.invariant.1,
-      written-again s.args.lows.now s.args.highs.now s.args.number s.args.out.now (some_letter s) i (stream-there t)
+      written-again s.args.lows.now s.args.highs.now s.args.number s.args.out.now (some_letter s) i (stream-there)
           (room-there s) (loop.invariant.2 ∙ ap (written s.args.lows.now s.args.highs.now s.args.number s.args.out.now) n) rest size
           (to_z-of_z w64 c.raised.result (record { sfits = c.raised.type-inv }) ∙ c.raised.ensures
           ∙ ap (λ z. z +ℤ pos (loop.rest % c.values-size.result)) (to_z-of_z w64 low (record { sfits = c.values-arg-1.given }))),
-      rest-again s.args.lows.now s.args.highs.now s.args.number i (stream-there t) rest size,
+      rest-again s.args.lows.now s.args.highs.now s.args.number i (stream-there) rest size,
     )
-
-pub shape_of-out : goal.shape_of-out
-shape_of-out c = c.loop-i.invariant.1
 
 pub returns : goal.returns
 returns c =

@@ -15,19 +15,13 @@ returns-then-not-has_room c = record {
 }
 
 pub mark_pending-requires : goal.mark_pending-requires
-mark_pending-requires c κs = ((says_yes (not-false c.has_room.result c.if-not-has_room.false) c.has_room.ensures).1, c.if-pending-live.false)
+mark_pending-requires c = ((says_yes (not-false c.has_room.result c.if-not-has_room.false) c.has_room.ensures).1, c.if-pending-live.false)
 
 pub set_finals-requires : goal.set_finals-requires
-set_finals-requires c κs = (
+set_finals-requires c = (
   c.prune.auto.1.1.0 ∙ (c.mark_pending.auto.1.1.0 ∙ c.if-pending-live.false),
   (says_yes (not-false c.has_room.result c.if-not-has_room.false) c.has_room.ensures).1,
 )
-
-pub shape_of-pending : goal.shape_of-pending
-shape_of-pending c = c.prune.auto.1.1.0 ∙ c.mark_pending.auto.1.1.0
-
-pub shape_of-flags : goal.shape_of-flags
-shape_of-flags c = c.set_finals.auto.1.1.0
 
 pub returns : goal.returns
 returns c =

@@ -1,5 +1,5 @@
 -- `live_rows::find_live` meets its contract: each pass starts from what the pass before left.
-use mathlib.Core.Path.{refl, ◌∙◌}
+use mathlib.Core.Path.{refl}
 use borrow.Author.Tests.{not-true, not-false}
 use Rattle.basics.proofs.Answers.{says_yes, says_no}
 use Rattle.live_rows.proofs.Loops.{finds_live}
@@ -10,9 +10,6 @@ returns-then-not-has_room c = record {
   fits = λ z. absurd (says_no (not-true c.has_room.result c.if-not-has_room.true) c.has_room.ensures (z.entries_fit, z.flags_fit));
   unchanged = λ z. refl;
 }
-
-pub shape_of-live : goal.shape_of-live
-shape_of-live c = c.grow.auto.1.1.0 ∙ (c.keep_flagged.auto.1.0 ∙ (c.prune.auto.1.1.0 ∙ c.fill.auto.0))
 
 pub returns : goal.returns
 returns c =

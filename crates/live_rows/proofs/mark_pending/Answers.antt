@@ -20,8 +20,5 @@ loop-row-preserved-then-flags-at-eq1 c = (omega arith, simp length-set c.loop-ro
 pub loop-row-preserved : goal.loop-row-preserved
 loop-row-preserved c = (omega arith, simp length-set c.loop-row.invariant.1, set_next (omega arith) (inl (refl, record { lives = c.if-live-at-ne1.false; without = c.if-flags-at-eq1.false })) c.loop-row.invariant.2)
 
-pub shape_of-pending : goal.shape_of-pending
-shape_of-pending c = c.loop-row.invariant.1
-
 pub returns : goal.returns
 returns c = record { row = λ s h. c.loop-row.invariant.2.row s (omega arith) }

@@ -20,8 +20,5 @@ loop-row-preserved-then-endless-at-eq1 c = (omega arith, simp length-set c.loop-
 pub loop-row-preserved : goal.loop-row-preserved
 loop-row-preserved c = (omega arith, simp length-set c.loop-row.invariant.1, set_next (omega arith) (inl (refl, record { lives = c.if-live-at-ne1.false; without = c.if-endless-at-eq1.false })) c.loop-row.invariant.2, beyond-next 1 c.loop-row.invariant.3)
 
-pub shape_of-finals : goal.shape_of-finals
-shape_of-finals c = c.loop-row.invariant.1
-
 pub returns : goal.returns
 returns c = (record { row = λ s h. c.loop-row.invariant.2.row s (omega arith) }, record { row = λ s h. c.loop-row.invariant.3.row s (omega (arith, c.loop-row.invariant.0)) })

@@ -20,8 +20,5 @@ loop-row-preserved-then-flags-at-ne1 c = flagging_clear c.loop-row-test.true c.i
 pub loop-row-preserved : goal.loop-row-preserved
 loop-row-preserved c = flagging_keep c.if-flags-at-ne1.false c.loop-row.invariant
 
-pub shape_of-marks : goal.shape_of-marks
-shape_of-marks c = c.loop-row.invariant.same
-
 pub returns : goal.returns
 returns c = flagging_end c.loop-row-test.false c.loop-row.invariant

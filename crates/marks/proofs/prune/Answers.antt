@@ -4,10 +4,7 @@ use Rattle.basics.proofs.Answers.{says_yes, says_no}
 use Rattle.marks.proofs.prune.Goals as goal
 
 pub sweeps-requires : goal.sweeps-requires
-sweeps-requires c κs = says_yes c.if-rows_fit.true c.rows_fit.ensures
-
-pub shape_of-marks : goal.shape_of-marks
-shape_of-marks c = c.sweeps.auto.1.1.1.0
+sweeps-requires c = says_yes c.if-rows_fit.true c.rows_fit.ensures
 
 pub returns-then-rows_fit : goal.returns-then-rows_fit
 returns-then-rows_fit c = record {

@@ -16,7 +16,7 @@ pub loop-row-init : goal.loop-row-init
 loop-row-init c = let args = c.args in (omega arith, swept_none args.to args.marks.now λ s h. omega arith)
 
 pub turn_row-requires : goal.turn_row-requires
-turn_row-requires c κs =
+turn_row-requires c =
     let inv = c.loop-row.invariant in
     (search rules, rw inv.1.same c.requires)
 
@@ -29,9 +29,6 @@ pub loop-row-preserved : goal.loop-row-preserved
 loop-row-preserved c =
     let loop = c.loop-row in
     (omega (arith, loop.invariant.1.same, c.loop-row-test.true), swept_kept (one_more loop.row) loop.invariant.1 c.turn_row.ensures c.if-turn_row.false)
-
-pub shape_of-marks : goal.shape_of-marks
-shape_of-marks c = c.loop-row.invariant.1.same
 
 pub returns : goal.returns
 returns c = swept_seen (λ s h. omega (arith, c.loop-row.invariant.1.same, c.loop-row-test.false)) c.loop-row.invariant.1

@@ -1,6 +1,5 @@
 -- `marks::turn_row` meets its contract: each way out is a sweep over the one row, by the tests that lead there.
 use native.Mathlib.Omega.{arith}
-use borrow.Author.Tests.{not-true, not-false}
 use lib.ListN.{length}
 use Rattle.basics.proofs.Lists.{row_fits}
 use Rattle.marks.proofs.Sweeping.{settled-mark, settled-successor, swept_keep, swept_turn}
@@ -18,7 +17,7 @@ overflow_mul-row c =
     omega (arith, row_fits start.args.row (length start.args.marks.now) start.args.letters (length start.args.entries.now) start.requires.0 start.requires.1)
 
 pub has_marked-requires : goal.has_marked-requires
-has_marked-requires c κs =
+has_marked-requires c =
     let start = c in
     row_fits start.args.row (length start.args.marks.now) start.args.letters (length start.args.entries.now) start.requires.0 start.requires.1
 
@@ -27,11 +26,11 @@ returns-then-has_marked-to c =
     let args = c.args in
     let found = c.has_marked in
     swept_keep args.letters args.entries.now args.to args.marks.now args.row
-    (settled-successor args.letters args.entries.now args.to found.result args.marks.now args.row (not-true _ c.if-has_marked-to.true) found.ensures)
+    (settled-successor args.letters args.entries.now args.to found.result args.marks.now args.row c.if-has_marked-to.true found.ensures)
 
 pub returns : goal.returns
 returns c =
     let start = c in
     let found = c.has_marked in
     swept_turn start.args.letters start.args.entries.now start.args.to found.result start.args.marks.now start.args.row
-    start.requires.0 c.if-marks-row.false (not-false _ c.if-has_marked-to.false) found.ensures
+    start.requires.0 c.if-marks-row.false c.if-has_marked-to.false found.ensures

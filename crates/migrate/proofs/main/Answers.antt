@@ -4,10 +4,10 @@ use lib.Seq.{length-take-le}
 use Rattle.migrate.proofs.main.Goals as goal
 
 pub read_sheet-old_size-requires : goal.read_sheet-old_size-requires
-read_sheet-old_size-requires c κs = tt
+read_sheet-old_size-requires c = tt
 
 pub read_sheet-new_size-requires : goal.read_sheet-new_size-requires
-read_sheet-new_size-requires c κs = tt
+read_sheet-new_size-requires c = tt
 
 pub slice_bounds-show_migration-end : goal.slice_bounds-show_migration-end
 slice_bounds-show_migration-end c = sym (length-take-le _ _ (array-share-prefix-old c))
@@ -16,10 +16,10 @@ pub slice_bounds-show_migration-end-2 : goal.slice_bounds-show_migration-end-2
 slice_bounds-show_migration-end-2 c = sym (length-take-le _ _ (array-share-prefix-new c))
 
 pub show_migration-printed-requires : goal.show_migration-printed-requires
-show_migration-printed-requires c κs = tt
+show_migration-printed-requires c = tt
 
 pub tell-requires : goal.tell-requires
-tell-requires c κs = tt
+tell-requires c = tt
 
 pub returns : goal.returns
 returns c = tt

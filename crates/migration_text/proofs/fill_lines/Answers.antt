@@ -5,15 +5,13 @@ use lib.ListN.{get_or}
 use Rattle.migration_text.proofs.Text.{writing_start, writing_long, writing_inside, line-inside, writing_next, writing_end}
 use Rattle.migration_text.proofs.fill_lines.Goals as goal
 
--- a state is a number of two bytes
-state-small : (c : tie.After-shared-slice-known2 invariant-loop decreases-loop) → get_or c.before.before.before.before.before.args.states.now c.before.before.loop.old 0 < 65536
-state-small c = omega (arith, c.shared-slice-known2.given c.before.before.loop.old)
-
 pub loop-old-init : goal.loop-old-init
 loop-old-init c = writing_start
 
 pub overflow_cast-states : goal.overflow_cast-states
-overflow_cast-states c = omega (arith, state-small c)
+overflow_cast-states c =
+    let state-small : get_or c.args.states.now c.loop-old.old 0 < 65536 = omega (arith, c.type_inv.states c.loop-old.old) in
+    omega (arith, state-small)
 
 pub slice_bounds-pair_line-count : goal.slice_bounds-pair_line-count
 slice_bounds-pair_line-count c = writing_inside c.requires.0 c.requires.1 c.requires.2 c.loop-old.invariant
@@ -22,10 +20,12 @@ pub slice_bounds-pair_line-start : goal.slice_bounds-pair_line-start
 slice_bounds-pair_line-start c = writing_inside c.requires.0 c.requires.1 c.requires.2 c.loop-old.invariant
 
 pub pair_line-at-requires : goal.pair_line-at-requires
-pair_line-at-requires c κs = tt
+pair_line-at-requires c = tt
 
 pub overflow_add-at : goal.overflow_add-at
-overflow_add-at c = omega (arith, line-inside c.requires.0 c.requires.1 c.requires.2 c.loop-old.invariant c.loop-old-test.true (state-small c) c.pair_line-at.ensures, writing_long c.requires.0 c.requires.1 c.requires.2 c.loop-old.invariant)
+overflow_add-at c =
+    let state-small : get_or c.args.states.now c.loop-old.old 0 < 65536 = omega (arith, c.type_inv.states c.loop-old.old) in
+    omega (arith, line-inside c.requires.0 c.requires.1 c.requires.2 c.loop-old.invariant c.loop-old-test.true (state-small) c.pair_line-at.ensures, writing_long c.requires.0 c.requires.1 c.requires.2 c.loop-old.invariant)
 
 pub overflow_add-old : goal.overflow_add-old
 overflow_add-old c = omega (arith, c.loop-old-test.true)
@@ -34,10 +34,9 @@ pub loop-old-smaller : goal.loop-old-smaller
 loop-old-smaller c = omega (arith, c.loop-old-test.true)
 
 pub loop-old-preserved : goal.loop-old-preserved
-loop-old-preserved c = writing_next c.requires.0 c.requires.1 c.requires.2 c.loop-old.invariant c.loop-old-test.true (state-small c) c.pair_line-at.ensures
-
-pub shape_of-out : goal.shape_of-out
-shape_of-out c = writing_long c.requires.0 c.requires.1 c.requires.2 c.loop-old.invariant
+loop-old-preserved c =
+    let state-small : get_or c.args.states.now c.loop-old.old 0 < 65536 = omega (arith, c.type_inv.states c.loop-old.old) in
+    writing_next c.requires.0 c.requires.1 c.requires.2 c.loop-old.invariant c.loop-old-test.true (state-small) c.pair_line-at.ensures
 
 pub returns : goal.returns
 returns c = (writing_end c.requires.0 c.requires.1 c.requires.2 c.loop-old.invariant c.loop-old-test.false, omega (arith, writing_inside c.requires.0 c.requires.1 c.requires.2 c.loop-old.invariant, writing_long c.requires.0 c.requires.1 c.requires.2 c.loop-old.invariant, c.requires.1))

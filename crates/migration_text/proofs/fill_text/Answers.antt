@@ -7,9 +7,6 @@ use Rattle.migration_text.specs.Migration.{most_states, migration_output, Writes
 use Rattle.migration_text.proofs.Text.{refused_writes, given_writes, take-fewer}
 use Rattle.migration_text.proofs.fill_text.Goals as goal
 
-pub shape_of-out-then-refusal-ne0 : goal.shape_of-out-then-refusal-ne0
-shape_of-out-then-refusal-ne0 c = c.refusal_line.auto.1.0
-
 pub returns-then-refusal-ne0 : goal.returns-then-refusal-ne0
 returns-then-refusal-ne0 c = refused_writes (take most_states c.args.states.now) c.requires c.if-refusal-ne0.true (omega (arith, c.ranges.refusal)) c.refusal_line.ensures
 
@@ -17,7 +14,7 @@ pub slice_bounds-fill_lines-end : goal.slice_bounds-fill_lines-end
 slice_bounds-fill_lines-end c = sym (length-take-le _ _ (omega (arith, c.fewer-count.ensures)))
 
 pub fill_lines-requires : goal.fill_lines-requires
-fill_lines-requires c κs =
+fill_lines-requires c =
     let start = c in
     let text = c.text-start in
     let count = c.fewer-count in (
@@ -25,9 +22,6 @@ fill_lines-requires c κs =
       text.auto.1.0 ∙ start.requires,
       omega (arith, (text.ensures.written (omega (arith, start.requires))).1),
     )
-
-pub shape_of-out : goal.shape_of-out
-shape_of-out c = c.fill_lines.auto.1.1.0 ∙ c.text-start.auto.1.0
 
 pub returns : goal.returns
 returns c =

@@ -13,17 +13,11 @@ returns-then-not-is_graph c = inl (record { no_graph = says_no (not-true c.is_gr
 pub bounds-live-0 : goal.bounds-live-0
 bounds-live-0 c = let g = says_yes (not-false c.is_graph.result c.if-not-is_graph.false) c.is_graph.ensures in omega (arith, g.some_row, c.find_live.auto.1.1.1.0)
 
-pub shape_of-live-then-live-eq1 : goal.shape_of-live-then-live-eq1
-shape_of-live-then-live-eq1 c = c.find_live.auto.1.1.1.0
-
 pub returns-then-live-eq1 : goal.returns-then-live-eq1
 returns-then-live-eq1 c =
     let g = says_yes (not-false c.is_graph.result c.if-not-is_graph.false) c.is_graph.ensures in
     let find = c.find_live in
     inr (inr (refl, record { graph = g; rows_are = find.auto.1.1.1.0; found = find.ensures.fits (record { entries_fit = g.entries_fit; flags_fit = g.flags_fit }); start = c.if-live-eq1.true }))
-
-pub shape_of-live-else-live-eq1 : goal.shape_of-live-else-live-eq1
-shape_of-live-else-live-eq1 c = c.find_live.auto.1.1.1.0
 
 pub returns-else-live-eq1 : goal.returns-else-live-eq1
 returns-else-live-eq1 c =

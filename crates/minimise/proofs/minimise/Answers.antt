@@ -1,5 +1,5 @@
 -- `minimise::minimise` meets its contract: what the passes leave is cleared beyond the used rows, and every work table is cleared.
-use mathlib.Core.Path.{refl, ap₂, ◌∙◌}
+use mathlib.Core.Path.{refl, ap₂}
 use mathlib.Core.List.{◌∷◌}
 use native.Mathlib.Omega.{arith}
 use Rattle.basics.proofs.Clearing.{zeroed}
@@ -8,30 +8,6 @@ use Rattle.minimise.proofs.minimise.Goals as goal
 
 pub overflow_mul-states : goal.overflow_mul-states
 overflow_mul-states c = omega (arith, (ran_fits c.run-answer.ensures).0, c.well_formed)
-
-pub shape_of-entries : goal.shape_of-entries
-shape_of-entries c = c.clear_tables.auto.0 ∙ c.run-answer.auto.0
-
-pub shape_of-flags : goal.shape_of-flags
-shape_of-flags c = c.clear_tables.auto.1.1.0 ∙ c.run-answer.auto.1.0
-
-pub shape_of-live : goal.shape_of-live
-shape_of-live c = c.clear_tables.auto.1.1.1.1.0 ∙ c.run-answer.auto.1.1.1.1.0
-
-pub shape_of-class : goal.shape_of-class
-shape_of-class c = c.clear_tables.auto.1.1.1.1.1.0 ∙ c.run-answer.auto.1.1.1.1.1.0
-
-pub shape_of-next : goal.shape_of-next
-shape_of-next c = c.clear_tables.auto.1.1.1.1.1.1.0 ∙ c.run-answer.auto.1.1.1.1.1.1.0
-
-pub shape_of-heads : goal.shape_of-heads
-shape_of-heads c = c.clear_tables.auto.1.1.1.1.1.1.1.0 ∙ c.run-answer.auto.1.1.1.1.1.1.1.0
-
-pub shape_of-links : goal.shape_of-links
-shape_of-links c = c.clear_tables.auto.1.1.1.1.1.1.1.1.0 ∙ c.run-answer.auto.1.1.1.1.1.1.1.1.0
-
-pub shape_of-envelopes : goal.shape_of-envelopes
-shape_of-envelopes c = c.clear_tables.auto.1.1.1.1.1.1.1.1.1.0 ∙ c.run-answer.auto.1.1.1.1.1.1.1.1.1.0
 
 pub returns : goal.returns
 returns c =

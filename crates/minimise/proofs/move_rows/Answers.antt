@@ -7,17 +7,6 @@ use Rattle.basics.proofs.Lists.{row_fits}
 use Rattle.minimise.proofs.Compacting.{first-least, compacting_start, compacting_next, compacting_end}
 use Rattle.minimise.proofs.move_rows.Goals as goal
 
--- the row of a state lies within the entries, and not before the state's own place
-fits : (c : tie.In-loop invariant-loop decreases-loop) → let start = c.before.before.before.before.before.before.before in let row = get_or start.args.first.now c.before.loop.state 0 in
-    (row * start.args.letters + start.args.letters ≤ length start.args.entries.now) × (c.before.loop.state * start.args.letters ≤ row * start.args.letters)
-fits c =
-    let start = c.before.before.before.before.before.before.before in
-    let state = c.before.loop.state in
-    let row = get_or start.args.first.now state 0 in (
-      row_fits row (length start.args.class.now) start.args.letters (length start.args.entries.now) (start.requires.0.inside state c.loop-test.true) start.requires.1.1.0,
-      mul-le-mul_right start.args.letters (first-least start.requires.0 state c.loop-test.true),
-    )
-
 pub loop-state-init : goal.loop-state-init
 loop-state-init c =
     let args = c.args in
@@ -27,13 +16,37 @@ pub overflow_cast-row : goal.overflow_cast-row
 overflow_cast-row c = omega (arith, c.type_inv.first c.loop-state.state)
 
 pub overflow_mul-row : goal.overflow_mul-row
-overflow_mul-row c = omega (arith, (fits c).0, c.well_formed)
+overflow_mul-row c =
+    let fits : let start = c in let row = get_or start.args.first.now c.loop-state.state 0 in
+    (row * start.args.letters + start.args.letters ≤ length start.args.entries.now) × (c.loop-state.state * start.args.letters ≤ row * start.args.letters) = (let start = c in
+    let state = c.loop-state.state in
+    let row = get_or start.args.first.now state 0 in (
+      row_fits row (length start.args.class.now) start.args.letters (length start.args.entries.now) (start.requires.0.inside state c.loop-state-test.true) start.requires.1.1.0,
+      mul-le-mul_right start.args.letters (first-least start.requires.0 state c.loop-state-test.true),
+    )) in
+    omega (arith, (fits).0, c.well_formed)
 
 pub overflow_mul-state : goal.overflow_mul-state
-overflow_mul-state c = omega (arith, (fits c).0, (fits c).1, c.well_formed)
+overflow_mul-state c =
+    let fits : let start = c in let row = get_or start.args.first.now c.loop-state.state 0 in
+    (row * start.args.letters + start.args.letters ≤ length start.args.entries.now) × (c.loop-state.state * start.args.letters ≤ row * start.args.letters) = (let start = c in
+    let state = c.loop-state.state in
+    let row = get_or start.args.first.now state 0 in (
+      row_fits row (length start.args.class.now) start.args.letters (length start.args.entries.now) (start.requires.0.inside state c.loop-state-test.true) start.requires.1.1.0,
+      mul-le-mul_right start.args.letters (first-least start.requires.0 state c.loop-state-test.true),
+    )) in
+    omega (arith, (fits).0, (fits).1, c.well_formed)
 
 pub move_row-requires : goal.move_row-requires
-move_row-requires c κs = (((fits c).1, rw c.loop-state.invariant.1.entries_length (fits c).0), c.requires.1.0)
+move_row-requires c =
+    let fits : let start = c in let row = get_or start.args.first.now c.loop-state.state 0 in
+    (row * start.args.letters + start.args.letters ≤ length start.args.entries.now) × (c.loop-state.state * start.args.letters ≤ row * start.args.letters) = (let start = c in
+    let state = c.loop-state.state in
+    let row = get_or start.args.first.now state 0 in (
+      row_fits row (length start.args.class.now) start.args.letters (length start.args.entries.now) (start.requires.0.inside state c.loop-state-test.true) start.requires.1.1.0,
+      mul-le-mul_right start.args.letters (first-least start.requires.0 state c.loop-state-test.true),
+    )) in
+    (((fits).1, rw c.loop-state.invariant.1.entries_length (fits).0), c.requires.1.0)
 
 pub bounds-finals-row : goal.bounds-finals-row
 bounds-finals-row c = omega (arith, c.requires.0.inside c.loop-state.state c.loop-state-test.true, c.requires.1.1.1, c.loop-state.invariant.1.finals_length)
@@ -43,14 +56,8 @@ loop-state-preserved c =
     let loop = c.loop-state in
     let start = c in (
       omega arith,
-      compacting_next c.move_row.new.0 start.requires.0 c.loop-state-test.true (omega (arith, start.requires.0.most, start.requires.1.1.1, loop.invariant.1.finals_length)) c.move_row.auto.0 c.move_row.ensures loop.invariant.1,
+      compacting_next c.move_row.new.entries start.requires.0 c.loop-state-test.true (omega (arith, start.requires.0.most, start.requires.1.1.1, loop.invariant.1.finals_length)) c.move_row.auto.0 c.move_row.ensures loop.invariant.1,
     )
-
-pub shape_of-entries : goal.shape_of-entries
-shape_of-entries c = c.loop-state.invariant.1.entries_length
-
-pub shape_of-finals : goal.shape_of-finals
-shape_of-finals c = c.loop-state.invariant.1.finals_length
 
 pub returns : goal.returns
 returns c = compacting_end (omega (arith, c.loop-state.invariant.0)) c.loop-state.invariant.1

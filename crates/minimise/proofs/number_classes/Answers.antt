@@ -39,12 +39,6 @@ loop-row-preserved c =
     let loop = c.loop-row in
     (omega arith, loop.invariant.1, loop.invariant.2, numbered-other loop.invariant.3 (λ e. c.if-class-at.false (e ∙ sym (add-one loop.row))))
 
-pub shape_of-number : goal.shape_of-number
-shape_of-number c = c.loop-row.invariant.1
-
-pub shape_of-first : goal.shape_of-first
-shape_of-first c = c.loop-row.invariant.2
-
 pub returns : goal.returns
 returns c =
     let end : c.loop-row.row ≡ length c.args.class.now = omega (arith, c.loop-row.invariant.0) in

@@ -6,4 +6,4 @@ use Rattle.normal.proofs.put_row.Goals as goal
 pub returns : goal.returns
 returns c =
     let a = c.args in
-    seven_stores a.table.now (a.row * 7) a.kind a.relation a.left a.left-added a.right a.right-added a.source
+    seven_stores a.table.now (a.row * 7) a.kind a.relation a.left a.left_added a.right a.right_added a.source

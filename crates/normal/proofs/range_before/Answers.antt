@@ -11,7 +11,7 @@ use Rattle.normal.proofs.range_before.Goals as goal
 pub returns-then-end-eq0 : goal.returns-then-end-eq0
 returns-then-end-eq0 c = sym (ap (range c) c.if-end-eq0.true)
   where
-    range : tie.Then1 → ℕ → Range
+    range : goal.Then-end-eq0 → ℕ → Range
     range c = let a = c.args in range_before (stored a.kinds.now a.values.now a.starts.now) a.lows.now a.highs.now
 
 pub returns : goal.returns

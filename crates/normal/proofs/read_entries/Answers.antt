@@ -121,7 +121,7 @@ slice_bounds-make-end-8 c =
     cut-length read.result.sheet.constraints read.result.sheet.rights (read_holding got).rights
 
 pub make-requires : goal.make-requires
-make-requires c κs =
+make-requires c =
     let s = c in
     let read = c.read-reading in
     let got = reading_sheet s.args.text.now read.ensures c.if-reading-ne0.false in

@@ -28,7 +28,7 @@ pub bounds-numbers-i : goal.bounds-numbers-i
 bounds-numbers-i c = let s = c in omega (arith, s.requires)
 
 pub put_range-requires : goal.put_range-requires
-put_range-requires c κs = let s = c in omega (arith, s.requires)
+put_range-requires c = let s = c in omega (arith, s.requires)
 
 pub overflow_add-i-in-loop-i : goal.overflow_add-i-in-loop-i
 overflow_add-i-in-loop-i c = let s = c in omega (arith, s.requires)

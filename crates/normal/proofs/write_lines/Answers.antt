@@ -12,8 +12,6 @@ use Rattle.normal.proofs.Lines.{lines-first, lines_rest, wrote_none, wrote-cons,
 use Rattle.normal.proofs.write_lines.Invariants.{rest}
 use Rattle.normal.proofs.write_lines.Goals as goal
 
-unfolding stored_lines
-
 pub loop-j-init : goal.loop-j-init
 loop-j-init c = let s = c in (omega arith, omega arith, s.requires.1, λ new r w. w)
 
@@ -39,7 +37,7 @@ pub overflow_cast-rights : goal.overflow_cast-rights
 overflow_cast-rights c = let l = c.loop-j.j in omega (arith, c.type_inv.rights l)
 
 pub write_line-next-requires : goal.write_line-next-requires
-write_line-next-requires c κs =
+write_line-next-requires c =
     let s = c in
     let o = c.loop-j in
     let j = o.j in
@@ -72,6 +70,7 @@ loop-j-preserved c =
     )
 
 pub returns : goal.returns
+unfolding stored_lines
 returns c =
     let s = c in
     let o = c.loop-j in

@@ -22,7 +22,7 @@ pub bounds-out-at : goal.bounds-out-at
 bounds-out-at c =
     let s = c in
     let t = c in
-    omega (arith, ap length t.loop.invariant.1, length-sets s.args.out.now s.args.at (take t.loop.i s.args.line.now))
+    omega (arith, ap length t.loop-i.invariant.1, length-sets s.args.out.now s.args.at (take t.loop-i.i s.args.line.now))
 
 pub overflow_add-i : goal.overflow_add-i
 overflow_add-i c = omega (arith, c.well_formed)
@@ -35,24 +35,18 @@ loop-i-preserved c =
     let s = c in
     let t = c in
     let line = s.args.line.now in
-    let i = t.loop.i in
+    let i = t.loop-i.i in
     let h : i < length line = omega arith in
     let k : s.args.at + i ≡ s.args.at + length (take i line) = ap (s.args.at +◌) (sym (length-take-le i line (omega arith))) in
     let e : set (sets s.args.out.now s.args.at (take i line)) (s.args.at + i) (get_or line i 0) ≡ sets s.args.out.now s.args.at (take (i + 1) line) =
     ap (λ p. set (sets s.args.out.now s.args.at (take i line)) p (get_or line i 0)) k
     ∙ sets_append s.args.out.now s.args.at (take i line) (get_or line i 0 ∷ [])
     ∙ ap (sets s.args.out.now s.args.at) (sym (ap (λ n. take n line) (add-one i) ∙ take-suc line i 0 h)) in
-    (omega arith, ap (λ l. set l (s.args.at + i) (get_or line i 0)) t.loop.invariant.1 ∙ e)
-
-pub shape_of-out : goal.shape_of-out
-shape_of-out c =
-    let s = c in
-    let t = c in
-    ap length t.loop.invariant.1 ∙ length-sets s.args.out.now s.args.at (take t.loop.i s.args.line.now)
+    (omega arith, ap (λ l. set l (s.args.at + i) (get_or line i 0)) t.loop-i.invariant.1 ∙ e)
 
 pub returns : goal.returns
 returns c =
     let s = c in
     let t = c in
-    let e : t.loop.i ≡ s.args.size = omega arith in
-    t.loop.invariant.1 ∙ ap (λ n. sets s.args.out.now s.args.at (take n s.args.line.now)) e
+    let e : t.loop-i.i ≡ s.args.size = omega arith in
+    t.loop-i.invariant.1 ∙ ap (λ n. sets s.args.out.now s.args.at (take n s.args.line.now)) e

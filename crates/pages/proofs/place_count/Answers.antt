@@ -8,16 +8,14 @@ use lib.ListN.{length}
 use Rattle.pages.proofs.Refused.{refused-places, given-places}
 use Rattle.pages.proofs.place_count.Goals as goal
 
-fewer_letters : (c : tie.After-letter-count) → c.letter-count.result ≤ 1025
-fewer_letters c = omega (arith, c.letter-count.ensures)
-
 pub returns-then-refusal-ne0 : goal.returns-then-refusal-ne0
 returns-then-refusal-ne0 c = let a = c.args in refused-places a.refusal c.if-refusal-ne0.true _
 
 pub overflow_mul-states : goal.overflow_mul-states
 overflow_mul-states c =
+    let fewer_letters : c.letter_count-count.result ≤ 1025 = omega (arith, c.letter_count-count.ensures) in
     let h = c.ranges.states in
-    record { fits = lt_of_le_of_lt (mul-le-mul_left c.args.states (fewer_letters c)) (omega arith) }
+    record { fits = lt_of_le_of_lt (mul-le-mul_left c.args.states (fewer_letters)) (omega arith) }
 
 pub returns : goal.returns
 returns c =

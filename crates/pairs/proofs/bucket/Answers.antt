@@ -6,9 +6,8 @@ use Rattle.pairs.proofs.Keys.{bucket_below}
 use Rattle.pairs.proofs.bucket.Goals as goal
 
 bucket-is : (m key : ℕ) → (key * 2654435761 % 4294967296 / 32768 + key * 2654435761 % 4294967296) % m ≡ pair_bucket m key
-bucket-is m key = refl
-
 unfolding pair_bucket
+bucket-is m key = refl
 
 pub returns : goal.returns
 returns c = let e = bucket-is c.args.m c.args.key in (e, rw e (bucket_below c.args.m c.args.key c.requires))

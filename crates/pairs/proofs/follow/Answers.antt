@@ -6,14 +6,5 @@ use Rattle.pairs.proofs.follow.Goals as goal
 pub returns-then-key-eq-NO_PAIR : goal.returns-then-key-eq-NO_PAIR
 returns-then-key-eq-NO_PAIR c = no_pair refl c.if-key-eq-NO_PAIR.true c.requires.0 refl
 
-pub shape_of-heads : goal.shape_of-heads
-shape_of-heads c = c.settle.auto.0
-
-pub shape_of-links : goal.shape_of-links
-shape_of-links c = c.settle.auto.1.0
-
-pub shape_of-keys : goal.shape_of-keys
-shape_of-keys c = c.settle.auto.1.1.0
-
 pub returns : goal.returns
 returns c = pair c.if-key-eq-NO_PAIR.false c.settle.ensures

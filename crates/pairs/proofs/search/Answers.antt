@@ -8,21 +8,8 @@ use Rattle.pairs.proofs.Turns.{turn-begin, turn_end, row-turn, row-over, SameLen
 use lib.ListN.{length}
 use Rattle.pairs.proofs.search.Goals as goal
 
--- ---- the lengths of the tables
--- when the first row is there
-begun : (c : tie.After-settle invariant-loop decreases-loop) → let a = c.before.before.before.before.before.before.before.before.before.before.before.before.before.before.before.before.args in SameLengths a.keys.now a.heads.now a.links.now a.entries.now c.settle.new.1.1.0 c.settle.new.0 c.settle.new.1.0 a.entries.now
-begun c = record { keys_long = c.settle.auto.1.1.0; heads_long = c.settle.auto.0 ∙ c.before.before.before.before.before.before.fill.auto.0; links_long = c.settle.auto.1.0; entries_long = refl }
-
--- before a row
-lengths : (c : tie.At-loop invariant-loop decreases-loop) → let a = c.before.before.before.before.before.before.before.before.before.before.before.before.before.before.before.before.before.before.before.before.before.before.before.args in SameLengths a.keys.now a.heads.now a.links.now a.entries.now c.loop.keys c.loop.heads c.loop.links c.loop.entries
-lengths c = lengths_trans (begun c.before.before.before.before.before.before.before) c.loop.invariant.1
-
--- after it
-row-lengths : (c : tie.After-search-row invariant-loop decreases-loop) → let l = c.before.before.before.before.before.before.loop in SameLengths l.keys l.heads l.links l.entries c.search-row.new.1.1.1.1.1.1.1.0 c.search-row.new.1.1.1.1.1.1.1.1.0 c.search-row.new.1.1.1.1.1.1.1.1.1.0 c.search-row.new.1.1.1.1.1.1.1.1.1.1.0
-row-lengths c = record { keys_long = c.search-row.auto.1.1.1.1.1.1.1.0; heads_long = c.search-row.auto.1.1.1.1.1.1.1.1.0; links_long = c.search-row.auto.1.1.1.1.1.1.1.1.1.0; entries_long = c.search-row.auto.1.1.1.1.1.1.1.1.1.1.0 }
-
 pub settle-start-requires : goal.settle-start-requires
-settle-start-requires c κs =
+settle-start-requires c =
     let s = c in
     (none-chained s.args.heads.now _ _ _ (omega (arith, s.requires.some_row, s.requires.heads_room)) c.fill.ensures, s.requires.few_rows, s.requires.links_room, s.requires.keys_room)
 
@@ -36,9 +23,11 @@ loop-s-init c =
     (rw b.0 b.1, lengths_refl)
 
 pub search_row-n-requires : goal.search_row-n-requires
-search_row-n-requires c κs =
+search_row-n-requires c =
+    let begun : let a = c.args in SameLengths a.keys.now a.heads.now a.links.now a.entries.now c.settle-start.new.keys c.settle-start.new.heads c.settle-start.new.links a.entries.now = record { keys_long = c.settle-start.auto.1.1.0; heads_long = c.settle-start.auto.0 ∙ c.fill.auto.0; links_long = c.settle-start.auto.1.0; entries_long = refl } in
+    let lengths : let a = c.args in SameLengths a.keys.now a.heads.now a.links.now a.entries.now c.loop-s.keys c.loop-s.heads c.loop-s.links c.loop-s.entries = lengths_trans (begun) c.loop-s.invariant.1 in
     let s = c in
-    let long = lengths c in (
+    let long = lengths in (
       record {
         few_left = s.requires.few_left;
         few_right = s.requires.few_right;
@@ -62,34 +51,12 @@ pub loop-s-smaller : goal.loop-s-smaller
 loop-s-smaller c = omega (arith, c.loop-s-test.true, c.loop-s.invariant.0.turn.within)
 
 pub loop-s-preserved : goal.loop-s-preserved
-loop-s-preserved c = (row-turn _ _ _ _ _ _ _ _ c.search_row-n.ensures c.if-limit-n.false, lengths_trans c.loop-s.invariant.1 (row-lengths c))
-
-pub shape_of-keys-after-loop-s : goal.shape_of-keys-after-loop-s
-shape_of-keys-after-loop-s c = (lengths c).keys_long
-
-pub shape_of-heads-after-loop-s : goal.shape_of-heads-after-loop-s
-shape_of-heads-after-loop-s c = (lengths c).heads_long
-
-pub shape_of-links-after-loop-s : goal.shape_of-links-after-loop-s
-shape_of-links-after-loop-s c = (lengths c).links_long
-
-pub shape_of-entries-after-loop-s : goal.shape_of-entries-after-loop-s
-shape_of-entries-after-loop-s c = (lengths c).entries_long
+loop-s-preserved c =
+    let row-lengths : let l = c.loop-s in SameLengths l.keys l.heads l.links l.entries c.search_row-n.new.keys c.search_row-n.new.heads c.search_row-n.new.links c.search_row-n.new.entries = record { keys_long = c.search_row-n.auto.1.1.1.1.1.1.1.0; heads_long = c.search_row-n.auto.1.1.1.1.1.1.1.1.0; links_long = c.search_row-n.auto.1.1.1.1.1.1.1.1.1.0; entries_long = c.search_row-n.auto.1.1.1.1.1.1.1.1.1.1.0 } in
+    (row-turn _ _ _ _ _ _ _ _ c.search_row-n.ensures c.if-limit-n.false, lengths_trans c.loop-s.invariant.1 (row-lengths))
 
 pub returns-after-loop-s : goal.returns-after-loop-s
 returns-after-loop-s c = rows_done c.loop-s.invariant.0.turn.within (turn_end _ _ _ _ _ _ _ _ c.loop-s-test.false c.loop-s.invariant.0)
-
-pub shape_of-keys-then-limit-n : goal.shape_of-keys-then-limit-n
-shape_of-keys-then-limit-n c = (lengths_trans (lengths c) (row-lengths c)).keys_long
-
-pub shape_of-heads-then-limit-n : goal.shape_of-heads-then-limit-n
-shape_of-heads-then-limit-n c = (lengths_trans (lengths c) (row-lengths c)).heads_long
-
-pub shape_of-links-then-limit-n : goal.shape_of-links-then-limit-n
-shape_of-links-then-limit-n c = (lengths_trans (lengths c) (row-lengths c)).links_long
-
-pub shape_of-entries-then-limit-n : goal.shape_of-entries-then-limit-n
-shape_of-entries-then-limit-n c = (lengths_trans (lengths c) (row-lengths c)).entries_long
 
 pub returns-then-limit-n : goal.returns-then-limit-n
 returns-then-limit-n c = row-over _ _ _ _ _ _ _ _ c.search_row-n.ensures c.if-limit-n.true

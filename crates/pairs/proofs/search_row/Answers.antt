@@ -12,46 +12,19 @@ use Rattle.pairs.specs.Rows.{key_of_entries, row_done, row_full}
 use Rattle.pairs.proofs.Turns.{turn_row, follow_fits, follow_old, follow_new, follow_full, followed-row, SameLengths, lengths_refl}
 use Rattle.pairs.proofs.search_row.Goals as goal
 
--- ---- after a letter is followed
-abbrev start_of : tie.After-follow invariant-loop decreases-loop → tie.Start invariant-loop decreases-loop
-start_of c = c.before.before.before.before.before.before.before.before.before.before.before.before.before.before.before.before.before.before
-
--- the row's entries are within the table, and so is the place of the letter's entry
-row_room : (c : tie.Start invariant-loop decreases-loop) → c.args.s * c.args.sizes.letters + c.args.sizes.letters ≤ length c.args.entries.now
-row_room c = row_fits c.args.s c.args.sizes.limit c.args.sizes.letters (length c.args.entries.now) (omega (arith, c.requires.1.0, c.requires.1.1.turn.within)) c.requires.0.entries_room
-
-within : (c : tie.After-follow invariant-loop decreases-loop) → (start_of c).args.s * (start_of c).args.sizes.letters + c.before.before.before.before.before.before.before.loop.a < length c.before.before.before.before.before.before.before.loop.entries
-within c = omega (arith, c.before.before.before.before.before.if1.true, c.before.before.before.before.before.before.before.loop.invariant.3.entries_long, row_room (start_of c))
-
--- what was followed is the key of the successor by the letter
-key_is : (c : tie.After-follow invariant-loop decreases-loop) → let a = (start_of c).args in let loop = c.before.before.before.before.before.before.before.loop in c.before.before.before.before.successor.result ≡ key_of_entries (at a.left.now (at loop.keys a.s / most_rows * a.sizes.left_letters + at a.left_cuts.now loop.a)) (at a.right.now (at loop.keys a.s % most_rows * a.sizes.right_letters + at a.right-cuts.now loop.a))
-key_is c =
-    let a = (start_of c).args in
-    let loop = c.before.before.before.before.before.before.before.loop in
-    c.before.before.before.before.successor.ensures ∙ ap (λ (x : ℕ). key_of_entries (at a.left.now (x / most_rows * a.sizes.left_letters + at a.left_cuts.now loop.a)) (at a.right.now (x % most_rows * a.sizes.right_letters + at a.right-cuts.now loop.a))) (sym loop.invariant.4)
-
--- the tables keep their lengths
-lengths : (c : tie.After-follow invariant-loop decreases-loop) → let a = (start_of c).args in SameLengths a.keys.now a.heads.now a.links.now a.entries.now c.follow.new.1.1.0 c.follow.new.0 c.follow.new.1.0 c.before.before.before.before.before.before.before.loop.entries
-lengths c =
-    let loop = c.before.before.before.before.before.before.before.loop in
-    record {
-      keys_long = c.follow.auto.1.1.0 ∙ loop.invariant.3.keys_long;
-      heads_long = c.follow.auto.0 ∙ loop.invariant.3.heads_long;
-      links_long = c.follow.auto.1.0 ∙ loop.invariant.3.links_long;
-      entries_long = loop.invariant.3.entries_long;
-    }
-
 pub overflow_mul-at : goal.overflow_mul-at
-overflow_mul-at c = omega (arith, row_room c, c.well_formed.1.1.1.1.1.1.1.1.1.1.0)
+overflow_mul-at c =
+    let row_room : c.args.s * c.args.sizes.letters + c.args.sizes.letters ≤ length c.args.entries.now = row_fits c.args.s c.args.sizes.limit c.args.sizes.letters (length c.args.entries.now) (omega (arith, c.requires.1.0, c.requires.1.1.turn.within)) c.requires.0.entries_room in
+    omega (arith, row_room, c.well_formed.1.1.1.1.1.1.1.1.1.1.0)
 
 pub loop-a-init : goal.loop-a-init
 loop-a-init c = let s = c in (s.requires.1.0, omega arith, s.requires.1.1, lengths_refl, refl)
 
 pub successor-next-requires : goal.successor-next-requires
-successor-next-requires c κs = let s = c in (s.requires.0.few_left, s.requires.0.few_right, omega (arith, c.loop-a-test.true, s.requires.0.left_cut), omega (arith, c.loop-a-test.true, s.requires.0.right_cut))
+successor-next-requires c = let s = c in (s.requires.0.few_left, s.requires.0.few_right, omega (arith, c.loop-a-test.true, s.requires.0.left_cut), omega (arith, c.loop-a-test.true, s.requires.0.right_cut))
 
 pub follow-row-requires : goal.follow-row-requires
-follow-row-requires c κs =
+follow-row-requires c =
     let s = c in
     let loop = c.loop-a in
     (loop.invariant.2.tables, s.requires.0.few_rows, omega (arith, s.requires.0.links_room, loop.invariant.3.links_long), omega (arith, s.requires.0.keys_room, loop.invariant.3.keys_long))
@@ -59,24 +32,17 @@ follow-row-requires c κs =
 pub overflow_add-result : goal.overflow_add-result
 overflow_add-result c = omega (arith, c.loop-a.invariant.2.turn.within, c.requires.0.few_rows)
 
-pub shape_of-keys-then-known-sizes : goal.shape_of-keys-then-known-sizes
-shape_of-keys-then-known-sizes c = (lengths c).keys_long
-
-pub shape_of-heads-then-known-sizes : goal.shape_of-heads-then-known-sizes
-shape_of-heads-then-known-sizes c = (lengths c).heads_long
-
-pub shape_of-links-then-known-sizes : goal.shape_of-links-then-known-sizes
-shape_of-links-then-known-sizes c = (lengths c).links_long
-
-pub shape_of-entries-then-known-sizes : goal.shape_of-entries-then-known-sizes
-shape_of-entries-then-known-sizes c = (lengths c).entries_long
-
 pub returns-then-known-sizes : goal.returns-then-known-sizes
 returns-then-known-sizes c =
+    let row_room : c.args.s * c.args.sizes.letters + c.args.sizes.letters ≤ length c.args.entries.now = row_fits c.args.s c.args.sizes.limit c.args.sizes.letters (length c.args.entries.now) (omega (arith, c.requires.1.0, c.requires.1.1.turn.within)) c.requires.0.entries_room in
+    let within : c.args.s * c.args.sizes.letters + c.loop-a.a < length c.loop-a.entries = omega (arith, c.loop-a-test.true, c.loop-a.invariant.3.entries_long, row_room) in
+    let key_is : let a = c.args in let loop = c.loop-a in c.successor-next.result ≡ key_of_entries (at a.left.now (at loop.keys a.s / most_rows * a.sizes.left_letters + at a.left_cuts.now loop.a)) (at a.right.now (at loop.keys a.s % most_rows * a.sizes.right_letters + at a.right_cuts.now loop.a)) = (let a = c.args in
+    let loop = c.loop-a in
+    c.successor-next.ensures ∙ ap (λ (x : ℕ). key_of_entries (at a.left.now (x / most_rows * a.sizes.left_letters + at a.left_cuts.now loop.a)) (at a.right.now (x % most_rows * a.sizes.right_letters + at a.right_cuts.now loop.a))) (sym loop.invariant.4)) in
     let at-follow = c in
     let s = start_of at-follow in
-    let loop = at-follow.loop in
-    let full = follow_full _ _ _ _ _ _ _ _ loop.invariant.2 loop.invariant.0 at-follow.if1.true (within at-follow) s.pre.0.few_rows (omega (arith, s.pre.0.keys_room, loop.invariant.3.keys_long)) at-follow.follow.result at-follow.successor.result (key_is at-follow) at-follow.follow.ensures c.if-row-known.true c.if-known-sizes.true in
+    let loop = at-follow.loop-a in
+    let full = follow_full _ _ _ _ _ _ _ _ loop.invariant.2 loop.invariant.0 at-follow.loop-a-test.true (within at-follow) s.pre.0.few_rows (omega (arith, s.pre.0.keys_room, loop.invariant.3.keys_long)) at-follow.follow-row.result at-follow.successor-next.result (key_is at-follow) at-follow.follow-row.ensures c.if-row-known.true c.if-known-sizes.true in
     rw c.if-known-sizes.true (row_full full)
 
 pub overflow_add-known : goal.overflow_add-known
@@ -84,44 +50,58 @@ overflow_add-known c = omega (arith, c.loop-a.invariant.2.turn.within, c.require
 
 pub overflow_cast-entries : goal.overflow_cast-entries
 overflow_cast-entries c =
+    let row_room : c.args.s * c.args.sizes.letters + c.args.sizes.letters ≤ length c.args.entries.now = row_fits c.args.s c.args.sizes.limit c.args.sizes.letters (length c.args.entries.now) (omega (arith, c.requires.1.0, c.requires.1.1.turn.within)) c.requires.0.entries_room in
+    let within : c.args.s * c.args.sizes.letters + c.loop-a.a < length c.loop-a.entries = omega (arith, c.loop-a-test.true, c.loop-a.invariant.3.entries_long, row_room) in
+    let key_is : let a = c.args in let loop = c.loop-a in c.successor-next.result ≡ key_of_entries (at a.left.now (at loop.keys a.s / most_rows * a.sizes.left_letters + at a.left_cuts.now loop.a)) (at a.right.now (at loop.keys a.s % most_rows * a.sizes.right_letters + at a.right_cuts.now loop.a)) = (let a = c.args in
+    let loop = c.loop-a in
+    c.successor-next.ensures ∙ ap (λ (x : ℕ). key_of_entries (at a.left.now (x / most_rows * a.sizes.left_letters + at a.left_cuts.now loop.a)) (at a.right.now (x % most_rows * a.sizes.right_letters + at a.right_cuts.now loop.a))) (sym loop.invariant.4)) in
     let at-follow = c in
     let s = start_of at-follow in
-    let loop = at-follow.loop in
-    omega (arith, follow_fits _ _ _ _ _ _ _ _ loop.invariant.2 loop.invariant.0 at-follow.if1.true (within at-follow) s.pre.0.few_rows (omega (arith, s.pre.0.keys_room, loop.invariant.3.keys_long)) at-follow.follow.result at-follow.successor.result (key_is at-follow) at-follow.follow.ensures)
+    let loop = at-follow.loop-a in
+    omega (arith, follow_fits _ _ _ _ _ _ _ _ loop.invariant.2 loop.invariant.0 at-follow.loop-a-test.true (within at-follow) s.pre.0.few_rows (omega (arith, s.pre.0.keys_room, loop.invariant.3.keys_long)) at-follow.follow-row.result at-follow.successor-next.result (key_is at-follow) at-follow.follow-row.ensures)
 
 pub overflow_add-entries : goal.overflow_add-entries
-overflow_add-entries c = omega (arith, within c, c.loop-a.invariant.3.entries_long, c.well_formed.1.1.1.1.1.1.1.1.1.1.0)
+overflow_add-entries c =
+    let row_room : c.args.s * c.args.sizes.letters + c.args.sizes.letters ≤ length c.args.entries.now = row_fits c.args.s c.args.sizes.limit c.args.sizes.letters (length c.args.entries.now) (omega (arith, c.requires.1.0, c.requires.1.1.turn.within)) c.requires.0.entries_room in
+    let within : c.args.s * c.args.sizes.letters + c.loop-a.a < length c.loop-a.entries = omega (arith, c.loop-a-test.true, c.loop-a.invariant.3.entries_long, row_room) in
+    omega (arith, within, c.loop-a.invariant.3.entries_long, c.well_formed.1.1.1.1.1.1.1.1.1.1.0)
 
 pub offset_bounds-entries-at : goal.offset_bounds-entries-at
-offset_bounds-entries-at c = omega (arith, within c, c.loop-a.invariant.3.entries_long, c.well_formed.1.1.1.1.1.1.1.1.1.1.0)
+offset_bounds-entries-at c =
+    let row_room : c.args.s * c.args.sizes.letters + c.args.sizes.letters ≤ length c.args.entries.now = row_fits c.args.s c.args.sizes.limit c.args.sizes.letters (length c.args.entries.now) (omega (arith, c.requires.1.0, c.requires.1.1.turn.within)) c.requires.0.entries_room in
+    let within : c.args.s * c.args.sizes.letters + c.loop-a.a < length c.loop-a.entries = omega (arith, c.loop-a-test.true, c.loop-a.invariant.3.entries_long, row_room) in
+    omega (arith, within, c.loop-a.invariant.3.entries_long, c.well_formed.1.1.1.1.1.1.1.1.1.1.0)
 
 pub bounds-entries-at : goal.bounds-entries-at
-bounds-entries-at c = within c
+bounds-entries-at c =
+    let row_room : c.args.s * c.args.sizes.letters + c.args.sizes.letters ≤ length c.args.entries.now = row_fits c.args.s c.args.sizes.limit c.args.sizes.letters (length c.args.entries.now) (omega (arith, c.requires.1.0, c.requires.1.1.turn.within)) c.requires.0.entries_room in
+    let within : c.args.s * c.args.sizes.letters + c.loop-a.a < length c.loop-a.entries = omega (arith, c.loop-a-test.true, c.loop-a.invariant.3.entries_long, row_room) in
+    within
 
 pub loop-a-preserved : goal.loop-a-preserved
 loop-a-preserved c =
+    let row_room : c.args.s * c.args.sizes.letters + c.args.sizes.letters ≤ length c.args.entries.now = row_fits c.args.s c.args.sizes.limit c.args.sizes.letters (length c.args.entries.now) (omega (arith, c.requires.1.0, c.requires.1.1.turn.within)) c.requires.0.entries_room in
+    let within : c.args.s * c.args.sizes.letters + c.loop-a.a < length c.loop-a.entries = omega (arith, c.loop-a-test.true, c.loop-a.invariant.3.entries_long, row_room) in
+    let key_is : let a = c.args in let loop = c.loop-a in c.successor-next.result ≡ key_of_entries (at a.left.now (at loop.keys a.s / most_rows * a.sizes.left_letters + at a.left_cuts.now loop.a)) (at a.right.now (at loop.keys a.s % most_rows * a.sizes.right_letters + at a.right_cuts.now loop.a)) = (let a = c.args in
+    let loop = c.loop-a in
+    c.successor-next.ensures ∙ ap (λ (x : ℕ). key_of_entries (at a.left.now (x / most_rows * a.sizes.left_letters + at a.left_cuts.now loop.a)) (at a.right.now (x % most_rows * a.sizes.right_letters + at a.right_cuts.now loop.a))) (sym loop.invariant.4)) in
+    let lengths : let a = c.args in SameLengths a.keys.now a.heads.now a.links.now a.entries.now c.follow-row.new.keys c.follow-row.new.heads c.follow-row.new.links c.loop-a.entries = (let loop = c.loop-a in
+    record {
+      keys_long = c.follow-row.auto.1.1.0 ∙ loop.invariant.3.keys_long;
+      heads_long = c.follow-row.auto.0 ∙ loop.invariant.3.heads_long;
+      links_long = c.follow-row.auto.1.0 ∙ loop.invariant.3.links_long;
+      entries_long = loop.invariant.3.entries_long;
+    }) in
     let at-follow = c in
     let s = start_of at-follow in
-    let loop = at-follow.loop in
+    let loop = at-follow.loop-a in
     let long = lengths at-follow in
-    let stored : SameLengths _ _ _ _ _ _ _ _ = record { keys_long = long.keys_long; heads_long = long.heads_long; links_long = long.links_long; entries_long = length-set loop.entries (s.args.s * s.args.sizes.letters + loop.a) at-follow.follow.result ∙ long.entries_long } in
-    let same = followed-row at-follow.follow.ensures s.args.s loop.invariant.0 ∙ loop.invariant.4 in
+    let stored : SameLengths _ _ _ _ _ _ _ _ = record { keys_long = long.keys_long; heads_long = long.heads_long; links_long = long.links_long; entries_long = length-set loop.entries (s.args.s * s.args.sizes.letters + loop.a) at-follow.follow-row.result ∙ long.entries_long } in
+    let same = followed-row at-follow.follow-row.ensures s.args.s loop.invariant.0 ∙ loop.invariant.4 in
     ⊎_elim
-    (λ w. (rw w.3 (omega (arith, loop.invariant.0)), omega (arith, at-follow.if1.true), rw w.3 (follow_new _ _ _ _ _ _ _ _ loop.invariant.2 loop.invariant.0 at-follow.if1.true (within at-follow) s.pre.0.few_rows (omega (arith, s.pre.0.keys_room, loop.invariant.3.keys_long)) at-follow.follow.result at-follow.successor.result (key_is at-follow) at-follow.follow.ensures w.0.true w.2.left), stored, same))
-    (λ w. (rw w.1 loop.invariant.0, omega (arith, at-follow.if1.true), rw w.1 (follow_old _ _ _ _ _ _ _ _ loop.invariant.2 loop.invariant.0 at-follow.if1.true (within at-follow) s.pre.0.few_rows (omega (arith, s.pre.0.keys_room, loop.invariant.3.keys_long)) at-follow.follow.result at-follow.successor.result (key_is at-follow) at-follow.follow.ensures w.0.left), stored, same))
+    (λ w. (rw w.3 (omega (arith, loop.invariant.0)), omega (arith, at-follow.loop-a-test.true), rw w.3 (follow_new _ _ _ _ _ _ _ _ loop.invariant.2 loop.invariant.0 at-follow.loop-a-test.true (within at-follow) s.pre.0.few_rows (omega (arith, s.pre.0.keys_room, loop.invariant.3.keys_long)) at-follow.follow-row.result at-follow.successor-next.result (key_is at-follow) at-follow.follow-row.ensures w.0.true w.2.left), stored, same))
+    (λ w. (rw w.1 loop.invariant.0, omega (arith, at-follow.loop-a-test.true), rw w.1 (follow_old _ _ _ _ _ _ _ _ loop.invariant.2 loop.invariant.0 at-follow.loop-a-test.true (within at-follow) s.pre.0.few_rows (omega (arith, s.pre.0.keys_room, loop.invariant.3.keys_long)) at-follow.follow-row.result at-follow.successor-next.result (key_is at-follow) at-follow.follow-row.ensures w.0.left), stored, same))
     c.if-row-known.branch
-
-pub shape_of-keys : goal.shape_of-keys
-shape_of-keys c = c.loop-a.invariant.3.keys_long
-
-pub shape_of-heads : goal.shape_of-heads
-shape_of-heads c = c.loop-a.invariant.3.heads_long
-
-pub shape_of-links : goal.shape_of-links
-shape_of-links c = c.loop-a.invariant.3.links_long
-
-pub shape_of-entries : goal.shape_of-entries
-shape_of-entries c = c.loop-a.invariant.3.entries_long
 
 pub returns : goal.returns
 returns c = let loop = c.loop-a in row_done loop.invariant.2.turn.within (turn_row _ _ _ _ _ _ _ _ c.loop-a-test.false loop.invariant.2)

@@ -31,7 +31,7 @@ loop-row-preserved c =
     let start = c in (
       omega (arith, c.loop-row-test.true),
       search rules,
-      flag-more start.args.left-finals.now start.args.right-finals.now start.args.keys.now loop.flags loop.row c.both_final.result (omega (arith, c.loop-row-test.true, start.requires.1, loop.invariant.1))
+      flag-more start.args.left_finals.now start.args.right_finals.now start.args.keys.now loop.flags loop.row c.both_final.result (omega (arith, c.loop-row-test.true, start.requires.1, loop.invariant.1))
           (c.both_final.ensures ∙ ap₂ (λ (x y : ℕ). cond (eqb x 1 && eqb y 1) 1 0) c.final_at-p.ensures c.final_at-q.ensures) loop.invariant.2,
     )
 

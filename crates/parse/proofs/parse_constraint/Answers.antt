@@ -36,12 +36,12 @@ returns-then-not-tokens_fit c =
     too_long (no_room a.line.now a.from a.firsts c.tokens_fit.ensures (not-true c.tokens_fit.result c.if-not-tokens_fit.true)) c.unread-then-not-tokens_fit.ensures
 
 pub store_token_starts-last-requires : goal.store_token_starts-last-requires
-store_token_starts-last-requires c κs =
+store_token_starts-last-requires c =
     let a = c.args in
     room a.line.now a.from a.firsts c.tokens_fit.ensures (not-false c.tokens_fit.result c.if-not-tokens_fit.false) c.if-from-gt1024.false
 
 pub sides-requires : goal.sides-requires
-sides-requires c κs =
+sides-requires c =
     let at-start = c in
     let at-if1 = c.if-from-gt1024 in
     let at-if2 = c.if-firsts-gt1024 in
@@ -53,7 +53,7 @@ sides-requires c κs =
     let fits = room line at-start.args.from at-start.args.firsts at-tokens-fit.ensures (not-false at-tokens-fit.result at-if3.false) at-if1.false in
     let last = at-store-token-starts.ensures.0 in
     let count = last ∙ ap (λ n. at-start.args.from + n) (sym (token-starts-length line)) in
-    (record { nodes = fits; firsts = at-if2.false }, (omega arith, omega arith, stored-starts at-start.args.token-starts.now at-start.args.from (token_starts_of line) at-store-token-starts.ensures.1 count (omega arith)))
+    (record { nodes = fits; firsts = at-if2.false }, (omega arith, omega arith, stored-starts at-start.args.token_starts.now at-start.args.from (token_starts_of line) at-store-token-starts.ensures.1 count (omega arith)))
 
 pub returns : goal.returns
 returns c =

@@ -11,7 +11,7 @@ pub loop-token-init : goal.loop-token-init
 loop-token-init c = passes_nothing refl refl
 
 pub token_at-token-requires : goal.token_at-token-requires
-token_at-token-requires c κs = placed-later c.requires.0 (passes_later c.loop-token.invariant)
+token_at-token-requires c = placed-later c.requires.0 (passes_later c.loop-token.invariant)
 
 pub slice_bounds-prefix_code-count : goal.slice_bounds-prefix_code-count
 slice_bounds-prefix_code-count c = let within = token-within c.token_at-token.ensures in omega arith
@@ -26,7 +26,7 @@ pub returns-then-kind : goal.returns-then-kind
 returns-then-kind c = c.loop-token.invariant
 
 pub firsts_inside-inside-requires : goal.firsts_inside-inside-requires
-firsts_inside-inside-requires c κs =
+firsts_inside-inside-requires c =
     let start = c in
     let token = c.token_at-token in
     let stands = prefix-stands start.args.text.now token.result c.prefix_code-kind.ensures c.if-kind.false in

@@ -7,9 +7,8 @@ use Rattle.nodes.specs.Evaluate.{stored}
 use Rattle.parse.specs.Stored.{store}
 use Rattle.parse.proofs.put.Goals as goal
 
-unfolding store
-
 pub returns : goal.returns
+unfolding store
 returns c =
     let a = c.args in
     ap (λ z. stored (set a.kinds.now a.at a.kind) (set a.values.now a.at z) (set a.starts.now a.at a.start)) (to_z-of_z w64 a.value c.ranges.value)

@@ -15,7 +15,7 @@ pub loop-number-init : goal.loop-number-init
 loop-number-init c = let start = c in (start.requires.1.0, leads-none, start.requires.1.1.0, start.requires.1.1.1)
 
 pub token_at-token-requires : goal.token_at-token-requires
-token_at-token-requires c κs = placed-later c.requires.0 (omega (arith, c.loop-number-test.true))
+token_at-token-requires c = placed-later c.requires.0 (omega (arith, c.loop-number-test.true))
 
 pub slice_bounds-prefix_code-count : goal.slice_bounds-prefix_code-count
 slice_bounds-prefix_code-count c = let within = token-within c.token_at-token.ensures in omega arith
@@ -27,7 +27,7 @@ pub slice_bounds-prefix_code-end : goal.slice_bounds-prefix_code-end
 slice_bounds-prefix_code-end c = let within = token-within c.token_at-token.ensures in omega arith
 
 pub prefix_value-value-requires : goal.prefix_value-value-requires
-prefix_value-value-requires c κs =
+prefix_value-value-requires c =
     let start = c in
     let l = last_passed c.loop-number.invariant.0 c.loop-number-test.true in
     let kind = kind_is l start.args.text.now c.token_at-token.result c.token_at-token.ensures c.prefix_code-kind.ensures in
@@ -36,10 +36,10 @@ prefix_value-value-requires c κs =
     omega (arith, start.requires.1.1.2, passes_room l.passes)
 
 pub put-requires : goal.put-requires
-put-requires c κs = let loop = c in (omega (arith, loop.loop.invariant.3, c.loop-number-test.true), omega (arith, loop.loop.invariant.2))
+put-requires c = let loop = c in (omega (arith, loop.loop-number.invariant.3, c.loop-number-test.true), omega (arith, loop.loop-number.invariant.2))
 
 pub overflow_add-last : goal.overflow_add-last
-overflow_add-last c = let loop = c in omega (arith, loop.loop.invariant.3, c.loop-number-test.true)
+overflow_add-last c = let loop = c in omega (arith, loop.loop-number.invariant.3, c.loop-number-test.true)
 
 pub loop-number-preserved : goal.loop-number-preserved
 loop-number-preserved c =
@@ -51,9 +51,9 @@ loop-number-preserved c =
     let before = before_is l c.prefix_code-kind.result kind c.firsts_before-inside.ensures in
     let value = to_z-of_z w64 c.prefix_value-value.result (record { sfits = c.prefix_value-value.type-inv }) ∙ c.prefix_value-value.ensures in (
       rw before l.passes,
-      rw before (leads-more loop.loop.invariant.1 l (omega (arith, taken)) kind (value ∙ ap (prefix_value c.prefix_code-kind.result) before) c.put.ensures),
-      omega (arith, loop.loop.invariant.2),
-      omega (arith, loop.loop.invariant.3, taken),
+      rw before (leads-more loop.loop-number.invariant.1 l (omega (arith, taken)) kind (value ∙ ap (prefix_value c.prefix_code-kind.result) before) c.put.ensures),
+      omega (arith, loop.loop-number.invariant.2),
+      omega (arith, loop.loop-number.invariant.3, taken),
     )
 
 pub returns : goal.returns

@@ -14,7 +14,7 @@ use Rattle.parse.proofs.Constraints.{relation-at, side-missing, sign-missing, se
 use Rattle.parse.proofs.sides.Goals as goal
 
 pub expression-left-requires : goal.expression-left-requires
-expression-left-requires c κs =
+expression-left-requires c =
     let at-start = c in
     let placed = line-placed at-start.args.line.now at-start.requires.1.2 (omega (arith, at-start.well_formed)) in
     let whole = ap length (line_first at-start.args.line.now at-start.requires.1.2) in
@@ -26,10 +26,10 @@ returns-then-not-left c =
     let at-expression = c.expression-left in
     let at-if1 = c.if-not-left in
     let at-unread = c.unread in
-    side-missing at-start.args.names.now at-start.args.line.now (tokens_from at-start.args.line.now 0 (between at-start.args.all-starts.now at-start.args.nodes at-start.args.last)) (line_first at-start.args.line.now at-start.requires.1.2) at-start.requires.0 (at-expression.ensures.missing (not-true at-expression.result.ok at-if1.true)) at-unread.ensures at-expression.ensures.kept
+    side-missing at-start.args.names.now at-start.args.line.now (tokens_from at-start.args.line.now 0 (between at-start.args.all_starts.now at-start.args.nodes at-start.args.last)) (line_first at-start.args.line.now at-start.requires.1.2) at-start.requires.0 (at-expression.ensures.missing (not-true at-expression.result.ok at-if1.true)) at-unread.ensures at-expression.ensures.kept
 
 pub token_at-sign-requires : goal.token_at-sign-requires
-token_at-sign-requires c κs =
+token_at-sign-requires c =
     let at-start = c in
     let at-expression = c.expression-left in
     let at-if1 = c.if-not-left in
@@ -63,7 +63,7 @@ returns-then-relation c =
     sign-missing at-start.args.names.now at-start.args.line.now _ (line_first at-start.args.line.now at-start.requires.1.2) at-start.requires.0 (at-expression.ensures.found (not-false at-expression.result.ok at-if1.false)) at-token-at.ensures (sym at-relation-code.ensures ∙ at-if2.true) at-unread2.ensures at-expression.ensures.kept
 
 pub expression-right-requires : goal.expression-right-requires
-expression-right-requires c κs =
+expression-right-requires c =
     let at-start = c in
     let at-expression = c.expression-left in
     let at-if1 = c.if-not-left in
@@ -92,7 +92,7 @@ returns-then-not-right c =
     second-side-missing at-start.args.names.now at-start.args.line.now _ (line_first at-start.args.line.now at-start.requires.1.2) at-start.requires.0 left at-token-at.ensures (relation-at at-token-at.ensures at-relation-code.ensures at-if2.false) (at-expression2.ensures.missing (not-true at-expression2.result.ok at-if3.true)) at-unread3.ensures (below_trans (omega (arith, left.stores.nodes)) at-expression2.ensures.kept at-expression.ensures.kept)
 
 pub token_at-after-requires : goal.token_at-after-requires
-token_at-after-requires c κs =
+token_at-after-requires c =
     let at-start = c in
     let at-expression = c.expression-left in
     let at-if1 = c.if-not-left in

@@ -6,12 +6,6 @@ use Rattle.print.proofs.Append.{appends_nothing, appends_same}
 use Rattle.play_text.proofs.Output.{held-beyond, held-nothing, held-letter}
 use Rattle.play_text.proofs.held_line.Goals as goal
 
--- the first place of the state's row is small
-row_small : (c : tie.After-letter-count) → c.before.before.before.before.before.before.before.before.args.place / c.before.before.before.before.before.before.before.before.args.choices * c.letter-count.result ≤ 4402341478400
-row_small c =
-    let start = c.before.before.before.before.before.before.before.before in
-    mul-le-mul {n₁ = start.args.place / start.args.choices} {m₁ = c.letter-count.result} {n₂ = 4294967296} {m₂ = 1025} (omega (arith, start.requires.1)) (omega (arith, c.letter-count.ensures))
-
 pub returns-then-play-place : goal.returns-then-play-place
 returns-then-play-place c =
     appends_same (appends_nothing (omega arith)) (held-beyond c.args.choices c.args.lows.now c.args.highs.now c.args.entries.now c.args.finals.now c.args.play.now c.args.place c.if-play-place.true)
@@ -21,7 +15,10 @@ returns-then-letter c =
     appends_same (appends_nothing (omega arith)) (held-nothing c.args.choices c.args.lows.now c.args.highs.now c.args.entries.now c.args.finals.now c.args.play.now c.args.place (omega (arith, c.if-play-place.false)) c.if-letter.true)
 
 pub overflow_mul-held : goal.overflow_mul-held
-overflow_mul-held c = omega (arith, row_small c)
+overflow_mul-held c =
+    let row_small : c.args.place / c.args.choices * c.letter_count-letters.result ≤ 4402341478400 = (let start = c in
+    mul-le-mul {n₁ = start.args.place / start.args.choices} {m₁ = c.letter_count-letters.result} {n₂ = 4294967296} {m₂ = 1025} (omega (arith, start.requires.1)) (omega (arith, c.letter_count-letters.ensures))) in
+    omega (arith, row_small)
 
 pub overflow_cast-held : goal.overflow_cast-held
 overflow_cast-held c =
@@ -29,7 +26,9 @@ overflow_cast-held c =
 
 pub overflow_add-held : goal.overflow_add-held
 overflow_add-held c =
-    omega (arith, row_small c, c.type_inv.play c.args.place)
+    let row_small : c.args.place / c.args.choices * c.letter_count-letters.result ≤ 4402341478400 = (let start = c in
+    mul-le-mul {n₁ = start.args.place / start.args.choices} {m₁ = c.letter_count-letters.result} {n₂ = 4294967296} {m₂ = 1025} (omega (arith, start.requires.1)) (omega (arith, c.letter_count-letters.ensures))) in
+    omega (arith, row_small, c.type_inv.play c.args.place)
 
 pub returns : goal.returns
 returns c =

@@ -16,7 +16,7 @@ returns-then-place-eq0 c =
     appended-line c.requires.0 (appends_same c.heading.ensures (first-given _ _ c.if-refusal-ne0.false c.if-place-eq0.true))
 
 pub held_line-requires : goal.held_line-requires
-held_line-requires c κs =
+held_line-requires c =
     let a = c.args in
     let at = state-place a.refusal a.states a.choices a.play.now c.if-refusal-ne0.false c.if-place-eq0.false c.requires.1 in
     (at.0, omega (arith, at.1, c.ranges.states))

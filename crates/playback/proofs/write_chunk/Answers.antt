@@ -14,13 +14,13 @@ loop-whole-init c =
     played-none _ _ _ _ (leb-true 32 room) (leb-false 32 room)
 
 pub advance-advanced-requires : goal.advance-advanced-requires
-advance-advanced-requires c κs = tt
+advance-advanced-requires c = tt
 
 pub write_front-handed-requires : goal.write_front-handed-requires
-write_front-handed-requires c κs = tt
+write_front-handed-requires c = tt
 
 pub add_size-size-requires : goal.add_size-size-requires
-add_size-size-requires c κs = tt
+add_size-size-requires c = tt
 
 pub loop-whole-smaller : goal.loop-whole-smaller
 loop-whole-smaller c = omega (arith, goes_on _ _ _ _ c.loop-whole.invariant c.loop-whole-test.true c.if-chunk-at.false c.advance-advanced.ensures)
@@ -28,14 +28,8 @@ loop-whole-smaller c = omega (arith, goes_on _ _ _ _ c.loop-whole.invariant c.lo
 pub loop-whole-preserved : goal.loop-whole-preserved
 loop-whole-preserved c = played-more _ _ _ _ c.loop-whole.invariant c.loop-whole-test.true c.if-chunk-at.false c.advance-advanced.ensures c.write_front-handed.ensures c.add_size-size.ensures
 
-pub shape_of-out-after-loop-whole : goal.shape_of-out-after-loop-whole
-shape_of-out-after-loop-whole c = c.loop-whole.invariant.same
-
 pub returns-after-loop-whole : goal.returns-after-loop-whole
 returns-after-loop-whole c = chunk_written _ _ _ _ c.loop-whole.invariant (λ e. not-both (sym c.loop-whole-test.false ∙ e))
-
-pub shape_of-out-then-chunk-at : goal.shape_of-out-then-chunk-at
-shape_of-out-then-chunk-at c = c.loop-whole.invariant.same
 
 pub returns-then-chunk-at : goal.returns-then-chunk-at
 returns-then-chunk-at c = chunk_written _ _ _ _ c.loop-whole.invariant (λ e. c.if-chunk-at.true)

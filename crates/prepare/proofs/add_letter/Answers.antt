@@ -36,9 +36,6 @@ few_streams n e = omega (arith, e)
 few_letters : (n : ℕ) {few : ℕ} → few ≡ min n window_bound → few ≤ window_bound
 few_letters n e = omega (arith, e)
 
-small : (c : tie.Start) (few : ℕ) → few ≤ stream_bound → c.args.letter * few ≤ 4294967296 * 8
-small c few h = place-small c.args.letter few (omega arith) h
-
 pub returns-then-window-lt-WINDOW_ROOM : goal.returns-then-window-lt-WINDOW_ROOM
 returns-then-window-lt-WINDOW_ROOM c = record { done = λ h. absurd (omega (arith, c.if-window-lt-WINDOW_ROOM.true)); refused = λ h. refl }
 
@@ -46,40 +43,43 @@ pub overflow_mul-at : goal.overflow_mul-at
 overflow_mul-at c = let a = c.args in omega (arith, room (few_streams a.streams c.fewer-few.ensures) (few_letters a.held c.fewer.ensures))
 
 pub overflow_mul-from : goal.overflow_mul-from
-overflow_mul-from c = omega (arith, small c c.fewer-few.result (few_streams c.args.streams c.fewer-few.ensures))
+overflow_mul-from c =
+    let small : (few : ℕ) → few ≤ stream_bound → c.args.letter * few ≤ 4294967296 * 8 = λ few h. place-small c.args.letter few (omega arith) h in
+    omega (arith, small c.fewer-few.result (few_streams c.args.streams c.fewer-few.ensures))
 
 pub overflow_add-end : goal.overflow_add-end
-overflow_add-end c = omega (arith, small c c.fewer-few.result (few_streams c.args.streams c.fewer-few.ensures))
+overflow_add-end c =
+    let small : (few : ℕ) → few ≤ stream_bound → c.args.letter * few ≤ 4294967296 * 8 = λ few h. place-small c.args.letter few (omega arith) h in
+    omega (arith, small c.fewer-few.result (few_streams c.args.streams c.fewer-few.ensures))
 
 pub offset_bounds-letter_values-from : goal.offset_bounds-letter_values-from
-offset_bounds-letter_values-from c = omega (arith, small c c.fewer-few.result (few_streams c.args.streams c.fewer-few.ensures))
+offset_bounds-letter_values-from c =
+    let small : (few : ℕ) → few ≤ stream_bound → c.args.letter * few ≤ 4294967296 * 8 = λ few h. place-small c.args.letter few (omega arith) h in
+    omega (arith, small c.fewer-few.result (few_streams c.args.streams c.fewer-few.ensures))
 
 pub slice_bounds-copy_values-end : goal.slice_bounds-copy_values-end
 slice_bounds-copy_values-end c =
     let a = c.args in
-    there (few_streams a.streams c.fewer-few.ensures) a.letter-values.now a.letter c.if-has_values.true c.has_values.ensures
+    there (few_streams a.streams c.fewer-few.ensures) a.letter_values.now a.letter c.if-has_values.true c.has_values.ensures
 
 pub copy_values-requires : goal.copy_values-requires
-copy_values-requires c κs =
+copy_values-requires c =
     let a = c.args in
     let e = few_streams a.streams c.fewer-few.ensures in
-    let h = there e a.letter-values.now a.letter c.if-has_values.true c.has_values.ensures in
-    omega (arith, part-long a.letter-values.now (a.letter * c.fewer-few.result) stream_bound h, room e (few_letters a.held c.fewer.ensures), c.if-window-lt-WINDOW_ROOM.false)
-
-pub shape_of-window : goal.shape_of-window
-shape_of-window c = c.copy_values.auto.0
+    let h = there e a.letter_values.now a.letter c.if-has_values.true c.has_values.ensures in
+    omega (arith, part-long a.letter_values.now (a.letter * c.fewer-few.result) stream_bound h, room e (few_letters a.held c.fewer.ensures), c.if-window-lt-WINDOW_ROOM.false)
 
 pub returns-then-has_values : goal.returns-then-has_values
 returns-then-has_values c =
     let a = c.args in
     let e = c.fewer-few.ensures in
     let f = c.fewer.ensures in
-    let h = there (few_streams a.streams e) a.letter-values.now a.letter c.if-has_values.true c.has_values.ensures in
+    let h = there (few_streams a.streams e) a.letter_values.now a.letter c.if-has_values.true c.has_values.ensures in
     let few = c.fewer-few.result in
     let held = c.fewer.result in
     record {
-      done = λ r. c.copy_values.ensures ∙ sym (letter-copied few a.letter-values.now held a.letter a.window.now h)
-          ∙ ap₂ (λ s n. with_letter_after s a.letter-values.now n a.letter a.window.now) e f;
+      done = λ r. c.copy_values.ensures ∙ sym (letter-copied few a.letter_values.now held a.letter a.window.now h)
+          ∙ ap₂ (λ s n. with_letter_after s a.letter_values.now n a.letter a.window.now) e f;
       refused = λ n. absurd (omega (arith, n, c.if-window-lt-WINDOW_ROOM.false));
     }
 
@@ -88,11 +88,11 @@ returns-else-has_values c =
     let a = c.args in
     let e = c.fewer-few.ensures in
     let f = c.fewer.ensures in
-    let n = missing (few_streams a.streams e) a.letter-values.now a.letter c.if-has_values.false c.has_values.ensures in
+    let n = missing (few_streams a.streams e) a.letter_values.now a.letter c.if-has_values.false c.has_values.ensures in
     let few = c.fewer-few.result in
     let held = c.fewer.result in
     record {
-      done = λ r. sym (letter-missing few a.letter-values.now held a.letter a.window.now (omega (arith, n)))
-          ∙ ap₂ (λ s m. with_letter_after s a.letter-values.now m a.letter a.window.now) e f;
+      done = λ r. sym (letter-missing few a.letter_values.now held a.letter a.window.now (omega (arith, n)))
+          ∙ ap₂ (λ s m. with_letter_after s a.letter_values.now m a.letter a.window.now) e f;
       refused = λ m. refl;
     }

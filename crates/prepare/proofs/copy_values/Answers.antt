@@ -19,9 +19,9 @@ loop-i-preserved c =
     let at-loop = c in
     let args = at-loop.args in (
       omega arith,
-      rw (to_z-of_z w64 (get_or args.from.now at-loop.loop.i (pos 0)) (record { sfits = omega (arith, c.to-1.given) }), at-loop.loop.invariant.1, add-one)
-          (paste-suc args.to.now args.at args.from.now at-loop.loop.i (pos 0) (omega arith) (omega arith)),
-      simp length-set at-loop.loop.invariant.2,
+      rw (to_z-of_z w64 (get_or args.from.now at-loop.loop-i.i (pos 0)) (record { sfits = omega (arith, c.to-1.given) }), at-loop.loop-i.invariant.1, add-one)
+          (paste-suc args.to.now args.at args.from.now at-loop.loop-i.i (pos 0) (omega arith) (omega arith)),
+      simp length-set at-loop.loop-i.invariant.2,
     )
 
 pub returns : goal.returns

@@ -13,21 +13,6 @@ use Rattle.prepare.proofs.KeyLists.{window_of-none, window_more, window_long, be
 use borrow.Author.Rules.{rules}
 use Rattle.prepare.proofs.fill_window.Goals as goal
 
-abbrev start : tie.At-loop invariant-loop decreases-loop → tie.Start invariant-loop decreases-loop
-start c = c.before.before
-
--- the letter's values are there
-inside : (c : tie.In-loop invariant-loop decreases-loop) → get_or (start c.before).args.letters.now c.before.loop.p 0 * (start c.before).args.streams + (start c.before).args.streams ≤ length (start c.before).args.letter-values.now
-inside c = (start c.before).pre.1 c.before.loop.p c.loop-test.true
-
--- the window has room for them
-room : (c : tie.In-loop invariant-loop decreases-loop) → c.before.loop.at + (start c.before).args.streams ≤ length c.before.loop.window
-room c =
-    let at-loop = c.before in
-    let streams = (start at-loop).args.streams in
-    let step : suc at-loop.loop.p * streams ≤ length (start at-loop).args.letters.now * streams = mul-le-mul_right streams c.loop-test.true in
-    omega (arith, suc-mul at-loop.loop.p streams, at-loop.loop.invariant.1, at-loop.loop.invariant.3, (start at-loop).requires.0)
-
 pub loop-p-init : goal.loop-p-init
 loop-p-init c = (search rules, sym (zero-mul _), sym (window_of-none _ _), refl, refl)
 
@@ -35,44 +20,68 @@ pub overflow_cast-from : goal.overflow_cast-from
 overflow_cast-from c = omega (arith, c.type_inv.letters c.loop-p.p)
 
 pub overflow_mul-from : goal.overflow_mul-from
-overflow_mul-from c = omega (arith, inside c, (start c).good.1.0)
+overflow_mul-from c =
+    let inside : get_or c.args.letters.now c.loop-p.p 0 * c.args.streams + c.args.streams ≤ length c.args.letter_values.now = c.pre.1 c.loop-p.p c.loop-p-test.true in
+    omega (arith, inside, c.good.1.0)
 
 pub overflow_add-end : goal.overflow_add-end
-overflow_add-end c = omega (arith, inside c, (start c).good.1.0)
+overflow_add-end c =
+    let inside : get_or c.args.letters.now c.loop-p.p 0 * c.args.streams + c.args.streams ≤ length c.args.letter_values.now = c.pre.1 c.loop-p.p c.loop-p-test.true in
+    omega (arith, inside, c.good.1.0)
 
 pub offset_bounds-letter_values-from : goal.offset_bounds-letter_values-from
-offset_bounds-letter_values-from c = omega (arith, inside c, (start c).good.1.0)
+offset_bounds-letter_values-from c =
+    let inside : get_or c.args.letters.now c.loop-p.p 0 * c.args.streams + c.args.streams ≤ length c.args.letter_values.now = c.pre.1 c.loop-p.p c.loop-p-test.true in
+    omega (arith, inside, c.good.1.0)
 
 pub slice_bounds-copy_values-end : goal.slice_bounds-copy_values-end
-slice_bounds-copy_values-end c = inside c
+slice_bounds-copy_values-end c =
+    let inside : get_or c.args.letters.now c.loop-p.p 0 * c.args.streams + c.args.streams ≤ length c.args.letter_values.now = c.pre.1 c.loop-p.p c.loop-p-test.true in
+    inside
 
 pub copy_values-requires : goal.copy_values-requires
-copy_values-requires c κs = omega (arith, part-long (start c).args.letter-values.now (get_or (start c).args.letters.now c.loop-p.p 0 * (start c).args.streams) (start c).args.streams (inside c), room c)
+copy_values-requires c =
+    let inside : get_or c.args.letters.now c.loop-p.p 0 * c.args.streams + c.args.streams ≤ length c.args.letter_values.now = c.pre.1 c.loop-p.p c.loop-p-test.true in
+    let room : c.loop-p.at + c.args.streams ≤ length c.loop-p.window = (let at-loop = c in
+    let streams = (start at-loop).args.streams in
+    let step : suc at-loop.loop-p.p * streams ≤ length (start at-loop).args.letters.now * streams = mul-le-mul_right streams c.loop-p-test.true in
+    omega (arith, suc-mul at-loop.loop-p.p streams, at-loop.loop-p.invariant.1, at-loop.loop-p.invariant.3, (start at-loop).requires.0)) in
+    omega (arith, part-long c.args.letter_values.now (get_or c.args.letters.now c.loop-p.p 0 * c.args.streams) c.args.streams (inside), room)
 
 pub overflow_add-at : goal.overflow_add-at
-overflow_add-at c = omega (arith, room c, (start c).good.0, c.loop-p.invariant.3)
+overflow_add-at c =
+    let room : c.loop-p.at + c.args.streams ≤ length c.loop-p.window = (let at-loop = c in
+    let streams = (start at-loop).args.streams in
+    let step : suc at-loop.loop-p.p * streams ≤ length (start at-loop).args.letters.now * streams = mul-le-mul_right streams c.loop-p-test.true in
+    omega (arith, suc-mul at-loop.loop-p.p streams, at-loop.loop-p.invariant.1, at-loop.loop-p.invariant.3, (start at-loop).requires.0)) in
+    omega (arith, room, c.good.0, c.loop-p.invariant.3)
 
 pub loop-p-preserved : goal.loop-p-preserved
 loop-p-preserved c =
+    let inside : get_or c.args.letters.now c.loop-p.p 0 * c.args.streams + c.args.streams ≤ length c.args.letter_values.now = c.pre.1 c.loop-p.p c.loop-p-test.true in
+    let room : c.loop-p.at + c.args.streams ≤ length c.loop-p.window = (let at-loop = c in
+    let streams = (start at-loop).args.streams in
+    let step : suc at-loop.loop-p.p * streams ≤ length (start at-loop).args.letters.now * streams = mul-le-mul_right streams c.loop-p-test.true in
+    omega (arith, suc-mul at-loop.loop-p.p streams, at-loop.loop-p.invariant.1, at-loop.loop-p.invariant.3, (start at-loop).requires.0)) in
     let in-loop = c in
     let at-loop = in-loop in
     let args = (start at-loop).args in
     let streams = args.streams in
-    let loop = at-loop.loop in
+    let loop = at-loop.loop-p in
     let from = get_or args.letters.now loop.p 0 * streams in (
-      omega (arith, in-loop.loop-test.true),
+      omega (arith, in-loop.loop-p-test.true),
       rw (add-one, suc-mul) (omega (arith, loop.invariant.1)),
-      rw c.copy_values.ensures (window_more streams args.letter-values.now args.letters.now loop.p loop.at from loop.window in-loop.loop-test.true refl (inside in-loop) (room in-loop) loop.invariant.2),
-      rw c.copy_values.ensures (window_long streams args.letter-values.now streams (get_or args.letters.now loop.p 0) loop.at from loop.window (omega arith) refl (inside in-loop) (room in-loop)) ∙ loop.invariant.3,
-      rw c.copy_values.ensures (behind_more streams args.letter-values.now (get_or args.letters.now loop.p 0) loop.at from args.window.now loop.window refl (inside in-loop) (room in-loop) loop.invariant.4),
+      rw c.copy_values.ensures (window_more streams args.letter_values.now args.letters.now loop.p loop.at from loop.window in-loop.loop-p-test.true refl (inside in-loop) (room in-loop) loop.invariant.2),
+      rw c.copy_values.ensures (window_long streams args.letter_values.now streams (get_or args.letters.now loop.p 0) loop.at from loop.window (omega arith) refl (inside in-loop) (room in-loop)) ∙ loop.invariant.3,
+      rw c.copy_values.ensures (behind_more streams args.letter_values.now (get_or args.letters.now loop.p 0) loop.at from args.window.now loop.window refl (inside in-loop) (room in-loop) loop.invariant.4),
     )
 
 pub returns : goal.returns
 returns c =
     let at-loop = c in
     let args = (start at-loop).args in
-    let window = at-loop.loop.window in
-    let end : at-loop.loop.p ≡ length args.letters.now = omega arith in
-    let at-end : at-loop.loop.at ≡ length args.letters.now * args.streams = at-loop.loop.invariant.1 ∙ ap (λ n. n * args.streams) end in
-    let values = at-loop.loop.invariant.2 ∙ ap (window_of args.streams args.letter-values.now) (ap (λ n. take n args.letters.now) end ∙ take_all (length args.letters.now) args.letters.now (omega arith)) in
-    sym (take-append-drop at-loop.loop.at window) ∙ (λ i. values i ++ (at-loop.loop.invariant.4 ∙ ap (λ n. drop n args.window.now) at-end) i)
+    let window = at-loop.loop-p.window in
+    let end : at-loop.loop-p.p ≡ length args.letters.now = omega arith in
+    let at-end : at-loop.loop-p.at ≡ length args.letters.now * args.streams = at-loop.loop-p.invariant.1 ∙ ap (λ n. n * args.streams) end in
+    let values = at-loop.loop-p.invariant.2 ∙ ap (window_of args.streams args.letter_values.now) (ap (λ n. take n args.letters.now) end ∙ take_all (length args.letters.now) args.letters.now (omega arith)) in
+    sym (take-append-drop at-loop.loop-p.at window) ∙ (λ i. values i ++ (at-loop.loop-p.invariant.4 ∙ ap (λ n. drop n args.window.now) at-end) i)

@@ -9,41 +9,41 @@ use Rattle.prepare.specs.Prepared.{PreparableSizes}
 use Rattle.prepare.proofs.PreparedLaws.{part-values, key-values}
 use Rattle.prepare.proofs.is_preparable.Goals as goal
 
-abbrev start_of : tie.Else1 → tie.Start
-start_of c = c.before.before.before
-
--- what the test of sizes says
-sizes : (c : tie.Else1) → let a = (start_of c).args in PreparableSizes a.dimensions.streams a.dimensions.width a.count (length a.key.now) a.room
-sizes c = says_yes (not-false c.before.are-preparable.result c.if1.false) c.before.are-preparable.ensures
-
--- how many letters the key holds
-few : (c : tie.After-fewer) → c.fewer.result ≤ window_bound
-few c = omega (arith, c.fewer.ensures, (sizes c.before.before).0)
-
 pub returns-then-not-are_preparable : goal.returns-then-not-are_preparable
 returns-then-not-are_preparable c = λ p. says_no (not-true c.are_preparable.result c.if-not-are_preparable.true) c.are_preparable.ensures p.sizes
 
 pub bounds-key-0 : goal.bounds-key-0
-bounds-key-0 c = omega (arith, (sizes c).3)
+bounds-key-0 c =
+    let sizes : let a = c.args in PreparableSizes a.dimensions.streams a.dimensions.width a.count (length a.key.now) a.room = says_yes (not-false c.are_preparable.result c.if-not-are_preparable.false) c.are_preparable.ensures in
+    omega (arith, (sizes).3)
 
 pub overflow_cast-key : goal.overflow_cast-key
 overflow_cast-key c = omega (arith, c.type_inv.key 0)
 
 pub overflow_add-end : goal.overflow_add-end
-overflow_add-end c = omega (arith, few c)
+overflow_add-end c =
+    let sizes : let a = c.args in PreparableSizes a.dimensions.streams a.dimensions.width a.count (length a.key.now) a.room = says_yes (not-false c.are_preparable.result c.if-not-are_preparable.false) c.are_preparable.ensures in
+    let few : c.fewer-held.result ≤ window_bound = omega (arith, c.fewer-held.ensures, (sizes).0) in
+    omega (arith, few)
 
 pub slice_bounds-have_values-end : goal.slice_bounds-have_values-end
-slice_bounds-have_values-end c = omega (arith, few c, (sizes c).3)
+slice_bounds-have_values-end c =
+    let sizes : let a = c.args in PreparableSizes a.dimensions.streams a.dimensions.width a.count (length a.key.now) a.room = says_yes (not-false c.are_preparable.result c.if-not-are_preparable.false) c.are_preparable.ensures in
+    let few : c.fewer-held.result ≤ window_bound = omega (arith, c.fewer-held.ensures, (sizes).0) in
+    omega (arith, few, (sizes).3)
 
 pub have_values-requires : goal.have_values-requires
-have_values-requires c κs = (sizes c).1
+have_values-requires c =
+    let sizes : let a = c.args in PreparableSizes a.dimensions.streams a.dimensions.width a.count (length a.key.now) a.room = says_yes (not-false c.are_preparable.result c.if-not-are_preparable.false) c.are_preparable.ensures in
+    (sizes).1
 
 pub returns : goal.returns
 returns c =
+    let sizes : let a = c.args in PreparableSizes a.dimensions.streams a.dimensions.width a.count (length a.key.now) a.room = says_yes (not-false c.are_preparable.result c.if-not-are_preparable.false) c.are_preparable.ensures in
     let after = c in
     let at = after in
     let a = (start_of at).args in
     says_both c.have_values.result
-    (λ there. record { sizes = sizes at; letters = key-values a.key.now (sizes at).3 a.dimensions.width after.fewer.result after.fewer.ensures (sizes at).0 a.values a.dimensions.streams there })
-    (λ p. part-values a.key.now (sizes at).3 a.dimensions.width after.fewer.result after.fewer.ensures (sizes at).0 a.values a.dimensions.streams p.letters)
+    (λ there. record { sizes = sizes at; letters = key-values a.key.now (sizes at).3 a.dimensions.width after.fewer-held.result after.fewer-held.ensures (sizes at).0 a.values a.dimensions.streams there })
+    (λ p. part-values a.key.now (sizes at).3 a.dimensions.width after.fewer-held.result after.fewer-held.ensures (sizes at).0 a.values a.dimensions.streams p.letters)
     c.have_values.ensures

@@ -29,9 +29,6 @@ loop-i-preserved c =
       simp length-set loop.invariant.2,
     )
 
-pub shape_of-prepared : goal.shape_of-prepared
-shape_of-prepared c = c.loop-i.invariant.2
-
 pub returns : goal.returns
 returns c =
     let args = c.args in

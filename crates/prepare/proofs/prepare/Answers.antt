@@ -10,17 +10,6 @@ use Rattle.prepare.specs.Prepared.{IsPreparable}
 use Rattle.prepare.proofs.PreparedLaws.{window-room, letters-part-long, part-values, firsts-part-long, parts_prepared}
 use Rattle.prepare.proofs.prepare.Goals as goal
 
-abbrev start_of : tie.Else1 → tie.Start
-start_of c = c.before.before.before
-
--- what the test says
-fits : (c : tie.Else1) → let a = (start_of c).args in IsPreparable (length a.letter-values.now) a.dimensions.streams a.dimensions.width a.count a.key.now (length a.prepared.now)
-fits c = says_yes (not-false c.before.is-preparable.result c.if1.false) c.before.is-preparable.ensures
-
--- how many letters the key holds
-few : (c : tie.After-fewer) → c.fewer.result ≤ window_bound
-few c = omega (arith, c.fewer.ensures, (fits c.before.before).sizes.0)
-
 pub returns-then-not-is_preparable : goal.returns-then-not-is_preparable
 returns-then-not-is_preparable c =
     record {
@@ -29,49 +18,65 @@ returns-then-not-is_preparable c =
     }
 
 pub bounds-key-0 : goal.bounds-key-0
-bounds-key-0 c = omega (arith, (fits c).sizes.3)
+bounds-key-0 c =
+    let fits : let a = c.args in IsPreparable (length a.letter_values.now) a.dimensions.streams a.dimensions.width a.count a.key.now (length a.prepared.now) = says_yes (not-false c.is_preparable.result c.if-not-is_preparable.false) c.is_preparable.ensures in
+    omega (arith, (fits).sizes.3)
 
 pub overflow_cast-key : goal.overflow_cast-key
 overflow_cast-key c = omega (arith, c.type_inv.key 0)
 
 pub overflow_add-letters_end : goal.overflow_add-letters_end
-overflow_add-letters_end c = omega (arith, few c)
+overflow_add-letters_end c =
+    let fits : let a = c.args in IsPreparable (length a.letter_values.now) a.dimensions.streams a.dimensions.width a.count a.key.now (length a.prepared.now) = says_yes (not-false c.is_preparable.result c.if-not-is_preparable.false) c.is_preparable.ensures in
+    let few : c.fewer-held.result ≤ window_bound = omega (arith, c.fewer-held.ensures, (fits).sizes.0) in
+    omega (arith, few)
 
 pub slice_bounds-fill_window-end : goal.slice_bounds-fill_window-end
-slice_bounds-fill_window-end c = let after = c in omega (arith, few after, (fits after).sizes.3)
+slice_bounds-fill_window-end c =
+    let fits : let a = c.args in IsPreparable (length a.letter_values.now) a.dimensions.streams a.dimensions.width a.count a.key.now (length a.prepared.now) = says_yes (not-false c.is_preparable.result c.if-not-is_preparable.false) c.is_preparable.ensures in
+    let few : c.fewer-held.result ≤ window_bound = omega (arith, c.fewer-held.ensures, (fits).sizes.0) in
+    let after = c in omega (arith, few, (fits after).sizes.3)
 
 pub fill_window-requires : goal.fill_window-requires
-fill_window-requires c κs =
+fill_window-requires c =
+    let fits : let a = c.args in IsPreparable (length a.letter_values.now) a.dimensions.streams a.dimensions.width a.count a.key.now (length a.prepared.now) = says_yes (not-false c.is_preparable.result c.if-not-is_preparable.false) c.is_preparable.ensures in
+    let few : c.fewer-held.result ≤ window_bound = omega (arith, c.fewer-held.ensures, (fits).sizes.0) in
     let after = c in
     let at = after in
     let a = (start_of at).args in
     let sizes = (fits at).sizes in
-    let there = part-values a.key.now sizes.3 a.dimensions.width after.fewer.result after.fewer.ensures sizes.0 (length a.letter-values.now) a.dimensions.streams (fits at).letters in (
-      rw (letters-part-long a.key.now sizes.3 a.dimensions.width after.fewer.result after.fewer.ensures sizes.0) (omega (arith, window-room {n = after.fewer.result} sizes.1 (few after), sizes.4)),
+    let there = part-values a.key.now sizes.3 a.dimensions.width after.fewer-held.result after.fewer-held.ensures sizes.0 (length a.letter_values.now) a.dimensions.streams (fits at).letters in (
+      rw (letters-part-long a.key.now sizes.3 a.dimensions.width after.fewer-held.result after.fewer-held.ensures sizes.0) (omega (arith, window-room {n = after.fewer-held.result} sizes.1 (few), sizes.4)),
       λ p h. omega (arith, there p h, sizes.1),
     )
 
 pub overflow_add-firsts_end : goal.overflow_add-firsts_end
-overflow_add-firsts_end c = omega (arith, (fits c).sizes.2)
+overflow_add-firsts_end c =
+    let fits : let a = c.args in IsPreparable (length a.letter_values.now) a.dimensions.streams a.dimensions.width a.count a.key.now (length a.prepared.now) = says_yes (not-false c.is_preparable.result c.if-not-is_preparable.false) c.is_preparable.ensures in
+    omega (arith, (fits).sizes.2)
 
 pub slice_bounds-lower_all-end : goal.slice_bounds-lower_all-end
-slice_bounds-lower_all-end c = let sizes = (fits c).sizes in omega (arith, sizes.2, sizes.3)
+slice_bounds-lower_all-end c =
+    let fits : let a = c.args in IsPreparable (length a.letter_values.now) a.dimensions.streams a.dimensions.width a.count a.key.now (length a.prepared.now) = says_yes (not-false c.is_preparable.result c.if-not-is_preparable.false) c.is_preparable.ensures in
+    let sizes = (fits).sizes in omega (arith, sizes.2, sizes.3)
 
 pub lower_all-requires : goal.lower_all-requires
-lower_all-requires c κs =
+lower_all-requires c =
+    let fits : let a = c.args in IsPreparable (length a.letter_values.now) a.dimensions.streams a.dimensions.width a.count a.key.now (length a.prepared.now) = says_yes (not-false c.is_preparable.result c.if-not-is_preparable.false) c.is_preparable.ensures in
     let at = c in
-    let a = (start_of at).args in
-    let sizes = (fits at).sizes in
+    let a = c.args in
+    let sizes = (fits).sizes in
     omega (arith, firsts-part-long a.key.now sizes.3 a.count sizes.2, c.fill_window.auto.0, sizes.2, sizes.4)
 
 pub returns : goal.returns
 returns c =
+    let fits : let a = c.args in IsPreparable (length a.letter_values.now) a.dimensions.streams a.dimensions.width a.count a.key.now (length a.prepared.now) = says_yes (not-false c.is_preparable.result c.if-not-is_preparable.false) c.is_preparable.ensures in
     let after = c in
     let at = after in
     let a = (start_of at).args in
     let fill = c.fill_window in
     let lowers = c.lower_all in
     record {
-      done = λ p. parts_prepared a.letter-values.now a.dimensions.streams a.dimensions.width a.count a.key.now a.prepared.now p after.fewer.result after.fewer.ensures fill.new.0 lowers.new.0 fill.ensures lowers.ensures;
+      done = λ p. parts_prepared a.letter_values.now a.dimensions.streams a.dimensions.width a.count a.key.now a.prepared.now p after.fewer-held.result after.fewer-held.ensures fill.new.0 lowers.new.0 fill.ensures lowers.ensures;
       refused = λ p. absurd (p (fits at));
     }

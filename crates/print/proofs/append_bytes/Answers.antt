@@ -21,7 +21,7 @@ pub bounds-text-i : goal.bounds-text-i
 bounds-text-i c = omega arith
 
 pub append_byte-to-requires : goal.append_byte-to-requires
-append_byte-to-requires c κs = tt
+append_byte-to-requires c = tt
 
 pub overflow_add-i : goal.overflow_add-i
 overflow_add-i c = omega arith
@@ -34,12 +34,9 @@ loop-i-preserved c =
     let s = c in
     let t = c in
     let text = s.args.text.now in
-    let h : t.loop.i < length text = omega arith in
-    let e = sym (ap (λ k. take k text) (add-one t.loop.i) ∙ take-suc text t.loop.i 0 h) in
-    (omega arith, appends_same (appends_then t.loop.invariant.1 c.append_byte-to.ensures) e)
-
-pub shape_of-out : goal.shape_of-out
-shape_of-out c = c.loop-i.invariant.1.same_length
+    let h : t.loop-i.i < length text = omega arith in
+    let e = sym (ap (λ k. take k text) (add-one t.loop-i.i) ∙ take-suc text t.loop-i.i 0 h) in
+    (omega arith, appends_same (appends_then t.loop-i.invariant.1 c.append_byte-to.ensures) e)
 
 pub returns : goal.returns
 returns c =

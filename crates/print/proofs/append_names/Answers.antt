@@ -10,15 +10,12 @@ use Rattle.print.proofs.Append.{appends_nothing, appends_then, appends_same, rea
 use Rattle.print.proofs.Lines.{spaced-more}
 use Rattle.print.proofs.append_names.Goals as goal
 
-unfolding stored_names
-
-unfolding stored_names
-
 pub loop-i-init : goal.loop-i-init
+unfolding stored_names
 loop-i-init c = (omega arith, appends_nothing c.requires.0)
 
 pub append_name-to-requires : goal.append_name-to-requires
-append_name-to-requires c κs = (reached c.loop-i.invariant.1, omega (arith, c.requires.1))
+append_name-to-requires c = (reached c.loop-i.invariant.1, omega (arith, c.requires.1))
 
 pub overflow_add-i : goal.overflow_add-i
 overflow_add-i c = omega arith
@@ -27,16 +24,14 @@ pub loop-i-smaller : goal.loop-i-smaller
 loop-i-smaller c = omega arith
 
 pub loop-i-preserved : goal.loop-i-preserved
+unfolding stored_names
 loop-i-preserved c =
     let s = c in
     let t = c in
     let names = stored_names s.args.names.now s.args.lengths.now in
     let e =
-    sym (spaced-more (names t.loop.i) (name_in s.args.names.now s.args.lengths.now t.loop.i)) ∙ ap (λ k. spaced (names k)) (sym (add-one t.loop.i)) in
-    (omega arith, appends_same (appends_then t.loop.invariant.1 c.append_name-to.ensures) e)
-
-pub shape_of-out : goal.shape_of-out
-shape_of-out c = c.loop-i.invariant.1.same_length
+    sym (spaced-more (names t.loop-i.i) (name_in s.args.names.now s.args.lengths.now t.loop-i.i)) ∙ ap (λ k. spaced (names k)) (sym (add-one t.loop-i.i)) in
+    (omega arith, appends_same (appends_then t.loop-i.invariant.1 c.append_name-to.ensures) e)
 
 pub returns : goal.returns
 returns c =

@@ -6,7 +6,7 @@ use Rattle.print.proofs.Lengths.{some-digit}
 use Rattle.print.proofs.append_natural.Goals as goal
 
 pub fewer-requires : goal.fewer-requires
-fewer-requires c κs = tt
+fewer-requires c = tt
 
 pub returns-then-out-fewer : goal.returns-then-out-fewer
 returns-then-out-fewer c =
@@ -14,7 +14,7 @@ returns-then-out-fewer c =
     text-left a.out.now (digits a.value) (omega arith)
 
 pub put_digits-requires : goal.put_digits-requires
-put_digits-requires c κs =
+put_digits-requires c =
     let some = some-digit c.args.value in
     (c.digit_count-count.ensures.0, omega arith)
 

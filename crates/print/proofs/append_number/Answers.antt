@@ -4,10 +4,10 @@ use Rattle.print.proofs.Lines.{minus-first, no_minus}
 use Rattle.print.proofs.append_number.Goals as goal
 
 pub append_byte-to-requires : goal.append_byte-to-requires
-append_byte-to-requires c κs = tt
+append_byte-to-requires c = tt
 
 pub append_natural-requires : goal.append_natural-requires
-append_natural-requires c κs = tt
+append_natural-requires c = tt
 
 pub returns-then-value-lt0 : goal.returns-then-value-lt0
 returns-then-value-lt0 c =
@@ -16,7 +16,7 @@ returns-then-value-lt0 c =
     (minus-first s.args.value s.ranges.value c.magnitude-size.ensures c.if-value-lt0.true)
 
 pub append_natural-requires-2 : goal.append_natural-requires-2
-append_natural-requires-2 c κs = tt
+append_natural-requires-2 c = tt
 
 pub returns : goal.returns
 returns c =

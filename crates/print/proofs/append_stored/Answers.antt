@@ -7,7 +7,7 @@ use Rattle.print.proofs.Append.{appends_same}
 use Rattle.print.proofs.append_stored.Goals as goal
 
 pub append_bytes-requires : goal.append_bytes-requires
-append_bytes-requires c κs = tt
+append_bytes-requires c = tt
 
 pub returns : goal.returns
 returns c =

@@ -24,10 +24,10 @@ pub bounds-values-i : goal.bounds-values-i
 bounds-values-i c = omega arith
 
 pub append_number-end-requires : goal.append_number-end-requires
-append_number-end-requires c κs = tt
+append_number-end-requires c = tt
 
 pub append_byte-to-requires : goal.append_byte-to-requires
-append_byte-to-requires c κs = tt
+append_byte-to-requires c = tt
 
 pub overflow_add-i : goal.overflow_add-i
 overflow_add-i c = omega arith
@@ -40,15 +40,12 @@ loop-i-preserved c =
     let s = c in
     let t = c in
     let values = s.args.values.now in
-    let h : t.loop.i < length values = omega arith in
-    let before = spaced (map decimal (take t.loop.i values)) in
+    let h : t.loop-i.i < length values = omega arith in
+    let before = spaced (map decimal (take t.loop-i.i values)) in
     let e =
-    ap (λ z. before ++ (decimal z ++ (32 ∷ []))) (to_z-of_z w64 (get_or values t.loop.i (pos 0)) (record { sfits = c.append_number-arg-in-loop-i-1.given }))
-    ∙ sym (ap (λ k. spaced (map decimal (take k values))) (add-one t.loop.i) ∙ values-more values t.loop.i h) in
-    (omega arith, appends_same (appends_then t.loop.invariant.1 (appends_then c.append_number-end.ensures c.append_byte-to.ensures)) e)
-
-pub shape_of-out : goal.shape_of-out
-shape_of-out c = c.loop-i.invariant.1.same_length
+    ap (λ z. before ++ (decimal z ++ (32 ∷ []))) (to_z-of_z w64 (get_or values t.loop-i.i (pos 0)) (record { sfits = c.append_number-arg-in-loop-i-1.given }))
+    ∙ sym (ap (λ k. spaced (map decimal (take k values))) (add-one t.loop-i.i) ∙ values-more values t.loop-i.i h) in
+    (omega arith, appends_same (appends_then t.loop-i.invariant.1 (appends_then c.append_number-end.ensures c.append_byte-to.ensures)) e)
 
 pub returns : goal.returns
 returns c =

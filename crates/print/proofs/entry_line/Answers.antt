@@ -4,16 +4,16 @@ use Rattle.print.proofs.Lines.{entry-parts}
 use Rattle.print.proofs.entry_line.Goals as goal
 
 pub append_count-values_at-requires : goal.append_count-values_at-requires
-append_count-values_at-requires c κs = reached c.append_count-final_at.ensures
+append_count-values_at-requires c = reached c.append_count-final_at.ensures
 
 pub append_values-next_at-requires : goal.append_values-next_at-requires
-append_values-next_at-requires c κs = reached c.append_count-values_at.ensures
+append_values-next_at-requires c = reached c.append_count-values_at.ensures
 
 pub append_natural-end-requires : goal.append_natural-end-requires
-append_natural-end-requires c κs = tt
+append_natural-end-requires c = tt
 
 pub append_byte-requires : goal.append_byte-requires
-append_byte-requires c κs = tt
+append_byte-requires c = tt
 
 pub returns : goal.returns
 returns c =

@@ -8,13 +8,13 @@ use Rattle.print.proofs.Lines.{heading_parts}
 use Rattle.print.proofs.heading.Goals as goal
 
 pub append_bytes-from-requires : goal.append_bytes-from-requires
-append_bytes-from-requires c κs = tt
+append_bytes-from-requires c = tt
 
 pub append_names-to-requires : goal.append_names-to-requires
-append_names-to-requires c κs = (reached c.append_bytes-from.ensures, omega arith)
+append_names-to-requires c = (reached c.append_bytes-from.ensures, omega arith)
 
 pub append_bytes-requires : goal.append_bytes-requires
-append_bytes-requires c κs = tt
+append_bytes-requires c = tt
 
 pub returns : goal.returns
 returns c =

@@ -4,19 +4,19 @@ use Rattle.print.proofs.Lines.{named-parts}
 use Rattle.print.proofs.named_line.Goals as goal
 
 pub append_bytes-name_end-requires : goal.append_bytes-name_end-requires
-append_bytes-name_end-requires c κs = tt
+append_bytes-name_end-requires c = tt
 
 pub append_byte-values_at-requires : goal.append_byte-values_at-requires
-append_byte-values_at-requires c κs = tt
+append_byte-values_at-requires c = tt
 
 pub append_values-count_at-requires : goal.append_values-count_at-requires
-append_values-count_at-requires c κs = reached c.append_byte-values_at.ensures
+append_values-count_at-requires c = reached c.append_byte-values_at.ensures
 
 pub append_natural-end-requires : goal.append_natural-end-requires
-append_natural-end-requires c κs = tt
+append_natural-end-requires c = tt
 
 pub append_byte-requires : goal.append_byte-requires
-append_byte-requires c κs = tt
+append_byte-requires c = tt
 
 pub returns : goal.returns
 returns c =

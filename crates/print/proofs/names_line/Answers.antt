@@ -8,21 +8,20 @@ use Rattle.print.proofs.Append.{appends_then, appends_same, reached}
 use Rattle.print.proofs.Lines.{names-parts}
 use Rattle.print.proofs.names_line.Goals as goal
 
-unfolding stored_names
-
 pub append_byte-requires : goal.append_byte-requires
-append_byte-requires c κs = tt
+append_byte-requires c = tt
 
 pub returns-then-count-eq0 : goal.returns-then-count-eq0
+unfolding stored_names
 returns-then-count-eq0 c =
     let a = c.args in
     appends_same c.append_byte.ensures (ap (λ k. tokens_line (stored_names a.names.now a.lengths.now k)) (sym c.if-count-eq0.true ∙ c.fewer-count.ensures))
 
 pub append_stored-end-requires : goal.append_stored-end-requires
-append_stored-end-requires c κs = (reached c.append_names-to.ensures, omega (arith, c.fewer-count.ensures))
+append_stored-end-requires c = (reached c.append_names-to.ensures, omega (arith, c.fewer-count.ensures))
 
 pub append_byte-requires-2 : goal.append_byte-requires-2
-append_byte-requires-2 c κs = tt
+append_byte-requires-2 c = tt
 
 pub returns : goal.returns
 returns c =

@@ -14,7 +14,7 @@ use Rattle.print.proofs.Lines.{no_numbers, numbers-parts}
 use Rattle.print.proofs.numbers_line.Goals as goal
 
 pub append_byte-requires : goal.append_byte-requires
-append_byte-requires c κs = tt
+append_byte-requires c = tt
 
 pub returns-then-count-eq0 : goal.returns-then-count-eq0
 returns-then-count-eq0 c =
@@ -25,10 +25,10 @@ pub slice_bounds-append_values-end : goal.slice_bounds-append_values-end
 slice_bounds-append_values-end c = sym (length-take-le _ _ (omega arith))
 
 pub append_number-end-requires : goal.append_number-end-requires
-append_number-end-requires c κs = tt
+append_number-end-requires c = tt
 
 pub append_byte-requires-2 : goal.append_byte-requires-2
-append_byte-requires-2 c κs = tt
+append_byte-requires-2 c = tt
 
 pub returns : goal.returns
 returns c =

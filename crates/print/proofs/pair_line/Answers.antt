@@ -4,14 +4,14 @@ use Rattle.print.proofs.Lines.{pair_parts}
 use Rattle.print.proofs.pair_line.Goals as goal
 
 pub append_natural-end-requires : goal.append_natural-end-requires
-append_natural-end-requires c κs = tt
+append_natural-end-requires c = tt
 
 pub append_byte-requires : goal.append_byte-requires
-append_byte-requires c κs = tt
+append_byte-requires c = tt
 
 pub returns : goal.returns
 returns c =
     let p = c in
     let a = p.args in
-    appends_same (appends_then (appends_then p.append-count.ensures p.append-natural.ensures) c.append_byte.ensures)
+    appends_same (appends_then (appends_then p.append_count-to.ensures p.append_natural-end.ensures) c.append_byte.ensures)
     (pair_parts a.first a.second)

@@ -2,7 +2,7 @@
 use Prim.Native.Nat.{◌/◌}
 use native.Mathlib.Nat.{div-lt_self, mod-lt}
 use native.Mathlib.Omega.{arith}
-use mathlib.Core.Path.{refl, ◌∙◌, ap}
+use mathlib.Core.Path.{refl, ◌∙◌}
 use lib.ListN.{length, length-set}
 use Rattle.print.specs.Text.{digits}
 use Rattle.print.proofs.Lengths.{more-digits, some-digit}
@@ -22,7 +22,7 @@ pub loop-rest-init : goal.loop-rest-init
 loop-rest-init c = let d = some-digit c.args.value in (omega arith, omega arith, refl, refl)
 
 pub digit-requires : goal.digit-requires
-digit-requires c κs = mod-lt _ (omega arith)
+digit-requires c = mod-lt _ (omega arith)
 
 pub bounds-out-to : goal.bounds-out-to
 bounds-out-to c = omega arith
@@ -47,13 +47,10 @@ loop-rest-preserved c =
     (omega arith, omega arith, l ∙ t.invariant.2, stores-more t.out c.args.at t.rest t.invariant.0 h c.digit.ensures ∙ t.invariant.3)
 
 pub digit-requires-2 : goal.digit-requires-2
-digit-requires-2 c κs = omega arith
+digit-requires-2 c = omega arith
 
 pub bounds-out-to-2 : goal.bounds-out-to-2
 bounds-out-to-2 c = omega arith
-
-pub shape_of-out : goal.shape_of-out
-shape_of-out c = let t = c.loop-rest in length-set t.out t.to c.digit-2.result ∙ t.invariant.2
 
 pub returns : goal.returns
 returns c =

@@ -4,13 +4,13 @@ use Rattle.print.proofs.Lines.{refusal-parts}
 use Rattle.print.proofs.refusal_line.Goals as goal
 
 pub append_bytes-to-requires : goal.append_bytes-to-requires
-append_bytes-to-requires c κs = tt
+append_bytes-to-requires c = tt
 
 pub append_natural-end-requires : goal.append_natural-end-requires
-append_natural-end-requires c κs = tt
+append_natural-end-requires c = tt
 
 pub append_byte-requires : goal.append_byte-requires
-append_byte-requires c κs = tt
+append_byte-requires c = tt
 
 pub returns : goal.returns
 returns c =

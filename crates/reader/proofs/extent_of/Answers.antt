@@ -28,8 +28,8 @@ loop-i-preserved c =
     let start = loop in
     let inside = c.loop-i-test.true in (
       omega (arith, inside),
-      loop.loop.invariant.1
-          ∙ extent-step (stored start.args.kinds.now start.args.values.now start.args.starts.now) start.args.lows.now start.args.highs.now loop.loop.extent start.args.lefts.now start.args.rights.now loop.loop.i start.requires inside
+      loop.loop-i.invariant.1
+          ∙ extent-step (stored start.args.kinds.now start.args.values.now start.args.starts.now) start.args.lows.now start.args.highs.now loop.loop-i.extent start.args.lefts.now start.args.rights.now loop.loop-i.i start.requires inside
           c.summary.ensures c.with_summary-extent.ensures c.summary-in-loop-i.ensures c.with_summary-extent-in-loop-i.ensures,
     )
 

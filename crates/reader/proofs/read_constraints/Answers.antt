@@ -3,7 +3,6 @@ use Prim.Native.Nat.{◌-◌}
 use native.Mathlib.Omega.{arith}
 use mathlib.Core.Bool.{false}
 use lib.Dec.{eqb}
-use borrow.Author.Tests.{not-true, not-false}
 use Rattle.scan.proofs.Lines.{line-within}
 use Rattle.reader.proofs.Constraints.{at_most_one, line_read, line-missing, sofar_start, line-fits, count_low, sofar_missing, sides-low, sofar_step, sofar_end}
 use Rattle.reader.proofs.read_constraints.Goals as goal
@@ -23,33 +22,33 @@ slice_bounds-parse_constraint-end c = let w = line-within c.next_line-line.ensur
 pub returns-then-not-read : goal.returns-then-not-read
 returns-then-not-read c =
     let line = c in
-    sofar_missing line.loop.invariant line.loop-test.true line.next-line.ensures (line-missing c.parse_constraint-read.ensures.1 (line-fits line.loop.invariant line.loop-test.true line.next-line.ensures) (not-true _ c.if-not-read.true)) c.no_constraints_lem.ensures
+    sofar_missing line.loop-at.invariant line.loop-at-test.true line.next_line-line.ensures (line-missing c.parse_constraint-read.ensures.1 (line-fits line.loop-at.invariant line.loop-at-test.true line.next_line-line.ensures) c.if-not-read.true) c.no_constraints_lem.ensures
 
 pub put_constraint-requires : goal.put_constraint-requires
-put_constraint-requires c κs =
+put_constraint-requires c =
     let line = c in
-    let s = sides-low line.loop.invariant line.loop-test.true line.next-line.ensures (line_read c.parse_constraint-read.ensures.1 (not-false _ c.if-not-read.false)) in
-    (count_low line.loop.invariant line.loop-test.true line.next-line.ensures, s.0, s.1)
+    let s = sides-low line.loop-at.invariant line.loop-at-test.true line.next_line-line.ensures (line_read c.parse_constraint-read.ensures.1 c.if-not-read.false) in
+    (count_low line.loop-at.invariant line.loop-at-test.true line.next_line-line.ensures, s.0, s.1)
 
 pub overflow_add-count : goal.overflow_add-count
 overflow_add-count c =
     let line = c in
-    let s = count_low line.loop.invariant line.loop-test.true line.next-line.ensures in
+    let s = count_low line.loop-at.invariant line.loop-at-test.true line.next_line-line.ensures in
     omega arith
 
 pub overflow_add-untils : goal.overflow_add-untils
 overflow_add-untils c =
     let line = c in
-    let s = count_low line.loop.invariant line.loop-test.true line.next-line.ensures in
-    let u = line.loop.invariant.untils in
+    let s = count_low line.loop-at.invariant line.loop-at-test.true line.next_line-line.ensures in
+    let u = line.loop-at.invariant.untils in
     let o = at_most_one (eqb c.parse_constraint-read.result.relation 7) c.until_count-untils.ensures in
     omega arith
 
 pub loop-at-smaller : goal.loop-at-smaller
 loop-at-smaller c =
     let line = c in
-    let w = line-within line.next-line.ensures line.loop.invariant.within in
-    let f = w.further line.loop-test.true in
+    let w = line-within line.next_line-line.ensures line.loop-at.invariant.within in
+    let f = w.further line.loop-at-test.true in
     let i = w.within in
     omega arith
 
@@ -57,7 +56,7 @@ pub loop-at-preserved : goal.loop-at-preserved
 loop-at-preserved c =
     let line = c in
     let put = c.put_constraint.ensures in
-    sofar_step line.loop.invariant line.loop-test.true line.next-line.ensures (line_read c.parse_constraint-read.ensures.1 (not-false _ c.if-not-read.false)) put.0 put.1 put.2 c.until_count-untils.ensures c.either-beyond.ensures
+    sofar_step line.loop-at.invariant line.loop-at-test.true line.next_line-line.ensures (line_read c.parse_constraint-read.ensures.1 c.if-not-read.false) put.0 put.1 put.2 c.until_count-untils.ensures c.either-beyond.ensures
 
 pub returns : goal.returns
 returns c = sofar_end c.loop-at.invariant c.loop-at-test.false

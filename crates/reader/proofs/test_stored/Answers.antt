@@ -4,9 +4,8 @@ use Rattle.lowest_refusal.specs.Tested.{tested_with}
 use Rattle.reader.specs.Tested.{tested_as}
 use Rattle.reader.proofs.test_stored.Goals as goal
 
-unfolding tested_as
-
 pub returns : goal.returns
+unfolding tested_as
 returns c =
     let a = c.args in
     let unknown = c.some_unknown-unknown.ensures in

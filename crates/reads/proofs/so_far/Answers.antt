@@ -9,7 +9,7 @@ use Rattle.reads.proofs.Chunks.{after-bytes}
 use Rattle.reads.proofs.so_far.Goals as goal
 
 pub ended_as-requires : goal.ended_as-requires
-ended_as-requires c κs = tt
+ended_as-requires c = tt
 
 pub returns-then-stopped : goal.returns-then-stopped
 returns-then-stopped c =
@@ -17,7 +17,7 @@ returns-then-stopped c =
     c.ended_as.ensures ∙ sym (ap (λ t. reads_so_far t s.args.answer s.args.left) c.if-stopped.true)
 
 pub ended_as-requires-then-answer-lt0 : goal.ended_as-requires-then-answer-lt0
-ended_as-requires-then-answer-lt0 c κs = tt
+ended_as-requires-then-answer-lt0 c = tt
 
 pub returns-then-answer-lt0 : goal.returns-then-answer-lt0
 returns-then-answer-lt0 c =
@@ -25,7 +25,7 @@ returns-then-answer-lt0 c =
     c.ended_as-then-answer-lt0.ensures ∙ sym (ap (λ t. reads_so_far t s.args.answer s.args.left) c.if-stopped.false ∙ ap (λ a. reads_so_far false a s.args.left) (number-negative s.args.answer s.ranges.answer c.if-answer-lt0.true).1)
 
 pub ended_as-requires-then-answer-eq0 : goal.ended_as-requires-then-answer-eq0
-ended_as-requires-then-answer-eq0 c κs = tt
+ended_as-requires-then-answer-eq0 c = tt
 
 pub returns-then-answer-eq0 : goal.returns-then-answer-eq0
 returns-then-answer-eq0 c =

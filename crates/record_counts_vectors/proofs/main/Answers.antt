@@ -7,7 +7,7 @@ pub loop-init : goal.loop-init
 loop-init c = tt
 
 pub one-requires : goal.one-requires
-one-requires c κs = tt
+one-requires c = tt
 
 pub returns-then-not-one : goal.returns-then-not-one
 returns-then-not-one c = tt

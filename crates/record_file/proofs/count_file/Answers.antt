@@ -1,10 +1,7 @@
 -- `record_file::count_file` meets its contract, from those of the calls.
-use mathlib.Core.Path.{refl, ◌∙◌, subst}
+use mathlib.Core.Path.{refl, subst}
 use Rattle.tally.specs.Machine.{counted_sheet, FinishesTally}
 use Rattle.record_file.proofs.count_file.Goals as goal
-
-pub shape_of-counts : goal.shape_of-counts
-shape_of-counts c = c.finish-counted.auto.1.1.1.1.1.0 ∙ c.read_chunks-read.auto.1.1.1.1.1.0
 
 pub returns : goal.returns
 returns c =

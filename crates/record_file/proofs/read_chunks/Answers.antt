@@ -11,16 +11,16 @@ use Rattle.reads.proofs.Chunks.{nothing_read, may_read, chunk_read}
 use Rattle.record_file.proofs.read_chunks.Goals as goal
 
 pub large_buffer-chunk-requires : goal.large_buffer-chunk-requires
-large_buffer-chunk-requires c κs = tt
+large_buffer-chunk-requires c = tt
 
 pub begin-tally-requires : goal.begin-tally-requires
-begin-tally-requires c κs = tt
+begin-tally-requires c = tt
 
 pub is_refused-requires : goal.is_refused-requires
-is_refused-requires c κs = tt
+is_refused-requires c = tt
 
 pub so_far-progress-requires : goal.so_far-progress-requires
-so_far-progress-requires c κs = tt
+so_far-progress-requires c = tt
 
 pub loop-progress-init : goal.loop-progress-init
 loop-progress-init c = (
@@ -33,13 +33,13 @@ pub slice_bounds-read-end : goal.slice_bounds-read-end
 slice_bounds-read-end c = sym c.loop-progress.invariant.0
 
 pub read-answer-requires : goal.read-answer-requires
-read-answer-requires c κs = tt
+read-answer-requires c = tt
 
 pub slice_bounds-count-end : goal.slice_bounds-count-end
 slice_bounds-count-end c = sym (c.read-answer.auto.1.0 ∙ c.loop-progress.invariant.0)
 
 pub count-size-requires : goal.count-size-requires
-count-size-requires c κs = tt
+count-size-requires c = tt
 
 pub slice_bounds-chunk-end : goal.slice_bounds-chunk-end
 slice_bounds-chunk-end c = c.count-size.ensures.0.0
@@ -48,16 +48,16 @@ pub slice_bounds-count_chunk-end : goal.slice_bounds-count_chunk-end
 slice_bounds-count_chunk-end c = sym (length-take-le _ _ (array-share-prefix-chunk c))
 
 pub count_chunk-tally-requires : goal.count_chunk-tally-requires
-count_chunk-tally-requires c κs = tt
+count_chunk-tally-requires c = tt
 
 pub overflow_sub-left : goal.overflow_sub-left
 overflow_sub-left c = omega (arith, may_read _ _ _ c.loop-progress.invariant.1 c.loop-progress-test.true)
 
 pub is_refused-requires-in-loop-progress : goal.is_refused-requires-in-loop-progress
-is_refused-requires-in-loop-progress c κs = tt
+is_refused-requires-in-loop-progress c = tt
 
 pub so_far-progress-requires-in-loop-progress : goal.so_far-progress-requires-in-loop-progress
-so_far-progress-requires-in-loop-progress c κs = tt
+so_far-progress-requires-in-loop-progress c = tt
 
 pub loop-progress-smaller : goal.loop-progress-smaller
 loop-progress-smaller c = omega (arith, may_read _ _ _ c.loop-progress.invariant.1 c.loop-progress-test.true)
@@ -75,9 +75,6 @@ loop-progress-preserved c =
       chunk_read _ _ _ loop.invariant.1 c.loop-progress-test.true (record { answer = answer; bytes = take count.result read.new.1.0; size = size }) c.count_chunk-tally.ensures c.is_refused-in-loop-progress.ensures c.so_far-progress-in-loop-progress.ensures,
       c.count_chunk-tally.auto.1.1.1.1.1.1.0 ∙ loop.invariant.2,
     )
-
-pub shape_of-counts : goal.shape_of-counts
-shape_of-counts c = c.loop-progress.invariant.2
 
 pub returns : goal.returns
 returns c = record { left = c.loop-progress.left; reads = c.loop-progress.invariant.1; done = c.loop-progress-test.false }

@@ -12,7 +12,7 @@ pub bounds-chunk-at : goal.bounds-chunk-at
 bounds-chunk-at c = omega arith
 
 pub line_byte-line-requires : goal.line_byte-line-requires
-line_byte-line-requires c κs = tt
+line_byte-line-requires c = tt
 
 pub overflow_add-at : goal.overflow_add-at
 overflow_add-at c = omega arith

@@ -4,7 +4,6 @@ use Rattle.letters.proofs.Counts.{length-described}
 use Rattle.records.specs.Machine.{end_of, values_end, line_end}
 use Rattle.records.proofs.line_end.Goals as goal
 
-unfolding line_end
-
 pub returns : goal.returns
+unfolding line_end
 returns c = let s = c in c.values_end.ensures ∙ ap₂ (λ n v. end_of (values_end n s.args.line.barred v)) (c.fewer.ensures ∙ sym (length-described s.args.lows.now s.args.highs.now)) c.end_value-ended.ensures

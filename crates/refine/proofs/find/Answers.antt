@@ -11,7 +11,7 @@ pub loop-j-init : goal.loop-j-init
 loop-j-init c = searching_start c.requires.head_most
 
 pub same_row-requires : goal.same_row-requires
-same_row-requires c κs =
+same_row-requires c =
     let start = c in
     (omega (arith, start.requires.inside, c.loop-j.invariant.most, c.loop-j-test.true), start.requires.inside, start.requires.entries_fit, start.requires.envelopes_fit, start.requires.enveloped)
 

@@ -1,6 +1,6 @@
 -- `refine::first_classes` meets its contract. What a turn does to the two classes is in `FirstClasses`.
 use Prim.Native.Nat.{◌-◌}
-use mathlib.Core.Path.{◌≡◌, sym, ◌∙◌}
+use mathlib.Core.Path.{◌≡◌}
 use native.Mathlib.Omega.{arith}
 use lib.ListN.{length}
 use Rattle.refine.proofs.FirstClasses.{Naming, naming_none, naming_closed, naming_open, naming_dead, naming_named}
@@ -17,9 +17,6 @@ loop-row-preserved-else-finals-at-eq1 c = naming_open c.loop-row.invariant c.loo
 
 pub loop-row-preserved : goal.loop-row-preserved
 loop-row-preserved c = naming_dead c.loop-row.invariant c.loop-row-test.true c.if-live-at-eq1.false
-
-pub shape_of-class : goal.shape_of-class
-shape_of-class c = c.loop-row.invariant.same ∙ sym c.requires.2
 
 pub returns : goal.returns
 returns c =

@@ -58,8 +58,5 @@ loop-row-preserved c =
     let loop = c.loop-row in
     (omega arith, loop.invariant.1, sharing-more class loop.shared loop.row loop.invariant.2 (λ p q. absurd (omega (arith, c.if-c-ne0.false))))
 
-pub shape_of-shared : goal.shape_of-shared
-shape_of-shared c = c.loop-row.invariant.1
-
 pub returns : goal.returns
 returns c = λ s h. c.loop-row.invariant.2 s (omega arith)

@@ -10,12 +10,6 @@ returns-then-old-eq0 c = inl (record { kept = sym c.if-old-eq0.true; alone = λ 
 pub returns-then-mark-ne1 : goal.returns-then-mark-ne1
 returns-then-mark-ne1 c = inl (record { kept = refl; alone = λ h. (omega (arith, c.if-old-row.true), c.if-mark-ne1.true); heads_kept = refl; links_kept = refl })
 
-pub shape_of-heads : goal.shape_of-heads
-shape_of-heads c = c.split_row.auto.1.1.1.1.1.0
-
-pub shape_of-links : goal.shape_of-links
-shape_of-links c = c.split_row.auto.1.1.1.1.1.1.0
-
 pub returns : goal.returns
 returns c =
     inr (record { some = omega (arith, c.if-old-eq0.false); shares = λ e. ⊎_elim (λ w. w.1.left) (λ w. absurd (w.left (omega (arith, e)))) c.if-old-row.branch; way = c.split_row.ensures })

@@ -18,22 +18,6 @@ no-sizes : {letters : ℕ} {entries live finals class next heads links envelopes
     → RefineOutcome letters entries live finals class next heads links envelopes false class next heads links envelopes
 no-sizes n = record { says = n; fits = λ z. absurd (n z); unchanged = λ z. (refl, refl, refl, refl, refl) }
 
--- the tests passed, so all lists hold as many rows
-sizes : (c : tie.After-sizes-agree) → c.sizes-agree.result ≡ true
-    → Sizes c.before.before.before.before.before.before.before.before.before.before.before.before.args.letters c.before.before.before.before.before.before.before.before.before.before.before.before.args.entries.now c.before.before.before.before.before.before.before.before.before.before.before.before.args.live.now c.before.before.before.before.before.before.before.before.before.before.before.before.args.finals.now c.before.before.before.before.before.before.before.before.before.before.before.before.args.class.now c.before.before.before.before.before.before.before.before.before.before.before.before.args.next.now c.before.before.before.before.before.before.before.before.before.before.before.before.args.heads.now c.before.before.before.before.before.before.before.before.before.before.before.before.args.links.now c.before.before.before.before.before.before.before.before.before.before.before.before.args.envelopes.now
-sizes c e =
-    let h = says_yes e c.sizes-agree.ensures in
-    record {
-      few = omega (arith, c.before.before.before.if1.false);
-      entries_fit = says_yes (not-false c.before.before.rows_fit.result c.before.if2.false) c.before.before.rows_fit.ensures;
-      finals_fit = h.0;
-      class_fits = h.1;
-      next_fits = h.2;
-      heads_fit = h.3;
-      links_fit = h.4;
-      envelopes_fit = h.5;
-    }
-
 pub returns-then-live-gt65535 : goal.returns-then-live-gt65535
 returns-then-live-gt65535 c = no-sizes (λ z. omega (arith, z.few, c.if-live-gt65535.true))
 
@@ -45,8 +29,20 @@ returns-then-not-sizes_agree c =
     no-sizes (λ z. says_no (not-true c.sizes_agree.result c.if-not-sizes_agree.true) c.sizes_agree.ensures (z.finals_fit, z.class_fits, z.next_fits, z.heads_fit, z.links_fit, z.envelopes_fit))
 
 pub rounds-requires : goal.rounds-requires
-rounds-requires c κs =
-    let fit = sizes c (not-false _ c.if-not-sizes_agree.false) in
+rounds-requires c =
+    let sizes : c.sizes_agree.result ≡ true
+    → Sizes c.args.letters c.args.entries.now c.args.live.now c.args.finals.now c.args.class.now c.args.next.now c.args.heads.now c.args.links.now c.args.envelopes.now = λ e. (let h = says_yes e c.sizes_agree.ensures in
+    record {
+      few = omega (arith, c.if-live-gt65535.false);
+      entries_fit = says_yes (not-false c.rows_fit.result c.if-not-rows_fit.false) c.rows_fit.ensures;
+      finals_fit = h.0;
+      class_fits = h.1;
+      next_fits = h.2;
+      heads_fit = h.3;
+      links_fit = h.4;
+      envelopes_fit = h.5;
+    }) in
+    let fit = sizes c.if-not-sizes_agree.false in
     record {
       sizes = record {
         few = fit.few;
@@ -61,24 +57,21 @@ rounds-requires c κs =
       enveloped = c.find_envelopes.ensures.fits (fit.entries_fit, fit.envelopes_fit);
     }
 
-pub shape_of-class : goal.shape_of-class
-shape_of-class c = c.rounds.auto.1.1.1.1.1.0
-
-pub shape_of-next : goal.shape_of-next
-shape_of-next c = c.fill.auto.0 ∙ c.rounds.auto.1.1.1.1.1.1.0
-
-pub shape_of-heads : goal.shape_of-heads
-shape_of-heads c = c.fill-2.auto.0 ∙ c.rounds.auto.1.1.1.1.1.1.1.0
-
-pub shape_of-links : goal.shape_of-links
-shape_of-links c = c.fill-3.auto.0 ∙ c.rounds.auto.1.1.1.1.1.1.1.1.0
-
-pub shape_of-envelopes : goal.shape_of-envelopes
-shape_of-envelopes c = c.fill-4.auto.0 ∙ c.find_envelopes.auto.1.1.1.0
-
 pub returns : goal.returns
 returns c =
-    let fit = sizes c (not-false _ c.if-not-sizes_agree.false) in
+    let sizes : c.sizes_agree.result ≡ true
+    → Sizes c.args.letters c.args.entries.now c.args.live.now c.args.finals.now c.args.class.now c.args.next.now c.args.heads.now c.args.links.now c.args.envelopes.now = λ e. (let h = says_yes e c.sizes_agree.ensures in
+    record {
+      few = omega (arith, c.if-live-gt65535.false);
+      entries_fit = says_yes (not-false c.rows_fit.result c.if-not-rows_fit.false) c.rows_fit.ensures;
+      finals_fit = h.0;
+      class_fits = h.1;
+      next_fits = h.2;
+      heads_fit = h.3;
+      links_fit = h.4;
+      envelopes_fit = h.5;
+    }) in
+    let fit = sizes c.if-not-sizes_agree.false in
     let rounds = c.rounds in
     record {
       says = fit;

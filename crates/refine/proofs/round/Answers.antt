@@ -13,10 +13,10 @@ class-most : (class : List ℕ) → ((s : ℕ) → get_or class s 0 ≤ suc s) �
 class-most class low s = elim (dec_lt s (length class)) [ yes h ↦ omega (arith, low s) | no h ↦ let q : get_or class s 0 ≡ 0 = get_or-eq_default class 0 (omega arith) in omega arith ]
 
 pub mark_shared-requires : goal.mark_shared-requires
-mark_shared-requires c κs = (c.fill.auto.0 ∙ c.requires.next_fits, class-most c.args.class.now c.requires.low)
+mark_shared-requires c = (c.fill.auto.0 ∙ c.requires.next_fits, class-most c.args.class.now c.requires.low)
 
 pub split_round-requires : goal.split_round-requires
-split_round-requires c κs =
+split_round-requires c =
     let pre = c.requires in
     record {
       few = pre.few;
@@ -31,15 +31,6 @@ split_round-requires c κs =
       empty = λ k. rw c.fill-2.ensures (zeros (length c.args.heads.now) k);
       falling = pre.falling;
     }
-
-pub shape_of-next : goal.shape_of-next
-shape_of-next c = c.split_round.auto.1.1.1.1.0 ∙ (c.mark_shared.auto.1.0 ∙ c.fill.auto.0)
-
-pub shape_of-heads : goal.shape_of-heads
-shape_of-heads c = c.split_round.auto.1.1.1.1.1.0 ∙ c.fill-2.auto.0
-
-pub shape_of-links : goal.shape_of-links
-shape_of-links c = c.split_round.auto.1.1.1.1.1.1.0
 
 pub returns : goal.returns
 returns c = c.split_round.ensures

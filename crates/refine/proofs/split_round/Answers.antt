@@ -1,6 +1,5 @@
 -- `refine::split_round` meets its contract. What a turn does to the classes and chains is in `Splitting`.
 use Prim.Native.Nat.{◌-◌}
-use mathlib.Core.Path.{sym, ◌∙◌}
 use mathlib.Core.Bool.{true}
 use native.Mathlib.Omega.{arith}
 use Rattle.refine.proofs.Splitting.{splitting_start, splitting_splittable, moved_same, moved_new, splitting_next, splitting_round}
@@ -13,7 +12,7 @@ pub bounds-next-row : goal.bounds-next-row
 bounds-next-row c = omega (arith, c.loop-row.invariant.next_fits, c.loop-row-test.true)
 
 pub next_class-c-requires : goal.next_class-c-requires
-next_class-c-requires c κs = splitting_splittable c.loop-row.invariant c.loop-row-test.true c.requires
+next_class-c-requires c = splitting_splittable c.loop-row.invariant c.loop-row-test.true c.requires
 
 pub loop-row-preserved-then-c-old : goal.loop-row-preserved-then-c-old
 loop-row-preserved-then-c-old c =
@@ -28,15 +27,6 @@ loop-row-preserved c =
     let loop = c.loop-row in
     let lt = c.loop-row-test.true in
     splitting_next loop.invariant lt c.requires call.result call.new.1.1.1.1.1.1.0 call.new.1.1.1.1.1.1.1.0 loop.changed call.ensures (moved_same loop.invariant lt call.result c.if-c-old.false)
-
-pub shape_of-next : goal.shape_of-next
-shape_of-next c = c.loop-row.invariant.next_fits ∙ sym c.requires.next_fits
-
-pub shape_of-heads : goal.shape_of-heads
-shape_of-heads c = c.loop-row.invariant.heads_fit ∙ sym c.requires.heads_fit
-
-pub shape_of-links : goal.shape_of-links
-shape_of-links c = c.loop-row.invariant.links_fit ∙ sym c.requires.links_fit
 
 pub returns : goal.returns
 returns c = (splitting_round (omega (arith, c.loop-row.invariant.within)) c.loop-row.invariant, c.loop-row.invariant.falling)

@@ -24,7 +24,7 @@ slice_bounds-too_deep-end c = let w = line-within c.next_line-line.ensures c.loo
 pub returns-then-too_deep : goal.returns-then-too_deep
 returns-then-too_deep c =
     let line = c in
-    counted-deep line.loop.invariant line.loop-test.true line.next-line.ensures (sym c.if-too_deep.true ∙ c.too_deep.ensures)
+    counted-deep line.loop-at.invariant line.loop-at-test.true line.next_line-line.ensures (sym c.if-too_deep.true ∙ c.too_deep.ensures)
 
 pub overflow_add-count : goal.overflow_add-count
 overflow_add-count c = let k = c.loop-at.invariant.few_lines in omega arith
@@ -41,7 +41,7 @@ slice_bounds-token_count-end c = let w = line-within c.next_line-line.ensures c.
 pub overflow_add-tokens : goal.overflow_add-tokens
 overflow_add-tokens c =
     let line = c in
-    let k = counted_step line.loop.invariant line.loop-test.true line.next-line.ensures (sym c.if-too_deep.false ∙ c.too_deep.ensures) c.token_count-tokens.ensures in
+    let k = counted_step line.loop-at.invariant line.loop-at-test.true line.next_line-line.ensures (sym c.if-too_deep.false ∙ c.too_deep.ensures) c.token_count-tokens.ensures in
     let f = k.few_tokens in
     let i = k.within in
     omega arith
@@ -49,15 +49,15 @@ overflow_add-tokens c =
 pub loop-at-smaller : goal.loop-at-smaller
 loop-at-smaller c =
     let line = c in
-    let w = line-within line.next-line.ensures line.loop.invariant.within in
-    let f = w.further line.loop-test.true in
+    let w = line-within line.next_line-line.ensures line.loop-at.invariant.within in
+    let f = w.further line.loop-at-test.true in
     let i = w.within in
     omega arith
 
 pub loop-at-preserved : goal.loop-at-preserved
 loop-at-preserved c =
     let line = c in
-    counted_step line.loop.invariant line.loop-test.true line.next-line.ensures (sym c.if-too_deep.false ∙ c.too_deep.ensures) c.token_count-tokens.ensures
+    counted_step line.loop-at.invariant line.loop-at-test.true line.next_line-line.ensures (sym c.if-too_deep.false ∙ c.too_deep.ensures) c.token_count-tokens.ensures
 
 pub returns-then-count-gt32 : goal.returns-then-count-gt32
 returns-then-count-gt32 c = sym (ap (λ t. t || ltb 1024 c.loop-at.tokens) (lt-ltb _ _ c.if-count-gt32.true)) ∙ counted-end c.loop-at.invariant c.loop-at-test.false

@@ -4,7 +4,7 @@ use Rattle.refusals.proofs.Lines.{names-lines, header_lines}
 use Rattle.refusals.proofs.header_of.Goals as goal
 
 pub kinds_line-kinds-requires : goal.kinds_line-kinds-requires
-kinds_line-kinds-requires c κs =
+kinds_line-kinds-requires c =
     let p = line-within c.next_line-names.ensures (names-lines c.release_of-release.ensures.names).0 in
     let q = line-within c.next_line-lows.ensures p.within in
     (line-within c.next_line-highs.ensures q.within).within

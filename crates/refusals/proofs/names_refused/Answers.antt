@@ -12,30 +12,15 @@ use Rattle.refusals.proofs.Lines.{between-all}
 use Rattle.refusals.proofs.Names.{names-none, names_reserved, names_twice, names-later}
 use Rattle.refusals.proofs.names_refused.Goals as goal
 
--- The line, the name that begins next in it, and the tokens after that name.
-abbrev line_of : tie.After-next-token invariant-loop decreases-loop → List ℕ
-line_of c = c.before.before.before.args.line.now
-
-abbrev name_of : tie.After-next-token invariant-loop decreases-loop → List ℕ
-name_of c = between (line_of c) c.next-token.result.start c.next-token.result.end
-
-abbrev later_of : tie.After-next-token invariant-loop decreases-loop → List (List ℕ)
-later_of c = tokens (drop c.next-token.result.end (line_of c))
-
--- What `stands_in` says of the name and the tokens after it.
-abbrev token-of : tie.After-stands-in invariant-loop decreases-loop → tie.After-next-token invariant-loop decreases-loop
-token-of c = c.before.before.before.before.before.before
-
-stands-again : (c : tie.After-stands-in invariant-loop decreases-loop) → is_one_of (later_of (token-of c)) (name_of (token-of c)) ≡ c.stands-in.result
-stands-again c =
-    let token = token-of c in
-    sym (c.stands-in.ensures ∙ ap (λ l. is_one_of (tokens l) (name_of token)) (between-all (line_of token) token.next-token.result.end (token-within token.next-token.ensures).1))
-
 pub loop-at-init : goal.loop-at-init
 loop-at-init c = (omega arith, refl)
 
 pub returns-then-start-end : goal.returns-then-start-end
-returns-then-start-end c = names-none (name_of c) (later_of c) (token-empty c.next_token-token.ensures c.if-start-end.true) ∙ sym c.loop-at.invariant.1
+returns-then-start-end c =
+    let line_of : List ℕ = c.args.line.now in
+    let name_of : List ℕ = between (line_of) c.next_token-token.result.start c.next_token-token.result.end in
+    let later_of : List (List ℕ) = tokens (drop c.next_token-token.result.end (line_of)) in
+    names-none (name_of) (later_of) (token-empty c.next_token-token.ensures c.if-start-end.true) ∙ sym c.loop-at.invariant.1
 
 pub slice_bounds-name-count : goal.slice_bounds-name-count
 slice_bounds-name-count c = let w = token-within c.next_token-token.ensures in let a = w.0 in let b = w.1 in omega arith
@@ -48,8 +33,11 @@ slice_bounds-name-end c = let w = token-within c.next_token-token.ensures in let
 
 pub returns-then-is_reserved : goal.returns-then-is_reserved
 returns-then-is_reserved c =
+    let line_of : List ℕ = c.args.line.now in
+    let name_of : List ℕ = between (line_of) c.next_token-token.result.start c.next_token-token.result.end in
+    let later_of : List (List ℕ) = tokens (drop c.next_token-token.result.end (line_of)) in
     let token = c in
-    names_reserved (name_of token) (later_of token) (token-tokens token.next-token.ensures c.if-start-end.false) (sym c.is_reserved.ensures ∙ c.if-is_reserved.true) ∙ sym token.loop.invariant.1
+    names_reserved (name_of) (later_of) (token-tokens token.next_token-token.ensures c.if-start-end.false) (sym c.is_reserved.ensures ∙ c.if-is_reserved.true) ∙ sym token.loop-at.invariant.1
 
 pub slice_bounds-stands_in-count : goal.slice_bounds-stands_in-count
 slice_bounds-stands_in-count c = let w = token-within c.next_token-token.ensures in let a = w.0 in let b = w.1 in omega arith
@@ -62,20 +50,30 @@ slice_bounds-stands_in-end c = let w = token-within c.next_token-token.ensures i
 
 pub returns-then-stands_in : goal.returns-then-stands_in
 returns-then-stands_in c =
-    let token = token-of c in
-    names_twice (name_of token) (later_of token) (token-tokens token.next-token.ensures c.if-start-end.false) (stands-again c ∙ c.if-stands_in.true) ∙ sym token.loop.inv.1
+    let line_of : List ℕ = c.args.line.now in
+    let name_of : List ℕ = between (line_of) c.next_token-token.result.start c.next_token-token.result.end in
+    let later_of : List (List ℕ) = tokens (drop c.next_token-token.result.end (line_of)) in
+    let stands-again : is_one_of (later_of) (name_of) ≡ c.stands_in.result = (let token = c in
+    sym (c.stands_in.ensures ∙ ap (λ l. is_one_of (tokens l) (name_of token)) (between-all (line_of token) token.next_token-token.result.end (token-within token.next_token-token.ensures).1))) in
+    let token = c in
+    names_twice (name_of token) (later_of token) (token-tokens token.next_token-token.ensures c.if-start-end.false) (stands-again ∙ c.if-stands_in.true) ∙ sym token.loop-at.inv.1
 
 pub loop-at-smaller : goal.loop-at-smaller
 loop-at-smaller c =
-    let token = token-of c in
-    let a = token-after token.next-token.ensures c.if-start-end.false in
-    let w = token-within token.next-token.ensures in
+    let token = c in
+    let a = token-after token.next_token-token.ensures c.if-start-end.false in
+    let w = token-within token.next_token-token.ensures in
     let b = w.1 in
     omega arith
 
 pub loop-at-preserved : goal.loop-at-preserved
 loop-at-preserved c =
-    let token = token-of c in (
-      (token-within token.next-token.ensures).1,
-      token.loop.inv.1 ∙ names-later (name_of token) (later_of token) (token-tokens token.next-token.ensures c.if-start-end.false) (sym c.is_reserved.ensures ∙ c.if-is_reserved.false) (stands-again c ∙ c.if-stands_in.false),
+    let line_of : List ℕ = c.args.line.now in
+    let name_of : List ℕ = between (line_of) c.next_token-token.result.start c.next_token-token.result.end in
+    let later_of : List (List ℕ) = tokens (drop c.next_token-token.result.end (line_of)) in
+    let stands-again : is_one_of (later_of) (name_of) ≡ c.stands_in.result = (let token = c in
+    sym (c.stands_in.ensures ∙ ap (λ l. is_one_of (tokens l) (name_of token)) (between-all (line_of token) token.next_token-token.result.end (token-within token.next_token-token.ensures).1))) in
+    let token = c in (
+      (token-within token.next_token-token.ensures).1,
+      token.loop-at.inv.1 ∙ names-later (name_of token) (later_of token) (token-tokens token.next_token-token.ensures c.if-start-end.false) (sym c.is_reserved.ensures ∙ c.if-is_reserved.false) (stands-again ∙ c.if-stands_in.false),
     )

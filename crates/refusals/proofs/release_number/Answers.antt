@@ -1,7 +1,6 @@
 -- `refusals::release_number` meets its contract: the first word and the number of tokens decide, and the second token is read.
 use mathlib.Core.Path.{sym, ◌∙◌}
 use native.Mathlib.Omega.{arith}
-use borrow.Author.Tests.{not-true, not-false}
 use Rattle.scan.proofs.Tokens.{token-within}
 use Rattle.refusals.proofs.Lines.{number-other, number_more, number-said}
 use Rattle.refusals.proofs.release_number.Goals as goal
@@ -16,7 +15,7 @@ pub slice_bounds-is_release-end : goal.slice_bounds-is_release-end
 slice_bounds-is_release-end c = let w = token-within c.next_token-word.ensures in omega arith
 
 pub returns-then-not-is_release : goal.returns-then-not-is_release
-returns-then-not-is_release c = number-other c.next_token-word.ensures (sym c.is_release.ensures ∙ not-true _ c.if-not-is_release.true)
+returns-then-not-is_release c = number-other c.next_token-word.ensures (sym c.is_release.ensures ∙ c.if-not-is_release.true)
 
 pub returns-then-token_count-ne2 : goal.returns-then-token_count-ne2
 returns-then-token_count-ne2 c = number_more c.next_token-word.ensures (λ e. c.if-token_count-ne2.true (c.token_count.ensures ∙ e))
@@ -31,4 +30,4 @@ pub slice_bounds-read_integer-end : goal.slice_bounds-read_integer-end
 slice_bounds-read_integer-end c = let w = token-within c.next_token-number.ensures in omega arith
 
 pub returns : goal.returns
-returns c = c.read_integer.ensures ∙ number-said c.next_token-word.ensures (sym c.is_release.ensures ∙ not-false _ c.if-not-is_release.false) (sym c.token_count.ensures ∙ c.if-token_count-ne2.false) c.next_token-number.ensures
+returns c = c.read_integer.ensures ∙ number-said c.next_token-word.ensures (sym c.is_release.ensures ∙ c.if-not-is_release.false) (sym c.token_count.ensures ∙ c.if-token_count-ne2.false) c.next_token-number.ensures

@@ -7,10 +7,10 @@ use borrow.Author.Rules.{rules}
 use Rattle.replay.proofs.play_file.Goals as goal
 
 pub fewer-streams-requires : goal.fewer-streams-requires
-fewer-streams-requires c κs = tt
+fewer-streams-requires c = tt
 
 pub open_file-descriptor-requires : goal.open_file-descriptor-requires
-open_file-descriptor-requires c κs = tt
+open_file-descriptor-requires c = tt
 
 pub slice_bounds-lengths-end : goal.slice_bounds-lengths-end
 slice_bounds-lengths-end c = let l : length c.args.sheet.lengths ≡ 8 = search rules in omega (arith, l, c.fewer-streams.ensures)
@@ -31,10 +31,10 @@ pub slice_bounds-play-end-4 : goal.slice_bounds-play-end-4
 slice_bounds-play-end-4 c = sym (length-take-le _ _ (array-share-prefix-highs c))
 
 pub play-played-requires : goal.play-played-requires
-play-played-requires c κs = tt
+play-played-requires c = tt
 
 pub close-requires : goal.close-requires
-close-requires c κs = tt
+close-requires c = tt
 
 pub tell-requires : goal.tell-requires
-tell-requires c κs = tt
+tell-requires c = tt

@@ -7,10 +7,10 @@ use borrow.Author.Rules.{rules}
 use Rattle.replay_vectors.proofs.answer.Goals as goal
 
 pub write_refusal-requires : goal.write_refusal-requires
-write_refusal-requires c κs = tt
+write_refusal-requires c = tt
 
 pub fewer-streams-requires : goal.fewer-streams-requires
-fewer-streams-requires c κs = tt
+fewer-streams-requires c = tt
 
 pub slice_bounds-lengths-end : goal.slice_bounds-lengths-end
 slice_bounds-lengths-end c = let l : length c.args.table.sheet.lengths ≡ 8 = search rules in omega (arith, l, c.fewer-streams.ensures)
@@ -31,4 +31,4 @@ pub slice_bounds-play_chunks-end-4 : goal.slice_bounds-play_chunks-end-4
 slice_bounds-play_chunks-end-4 c = sym (length-take-le _ _ (array-share-prefix-highs c))
 
 pub play_chunks-requires : goal.play_chunks-requires
-play_chunks-requires c κs = c.requires
+play_chunks-requires c = c.requires

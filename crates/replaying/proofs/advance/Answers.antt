@@ -8,7 +8,7 @@ use Rattle.replaying.proofs.Plays.{plays-nothing, same-room, lent-rest, plays_on
 use Rattle.replaying.proofs.advance.Goals as goal
 
 pub letter_count-letters-requires : goal.letter_count-letters-requires
-letter_count-letters-requires c κs = tt
+letter_count-letters-requires c = tt
 
 pub loop-at-init : goal.loop-at-init
 loop-at-init c = plays-nothing _ _ _ _ _
@@ -23,7 +23,7 @@ pub slice_bounds-advance_stage-start : goal.slice_bounds-advance_stage-start
 slice_bounds-advance_stage-start c = let p = c.loop-at.invariant in omega (arith, p.fits, same-room _ _ p)
 
 pub advance_stage-part-requires : goal.advance_stage-part-requires
-advance_stage-part-requires c κs =
+advance_stage-part-requires c =
     let t = c.loop-at in
     (c.letter_count-letters.ensures, c.loop-at-test.true, subst (λ l. 32 ≤ length l) (sym (lent-rest t.out t.size)) (let d = length-drop t.size t.out in omega (arith, c.if-out-size-lt32.false)))
 
@@ -40,14 +40,8 @@ loop-at-smaller c = omega (arith, c.advance_stage-part.ensures.0, c.loop-at-test
 pub loop-at-preserved : goal.loop-at-preserved
 loop-at-preserved c = plays_on _ _ c.loop-at.invariant c.advance_stage-part.ensures.1
 
-pub shape_of-out-after-loop-at : goal.shape_of-out-after-loop-at
-shape_of-out-after-loop-at c = same-room _ _ c.loop-at.invariant
-
 pub returns-after-loop-at : goal.returns-after-loop-at
 returns-after-loop-at c = stops-at-end _ _ c.loop-at.invariant c.loop-at-test.false
-
-pub shape_of-out-then-out-size-lt32 : goal.shape_of-out-then-out-size-lt32
-shape_of-out-then-out-size-lt32 c = same-room _ _ c.loop-at.invariant
 
 pub returns-then-out-size-lt32 : goal.returns-then-out-size-lt32
 returns-then-out-size-lt32 c = stops-without-room _ _ c.loop-at.invariant c.if-out-size-lt32.true

@@ -4,11 +4,10 @@ use native.Mathlib.Omega.{arith}
 use mathlib.Core.Path.{sym, ◌∙◌, ap}
 use Rattle.replaying.specs.Machine.{played_sheet}
 use Rattle.replaying.proofs.Lines.{names-bytes, names-differ, names_same}
-use borrow.Author.Tests.{not-true, not-false}
 use Rattle.replaying.proofs.advance_names.Goals as goal
 
 pub run_names-run-requires : goal.run_names-run-requires
-run_names-run-requires c κs = tt
+run_names-run-requires c = tt
 
 pub returns-then-chunk-at : goal.returns-then-chunk-at
 returns-then-chunk-at c =
@@ -19,24 +18,21 @@ returns-then-chunk-at c =
     (k, λ lows highs entries. names-bytes (played_sheet a.names.now a.lengths.now lows highs entries) a.chunk.now a.replay b.requires.0 a.out.now b.requires.2 u.ensures.0 u.ensures.1 k)
 
 pub names_end-requires : goal.names_end-requires
-names_end-requires c κs = tt
+names_end-requires c = tt
 
 pub overflow_add-at : goal.overflow_add-at
 overflow_add-at c = omega (arith, c.if-chunk-at.false, c.well_formed)
 
 pub refusal_line-requires : goal.refusal_line-requires
-refusal_line-requires c κs = tt
+refusal_line-requires c = tt
 
 pub ended_at-requires : goal.ended_at-requires
-ended_at-requires c κs = tt
-
-pub shape_of-out-then-not-names_end : goal.shape_of-out-then-not-names_end
-shape_of-out-then-not-names_end c = c.refusal_line.ensures.same_length
+ended_at-requires c = tt
 
 pub returns-then-not-names_end : goal.returns-then-not-names_end
 returns-then-not-names_end c =
     let m = c in
-    let u = m.run-names in
+    let u = m.run_names-run in
     let b = m in
     let a = b.args in
     let e = c.ended_at.ensures in
@@ -45,28 +41,25 @@ returns-then-not-names_end c =
       omega arith,
       λ lows highs entries.
           let s = played_sheet a.names.now a.lengths.now lows highs entries in
-          names-differ s a.chunk.now a.replay b.requires.0 a.out.now b.requires.2 u.ensures.0 u.ensures.1 m.if1.false e (sym m.names-end.ensures ∙ not-true _ c.if-not-names_end.true) c.refusal_line.ensures,
+          names-differ s a.chunk.now a.replay b.requires.0 a.out.now b.requires.2 u.ensures.0 u.ensures.1 m.if-chunk-at.false e (sym m.names_end.ensures ∙ c.if-not-names_end.true) c.refusal_line.ensures,
     )
 
 pub text-size-requires : goal.text-size-requires
-text-size-requires c κs = tt
+text-size-requires c = tt
 
 pub names_start-start-requires : goal.names_start-start-requires
-names_start-start-requires c κs = tt
+names_start-start-requires c = tt
 
 pub overflow_add-at-2 : goal.overflow_add-at-2
 overflow_add-at-2 c = omega (arith, c.if-chunk-at.false, c.well_formed)
 
 pub values_at-requires : goal.values_at-requires
-values_at-requires c κs = tt
-
-pub shape_of-out : goal.shape_of-out
-shape_of-out c = c.text-size.ensures.same_length
+values_at-requires c = tt
 
 pub returns : goal.returns
 returns c =
     let m = c in
-    let u = m.run-names in
+    let u = m.run_names-run in
     let b = m in
     let a = b.args in
     let e = c.values_at.ensures in
@@ -75,5 +68,5 @@ returns c =
       omega arith,
       λ lows highs entries.
           let s = played_sheet a.names.now a.lengths.now lows highs entries in
-          names_same s a.chunk.now a.replay b.requires.0 a.out.now b.requires.2 u.ensures.0 u.ensures.1 m.if1.false c.names_start-start.ensures e (sym m.names-end.ensures ∙ not-false _ c.if-not-names_end.false) c.text-size.ensures,
+          names_same s a.chunk.now a.replay b.requires.0 a.out.now b.requires.2 u.ensures.0 u.ensures.1 m.if-chunk-at.false c.names_start-start.ensures e (sym m.names_end.ensures ∙ c.if-not-names_end.false) c.text-size.ensures,
     )

@@ -2,25 +2,14 @@
 use mathlib.Core.Path.{◌≡◌}
 use Rattle.replaying.specs.Machine.{played_sheet}
 use Rattle.replaying.specs.declared.Stage.TheVariants.{Ended}
-use Rattle.replaying.proofs.Plays.{same-room}
 use borrow.Author.Rules.{rules}
 use Rattle.replaying.proofs.advance_stage.Goals as goal
 
 pub skip_rest-requires : goal.skip_rest-requires
-skip_rest-requires c κs = c.requires.1
-
-pub shape_of-out-in-Names : goal.shape_of-out-in-Names
-shape_of-out-in-Names c =
-    let a = c.args in
-    same-room _ _ (c.advance_names.ensures.1 a.lows.now a.highs.now a.entries.now)
+skip_rest-requires c = c.requires.1
 
 pub returns-in-Names : goal.returns-in-Names
 returns-in-Names c = let a = c.args in let e = c.advance_names.ensures in (e.0, e.1 a.lows.now a.highs.now a.entries.now)
-
-pub shape_of-out-in-Values : goal.shape_of-out-in-Values
-shape_of-out-in-Values c =
-    let a = c.args in
-    same-room _ _ (c.advance_values.ensures.1 a.names.now a.lengths.now)
 
 pub returns-in-Values : goal.returns-in-Values
 returns-in-Values c = let a = c.args in let e = c.advance_values.ensures in (e.0, e.1 a.names.now a.lengths.now)

@@ -17,7 +17,7 @@ pub overflow_sub-out : goal.overflow_sub-out
 overflow_sub-out c = let p = c.loop-at.invariant.0 [] [] in omega (arith, p.fits, same-room _ _ p)
 
 pub run_values-run-requires : goal.run_values-run-requires
-run_values-run-requires c κs = tt
+run_values-run-requires c = tt
 
 pub overflow_add-at : goal.overflow_add-at
 overflow_add-at c = omega (arith, c.if-at-chunk.true)
@@ -29,7 +29,7 @@ pub slice_bounds-end_values-start : goal.slice_bounds-end_values-start
 slice_bounds-end_values-start c = let p = c.loop-at.invariant.0 [] [] in omega (arith, p.fits, same-room _ _ p)
 
 pub end_values-played-requires : goal.end_values-played-requires
-end_values-played-requires c κs =
+end_values-played-requires c =
     let t = c.loop-at in
     let p = t.invariant.0 [] [] in
     (c.requires.1, subst (λ l. 32 ≤ length l) (sym (lent-rest t.out t.size)) (let d = length-drop t.size t.out in omega (arith, c.if-out-size-lt32.false)))
@@ -42,12 +42,7 @@ overflow_add-size c =
     omega (arith, p.fits, same-room _ _ p, c.end_values-played.ensures.fits, c.well_formed)
 
 pub ended_at-requires : goal.ended_at-requires
-ended_at-requires c κs = tt
-
-pub shape_of-out-then-played : goal.shape_of-out-then-played
-shape_of-out-then-played c =
-    same-room _ _
-    (values-refused _ _ (c.loop-at.invariant.0 [] []) c.if-out-size-lt32.false c.run_values-run.ensures.0 c.run_values-run.ensures.1 c.if-at-chunk.true c.end_values-played.ensures c.if-played.true)
+ended_at-requires c = tt
 
 pub returns-then-played : goal.returns-then-played
 returns-then-played c =
@@ -63,10 +58,10 @@ returns-then-played c =
     )
 
 pub line_start-line-requires : goal.line_start-line-requires
-line_start-line-requires c κs = tt
+line_start-line-requires c = tt
 
 pub one_more-number-requires : goal.one_more-number-requires
-one_more-number-requires c κs = tt
+one_more-number-requires c = tt
 
 pub loop-at-smaller-then-at-chunk : goal.loop-at-smaller-then-at-chunk
 loop-at-smaller-then-at-chunk c = let l = c.run_values-run.ensures.0 in omega (arith, l.onward, c.if-at-chunk.true)
@@ -88,10 +83,7 @@ loop-at-preserved c =
     (λ ns ls. values-bytes _ _ (p ns ls) c.if-out-size-lt32.false l c.run_values-run.ensures.1 h, inl (omega (arith, h, (p [] []).onward)))
 
 pub values_at-requires : goal.values_at-requires
-values_at-requires c κs = tt
-
-pub shape_of-out : goal.shape_of-out
-shape_of-out c = same-room _ _ (c.loop-at.invariant.0 [] [])
+values_at-requires c = tt
 
 pub returns : goal.returns
 returns c =

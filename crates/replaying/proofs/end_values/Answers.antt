@@ -7,13 +7,10 @@ use Rattle.replaying.proofs.Outcomes.{outcome-numbered, refused-line, state-line
 use Rattle.replaying.proofs.end_values.Goals as goal
 
 pub line_leads-led-requires : goal.line_leads-led-requires
-line_leads-led-requires c κs = c.requires.0
+line_leads-led-requires c = c.requires.0
 
 pub refusal_line-requires : goal.refusal_line-requires
-refusal_line-requires c κs = tt
-
-pub shape_of-out-then-refusal-ne0 : goal.shape_of-out-then-refusal-ne0
-shape_of-out-then-refusal-ne0 c = c.refusal_line.ensures.same_length
+refusal_line-requires c = tt
 
 pub returns-then-refusal-ne0 : goal.returns-then-refusal-ne0
 returns-then-refusal-ne0 c =
@@ -24,10 +21,7 @@ returns-then-refusal-ne0 c =
     refused-line (line_outcome s a.line a.state) l.ensures b.requires.1 c.if-refusal-ne0.true (omega arith) c.refusal_line.ensures
 
 pub pair_line-requires : goal.pair_line-requires
-pair_line-requires c κs = tt
-
-pub shape_of-out : goal.shape_of-out
-shape_of-out c = c.pair_line.ensures.same_length
+pair_line-requires c = tt
 
 pub returns : goal.returns
 returns c =

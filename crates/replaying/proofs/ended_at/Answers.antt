@@ -5,10 +5,10 @@ use Rattle.replaying.specs.declared.Stage.TheVariants.{Ended}
 use Rattle.replaying.proofs.ended_at.Goals as goal
 
 pub names_start-requires : goal.names_start-requires
-names_start-requires c κs = tt
+names_start-requires c = tt
 
 pub line_start-requires : goal.line_start-requires
-line_start-requires c κs = tt
+line_start-requires c = tt
 
 pub returns : goal.returns
 returns c =

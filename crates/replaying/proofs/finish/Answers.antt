@@ -6,7 +6,6 @@ use Rattle.print.proofs.Lengths.{refusal-length}
 use Rattle.replaying.specs.Machine.{played_sheet}
 use Rattle.replaying.specs.declared.Stage.TheVariants.{Names, Values, Ended}
 use Rattle.replaying.proofs.Outcomes.{written-line}
-use Rattle.replaying.proofs.Plays.{same-room}
 use Rattle.replaying.proofs.Ends.{no_text, closing-text, text-ends, line-ends}
 use borrow.Author.Rules.{rules}
 use Rattle.replaying.proofs.finish.Goals as goal
@@ -18,10 +17,7 @@ returns-then-out-lt32 c =
     text-ends s (no_text s a.replay (length a.out.now) c.if-out-lt32.true) refl (omega arith) refl
 
 pub advance-ended-requires : goal.advance-ended-requires
-advance-ended-requires c κs = tt
-
-pub shape_of-out-then-replay : goal.shape_of-out-then-replay
-shape_of-out-then-replay c = same-room _ _ c.advance-ended.ensures.plays
+advance-ended-requires c = tt
 
 pub returns-then-replay : goal.returns-then-replay
 returns-then-replay c =
@@ -30,10 +26,7 @@ returns-then-replay c =
     line-ends s c.advance-ended.ensures c.if-out-lt32.false c.if-replay.true
 
 pub refusal_line-requires : goal.refusal_line-requires
-refusal_line-requires c κs = tt
-
-pub shape_of-out : goal.shape_of-out
-shape_of-out c = c.refusal_line.ensures.same_length
+refusal_line-requires c = tt
 
 pub returns-in-Names : goal.returns-in-Names
 returns-in-Names c =

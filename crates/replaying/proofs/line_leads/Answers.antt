@@ -7,7 +7,7 @@ use Rattle.replaying.proofs.Outcomes.{led-refused, led-nowhere, led-state}
 use Rattle.replaying.proofs.line_leads.Goals as goal
 
 pub line_end-end-requires : goal.line_end-end-requires
-line_end-end-requires c κs = tt
+line_end-end-requires c = tt
 
 pub returns-then-refusal-ne0 : goal.returns-then-refusal-ne0
 returns-then-refusal-ne0 c =
@@ -16,7 +16,7 @@ returns-then-refusal-ne0 c =
     led-refused s a.state c.line_end-end.result c.if-refusal-ne0.true ∙ ap (λ e. led_to (outcome_of s a.state e)) c.line_end-end.ensures
 
 pub entry_at-next-requires : goal.entry_at-next-requires
-entry_at-next-requires c κs = tt
+entry_at-next-requires c = tt
 
 pub returns-then-next-eq65535 : goal.returns-then-next-eq65535
 returns-then-next-eq65535 c =

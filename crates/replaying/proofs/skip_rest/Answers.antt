@@ -6,7 +6,7 @@ use Rattle.replaying.proofs.Plays.{plays-rest}
 use Rattle.replaying.proofs.skip_rest.Goals as goal
 
 pub ended_at-requires : goal.ended_at-requires
-ended_at-requires c κs = tt
+ended_at-requires c = tt
 
 pub returns : goal.returns
 returns c =

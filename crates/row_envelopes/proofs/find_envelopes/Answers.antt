@@ -4,7 +4,7 @@ use Rattle.basics.proofs.Answers.{says_yes, says_no}
 use Rattle.row_envelopes.proofs.find_envelopes.Goals as goal
 
 pub store_envelopes-requires : goal.store_envelopes-requires
-store_envelopes-requires c κs = says_yes c.if-has_room.true c.has_room.ensures
+store_envelopes-requires c = says_yes c.if-has_room.true c.has_room.ensures
 
 pub returns-then-has_room : goal.returns-then-has_room
 returns-then-has_room c = record { fits = λ z. c.store_envelopes.ensures; unchanged = λ n. absurd (n (says_yes c.if-has_room.true c.has_room.ensures)) }

@@ -8,7 +8,7 @@ pub returns-then-letters-gt65535 : goal.returns-then-letters-gt65535
 returns-then-letters-gt65535 c = record { narrow = λ h. absurd (omega (arith, c.if-letters-gt65535.true)); wide = λ h. refl }
 
 pub find_end-end-requires : goal.find_end-end-requires
-find_end-end-requires c κs = (c.find_begin-begin.ensures.within, c.requires)
+find_end-end-requires c = (c.find_begin-begin.ensures.within, c.requires)
 
 pub overflow_cast-result : goal.overflow_cast-result
 overflow_cast-result c = omega (arith, c.find_begin-begin.ensures.within, c.if-letters-gt65535.false)

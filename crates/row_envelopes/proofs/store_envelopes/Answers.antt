@@ -16,7 +16,7 @@ overflow_mul-row c =
     omega (arith, row_fits c.loop-row.row (length start.args.live.now) start.args.letters (length start.args.entries.now) c.loop-row-test.true start.requires.0, start.well_formed)
 
 pub row_envelope-requires : goal.row_envelope-requires
-row_envelope-requires c κs =
+row_envelope-requires c =
     let start = c in
     row_fits c.loop-row.row (length start.args.live.now) start.args.letters (length start.args.entries.now) c.loop-row-test.true start.requires.0
 

@@ -9,8 +9,6 @@ use Rattle.scan.proofs.Tokens.{drop_at, drop-end}
 use Rattle.scan.proofs.Names.{name-short, name-long, name-other}
 use Rattle.scan.proofs.is_name.Goals as goal
 
-unfolding is_name
-
 pub returns-then-token-lt1 : goal.returns-then-token-lt1
 returns-then-token-lt1 c = name-short c.args.token.now c.if-token-lt1.true
 
@@ -30,6 +28,7 @@ pub loop-i-preserved : goal.loop-i-preserved
 loop-i-preserved c = (omega arith, c.loop-i.invariant.1 ∙ ap (all_bytes is_lowercase) (drop_at c.args.token.now c.loop-i.i c.loop-i-test.true) ∙ simp (le-leb _ _ c.if-byte-lt97.false, le-leb _ _ c.if-byte-gt122.false))
 
 pub returns : goal.returns
+unfolding is_name
 returns c =
     let there : c.loop-i.i ≡ length c.args.token.now = omega arith in
     let all = c.loop-i.invariant.1 ∙ ap (λ n. all_bytes is_lowercase (drop n c.args.token.now)) there ∙ ap (all_bytes is_lowercase) (drop-end c.args.token.now) in

@@ -10,10 +10,6 @@ use Rattle.scan.proofs.Tokens.{drop_at, drop-end}
 use Rattle.scan.proofs.Integers.{natural, cut-natural, natural-zero, natural-empty, natural-not, natural-read, digit_low, digit-high, digit-more}
 use Rattle.scan.proofs.read_natural.Goals as goal
 
-unfolding natural_from
-
-unfolding natural_from
-
 pub returns-then-digits-eq0 : goal.returns-then-digits-eq0
 returns-then-digits-eq0 c = natural-empty c.args.digits.now c.if-digits-eq0.true
 
@@ -30,6 +26,7 @@ pub returns-then-byte-gt57 : goal.returns-then-byte-gt57
 returns-then-byte-gt57 c = natural-not c.args.digits.now (c.loop-i.invariant.2 ∙ ap (all_bytes is_digit) (drop_at c.args.digits.now c.loop-i.i c.loop-i-test.true) ∙ digit-high (get_or c.args.digits.now c.loop-i.i 0) (drop (c.loop-i.i + 1) c.args.digits.now) c.if-byte-lt48.false c.if-byte-gt57.true)
 
 pub loop-i-preserved : goal.loop-i-preserved
+unfolding natural_from
 loop-i-preserved c =
     let digits = c.args.digits.now in
     let i = c.loop-i.i in
@@ -43,6 +40,7 @@ loop-i-preserved c =
     )
 
 pub returns : goal.returns
+unfolding natural_from
 returns c =
     let digits = c.args.digits.now in
     let there : c.loop-i.i ≡ length digits = omega arith in

@@ -4,7 +4,7 @@ use mathlib.Core.Path.{◌≡◌, sym, ap, subst, ◌∙◌}
 use native.Mathlib.Omega.{arith}
 use lib.Dec.{T}
 use lib.ListN.{length, get_or}
-use borrow.Author.Tests.{not-true, not-false}
+use borrow.Author.Tests.{not-false}
 use Rattle.text.specs.Bytes.{is_inside, starts_inside}
 use Rattle.text.specs.Token.{all_bytes}
 use Rattle.scan.specs.Place.{between}
@@ -20,7 +20,7 @@ returns-then-not-is_inside c =
       forward = c.loop-i.invariant.0;
       within = c.loop-i.invariant.1;
       inside = c.loop-i.invariant.2;
-      ended = ap starts_inside (drop_at c.args.text.now c.loop-i.i c.loop-i-test.true) ∙ sym c.is_inside.ensures ∙ not-true _ c.if-not-is_inside.true;
+      ended = ap starts_inside (drop_at c.args.text.now c.loop-i.i c.loop-i-test.true) ∙ sym c.is_inside.ensures ∙ c.if-not-is_inside.true;
     }
 
 pub loop-i-preserved : goal.loop-i-preserved

@@ -9,17 +9,19 @@ use Rattle.scan.specs.Integer.{with_sign}
 use Rattle.scan.proofs.Integers.{zero-less, less-fits}
 use Rattle.scan.proofs.signed.Goals as goal
 
-magnitude : (c : tie.Start) → to_z w64 c.args.value ≡ pos c.args.value
-magnitude c = to_z_pos w64 c.args.value (omega arith)
-
-taken-away : (c : tie.Start) → pos 0 -ℤ to_z w64 c.args.value ≡ neg_ℤ (pos c.args.value)
-taken-away c = ap (λ z. pos 0 -ℤ z) (magnitude c) ∙ zero-less c.args.value
-
 pub overflow_sub-result : goal.overflow_sub-result
-overflow_sub-result c = subst (SFits w64) (sym (taken-away c)) (less-fits c.args.value c.requires)
+overflow_sub-result c =
+    let magnitude : to_z w64 c.args.value ≡ pos c.args.value = to_z_pos w64 c.args.value (omega arith) in
+    let taken-away : pos 0 -ℤ to_z w64 c.args.value ≡ neg_ℤ (pos c.args.value) = ap (λ z. pos 0 -ℤ z) (magnitude) ∙ zero-less c.args.value in
+    subst (SFits w64) (sym (taken-away)) (less-fits c.args.value c.requires)
 
 pub returns-then-negative : goal.returns-then-negative
-returns-then-negative c = to_z-of_z w64 _ (sub-result c) ∙ taken-away c ∙ ap (λ b. with_sign b c.args.value) (sym c.if-negative.true)
+returns-then-negative c =
+    let magnitude : to_z w64 c.args.value ≡ pos c.args.value = to_z_pos w64 c.args.value (omega arith) in
+    let taken-away : pos 0 -ℤ to_z w64 c.args.value ≡ neg_ℤ (pos c.args.value) = ap (λ z. pos 0 -ℤ z) (magnitude) ∙ zero-less c.args.value in
+    to_z-of_z w64 _ (sub-result c) ∙ taken-away ∙ ap (λ b. with_sign b c.args.value) (sym c.if-negative.true)
 
 pub returns-else-negative : goal.returns-else-negative
-returns-else-negative c = magnitude c ∙ ap (λ b. with_sign b c.args.value) (sym c.if-negative.false)
+returns-else-negative c =
+    let magnitude : to_z w64 c.args.value ≡ pos c.args.value = to_z_pos w64 c.args.value (omega arith) in
+    magnitude ∙ ap (λ b. with_sign b c.args.value) (sym c.if-negative.false)

@@ -4,31 +4,31 @@ use lib.Seq.{length-take-le}
 use Rattle.shortest.proofs.main.Goals as goal
 
 pub open_sheet-descriptor-requires : goal.open_sheet-descriptor-requires
-open_sheet-descriptor-requires c κs = tt
+open_sheet-descriptor-requires c = tt
 
 pub read_input-input-requires : goal.read_input-input-requires
-read_input-input-requires c κs = tt
+read_input-input-requires c = tt
 
 pub close-requires : goal.close-requires
-close-requires c κs = tt
+close-requires c = tt
 
 pub tell-requires : goal.tell-requires
-tell-requires c κs = tt
+tell-requires c = tt
 
 pub buffer-start-requires : goal.buffer-start-requires
-buffer-start-requires c κs = tt
+buffer-start-requires c = tt
 
 pub arg-start_size-requires : goal.arg-start_size-requires
-arg-start_size-requires c κs = tt
+arg-start_size-requires c = tt
 
 pub arg_count-given-requires : goal.arg_count-given-requires
-arg_count-given-requires c κs = tt
+arg_count-given-requires c = tt
 
 pub slice_bounds-show_course-end : goal.slice_bounds-show_course-end
 slice_bounds-show_course-end c = sym (length-take-le _ _ (array-share-prefix-text c))
 
 pub show_course-printed-requires : goal.show_course-printed-requires
-show_course-printed-requires c κs = tt
+show_course-printed-requires c = tt
 
 pub tell-requires-2 : goal.tell-requires-2
-tell-requires-2 c κs = tt
+tell-requires-2 c = tt

@@ -26,5 +26,5 @@ returns c =
     (λ n. IsPage
     (output_at (record { refusal = a.refusal; states = a.states; names = a.sheet.names; lengths = a.sheet.lengths; lows = take n a.sheet.lows; highs = take n a.sheet.highs; entries = a.entries.now; finals = a.finals.now }))
     (places_of (record { refusal = a.refusal; states = a.states; names = a.sheet.names; lengths = a.sheet.lengths; lows = take n a.sheet.lows; highs = take n a.sheet.highs; entries = a.entries.now; finals = a.finals.now }))
-    a.from a.out.now c.fill_page.new.1.1.1.1.1.1.1.1.1.0 c.fill_page.result)
+    a.from a.out.now c.fill_page.new.out c.fill_page.result)
     c.fewer-streams.ensures c.fill_page.ensures

@@ -4,7 +4,7 @@ use Rattle.show.proofs.Answer.{shown_of}
 use Rattle.show.proofs.show.Goals as goal
 
 pub show_sheet-requires : goal.show_sheet-requires
-show_sheet-requires c κs = read_ranges _ c.read-reading.ensures
+show_sheet-requires c = read_ranges _ c.read-reading.ensures
 
 pub returns : goal.returns
 returns c = shown_of _ c.read-reading.ensures c.show_sheet.ensures

@@ -10,4 +10,4 @@ pub slice_bounds-count_records-end-2 : goal.slice_bounds-count_records-end-2
 slice_bounds-count_records-end-2 c = sym (length-take-le _ _ c.requires.0)
 
 pub count_records-requires : goal.count_records-requires
-count_records-requires c κs = tt
+count_records-requires c = tt

@@ -5,10 +5,10 @@ use Rattle.show_counts.proofs.Printing.{early_found, counted-found, counted_lack
 use Rattle.show_counts.proofs.find_figures.Goals as goal
 
 pub open_table-table-requires : goal.open_table-table-requires
-open_table-table-requires c κs = tt
+open_table-table-requires c = tt
 
 pub early_refusal-refusal-requires : goal.early_refusal-refusal-requires
-early_refusal-refusal-requires c κs = tt
+early_refusal-refusal-requires c = tt
 
 pub returns-then-refusal-ne0 : goal.returns-then-refusal-ne0
 returns-then-refusal-ne0 c = early_found _ c.args.number _ _ c.open_table-table.ensures c.early_refusal-refusal.ensures c.if-refusal-ne0.true
@@ -20,7 +20,7 @@ pub slice_bounds-count_used-end-2 : goal.slice_bounds-count_used-end-2
 slice_bounds-count_used-end-2 c = sym (opened-sizes c.open_table-table.ensures).1
 
 pub count_used-requires : goal.count_used-requires
-count_used-requires c κs = rows_fit c.open_table-table.ensures
+count_used-requires c = rows_fit c.open_table-table.ensures
 
 pub returns-then-count_used : goal.returns-then-count_used
 returns-then-count_used c =

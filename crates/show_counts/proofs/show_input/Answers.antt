@@ -8,13 +8,13 @@ use Rattle.show_counts.proofs.Reading.{input-shown}
 use Rattle.show_counts.proofs.show_input.Goals as goal
 
 pub take_input-input-requires : goal.take_input-input-requires
-take_input-input-requires c κs = tt
+take_input-input-requires c = tt
 
 pub or_nothing-kept-requires : goal.or_nothing-kept-requires
-or_nothing-kept-requires c κs = tt
+or_nothing-kept-requires c = tt
 
 pub show_taken-handed-requires : goal.show_taken-handed-requires
-show_taken-handed-requires c κs = tt
+show_taken-handed-requires c = tt
 
 pub returns : goal.returns
 returns c =

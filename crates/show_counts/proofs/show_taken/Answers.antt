@@ -8,16 +8,16 @@ use Rattle.show_counts.proofs.Printing.{take_within}
 use Rattle.show_counts.proofs.show_taken.Goals as goal
 
 pub fewer-size-requires : goal.fewer-size-requires
-fewer-size-requires c κs = tt
+fewer-size-requires c = tt
 
 pub line_number-requires : goal.line_number-requires
-line_number-requires c κs = tt
+line_number-requires c = tt
 
 pub slice_bounds-show_counts-end : goal.slice_bounds-show_counts-end
 slice_bounds-show_counts-end c = sym (length-take-le _ _ (omega (arith, c.fewer-size.ensures)))
 
 pub show_counts-requires : goal.show_counts-requires
-show_counts-requires c κs = tt
+show_counts-requires c = tt
 
 pub returns : goal.returns
 returns c =

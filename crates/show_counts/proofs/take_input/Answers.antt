@@ -12,16 +12,16 @@ use Rattle.show_counts.specs.Shows.{is_full}
 use Rattle.show_counts.proofs.take_input.Goals as goal
 
 pub large_buffer-chunk-requires : goal.large_buffer-chunk-requires
-large_buffer-chunk-requires c κs = tt
+large_buffer-chunk-requires c = tt
 
 pub take_start-taken-requires : goal.take_start-taken-requires
-take_start-taken-requires c κs = tt
+take_start-taken-requires c = tt
 
 pub is_full-requires : goal.is_full-requires
-is_full-requires c κs = tt
+is_full-requires c = tt
 
 pub so_far-progress-requires : goal.so_far-progress-requires
-so_far-progress-requires c κs = tt
+so_far-progress-requires c = tt
 
 pub loop-progress-init : goal.loop-progress-init
 loop-progress-init c = (sym c.large_buffer-chunk.ensures, nothing_read _ _ _ (ap (λ t. keeping t c.args.sheet.now) c.take_start-taken.ensures) c.is_full.ensures c.so_far-progress.ensures, refl)
@@ -30,13 +30,13 @@ pub slice_bounds-read-end : goal.slice_bounds-read-end
 slice_bounds-read-end c = sym c.loop-progress.invariant.0
 
 pub read-answer-requires : goal.read-answer-requires
-read-answer-requires c κs = tt
+read-answer-requires c = tt
 
 pub slice_bounds-count-end : goal.slice_bounds-count-end
 slice_bounds-count-end c = sym (c.read-answer.auto.1.0 ∙ c.loop-progress.invariant.0)
 
 pub count-size-requires : goal.count-size-requires
-count-size-requires c κs = tt
+count-size-requires c = tt
 
 pub slice_bounds-chunk-end : goal.slice_bounds-chunk-end
 slice_bounds-chunk-end c = c.count-size.ensures.0.0
@@ -45,16 +45,16 @@ pub slice_bounds-take_chunk-end : goal.slice_bounds-take_chunk-end
 slice_bounds-take_chunk-end c = sym (length-take-le _ _ (array-share-prefix-chunk c))
 
 pub take_chunk-taken-requires : goal.take_chunk-taken-requires
-take_chunk-taken-requires c κs = tt
+take_chunk-taken-requires c = tt
 
 pub overflow_sub-left : goal.overflow_sub-left
 overflow_sub-left c = omega (arith, may_read _ _ _ c.loop-progress.invariant.1 c.loop-progress-test.true)
 
 pub is_full-requires-in-loop-progress : goal.is_full-requires-in-loop-progress
-is_full-requires-in-loop-progress c κs = tt
+is_full-requires-in-loop-progress c = tt
 
 pub so_far-progress-requires-in-loop-progress : goal.so_far-progress-requires-in-loop-progress
-so_far-progress-requires-in-loop-progress c κs = tt
+so_far-progress-requires-in-loop-progress c = tt
 
 pub loop-progress-smaller : goal.loop-progress-smaller
 loop-progress-smaller c = omega (arith, may_read _ _ _ c.loop-progress.invariant.1 c.loop-progress-test.true)
@@ -72,9 +72,6 @@ loop-progress-preserved c =
       chunk_read _ _ _ loop.invariant.1 c.loop-progress-test.true (record { answer = answer; bytes = take count.result read.new.1.0; size = size }) c.take_chunk-taken.ensures c.is_full-in-loop-progress.ensures c.so_far-progress-in-loop-progress.ensures,
       c.take_chunk-taken.auto.1.1.0 ∙ loop.invariant.2,
     )
-
-pub shape_of-sheet : goal.shape_of-sheet
-shape_of-sheet c = c.loop-progress.invariant.2
 
 pub returns : goal.returns
 returns c = record { left = c.loop-progress.left; reads = c.loop-progress.invariant.1; done = c.loop-progress-test.false }

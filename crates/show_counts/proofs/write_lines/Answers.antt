@@ -10,15 +10,15 @@ use Rattle.pages.proofs.Lines.{front-text}
 use Rattle.show_counts.proofs.write_lines.Goals as goal
 
 pub write_figures-size-requires : goal.write_figures-size-requires
-write_figures-size-requires c κs = tt
+write_figures-size-requires c = tt
 
 pub write_front-requires : goal.write_front-requires
-write_front-requires c κs = tt
+write_front-requires c = tt
 
 pub returns : goal.returns
 returns c =
     let s = c in
     let figures = s.args.figures.now in
-    let finals = s.args.final-figures.now in
+    let finals = s.args.final_figures.now in
     let short = listed-short figures finals (min (length figures) (length finals)) in
     subst (λ l. Hands l c.write_front.result.size c.write_front.result.whole) (front-text c.write_figures-size.ensures (omega (arith, short, s.requires, length-replicate {A = ℕ} 4096 0))) c.write_front.ensures

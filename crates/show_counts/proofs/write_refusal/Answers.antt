@@ -9,10 +9,10 @@ use Rattle.pages.proofs.Lines.{front-text}
 use Rattle.show_counts.proofs.write_refusal.Goals as goal
 
 pub refusal_line-size-requires : goal.refusal_line-size-requires
-refusal_line-size-requires c κs = tt
+refusal_line-size-requires c = tt
 
 pub write_front-requires : goal.write_front-requires
-write_front-requires c κs = tt
+write_front-requires c = tt
 
 pub returns : goal.returns
 returns c =

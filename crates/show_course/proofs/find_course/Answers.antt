@@ -16,7 +16,7 @@ pub slice_bounds-course-end-2 : goal.slice_bounds-course-end-2
 slice_bounds-course-end-2 c = sym (length-take-le _ _ c.requires.0)
 
 pub stored_streams-requires : goal.stored_streams-requires
-stored_streams-requires c κs = tt
+stored_streams-requires c = tt
 
 pub returns : goal.returns
 returns c =

@@ -32,7 +32,7 @@ pub slice_bounds-write_pages-end-5 : goal.slice_bounds-write_pages-end-5
 slice_bounds-write_pages-end-5 c = sym (length-take-le _ _ (omega (arith, c.fewer-count.ensures, c.requires.1)))
 
 pub write_pages-requires : goal.write_pages-requires
-write_pages-requires c κs =
+write_pages-requires c =
     let start = c in
     let h = start.requires.0 in
     let streams = c.fewer-streams.result in

@@ -11,10 +11,10 @@ pub slice_bounds-find_course-end-2 : goal.slice_bounds-find_course-end-2
 slice_bounds-find_course-end-2 c = sym (opened-sizes c.open_table-table.ensures).1
 
 pub find_course-answer-requires : goal.find_course-answer-requires
-find_course-answer-requires c κs = let fit = rows_fit c.open_table-table.ensures in (fit.0, fit.1, refl, refl)
+find_course-answer-requires c = let fit = rows_fit c.open_table-table.ensures in (fit.0, fit.1, refl, refl)
 
 pub print_course-requires : goal.print_course-requires
-print_course-requires c κs = (opened_ranges c.open_table-table.ensures, sym (slice-aggregate-print-course c))
+print_course-requires c = (opened_ranges c.open_table-table.ensures, sym (slice-aggregate-print-course c))
 
 pub returns : goal.returns
 returns c = record { bytes = _; prints = calls_print c.open_table-table.ensures c.find_course-answer.ensures; hands = c.print_course.ensures }

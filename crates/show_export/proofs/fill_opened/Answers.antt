@@ -11,13 +11,10 @@ use Rattle.show_export.proofs.Opened.{refusal-filled, header_filled}
 use Rattle.show_export.proofs.fill_opened.Goals as goal
 
 pub checksum-checksum-requires : goal.checksum-checksum-requires
-checksum-checksum-requires c κs = tt
+checksum-checksum-requires c = tt
 
 pub refusal_line-requires : goal.refusal_line-requires
-refusal_line-requires c κs = tt
-
-pub shape_of-page-then-table-ne0 : goal.shape_of-page-then-table-ne0
-shape_of-page-then-table-ne0 c = c.refusal_line.ensures.same_length
+refusal_line-requires c = tt
 
 pub returns-then-table-ne0 : goal.returns-then-table-ne0
 returns-then-table-ne0 c =
@@ -25,13 +22,13 @@ returns-then-table-ne0 c =
     refusal-filled s.requires.1 s.requires.0 c.if-table-ne0.true (omega (arith, c.struct_known-1.given)) c.refusal_line.ensures
 
 pub used_rows-rows-requires : goal.used_rows-rows-requires
-used_rows-rows-requires c κs = tt
+used_rows-rows-requires c = tt
 
 pub used_entries-used-requires : goal.used_entries-used-requires
-used_entries-used-requires c κs = tt
+used_entries-used-requires c = tt
 
 pub stored_streams-requires : goal.stored_streams-requires
-stored_streams-requires c κs = tt
+stored_streams-requires c = tt
 
 pub slice_bounds-fill-end : goal.slice_bounds-fill-end
 slice_bounds-fill-end c = sym (length-take-le _ _ (omega (arith, c.used_entries-used.ensures, (opened-sizes c.requires.0).0)))
@@ -40,10 +37,7 @@ pub slice_bounds-fill-end-2 : goal.slice_bounds-fill-end-2
 slice_bounds-fill-end-2 c = sym (length-take-le _ _ (omega (arith, c.used_rows-rows.ensures, (opened-sizes c.requires.0).1)))
 
 pub fill-requires : goal.fill-requires
-fill-requires c κs = tt
-
-pub shape_of-page : goal.shape_of-page
-shape_of-page c = c.fill.ensures.same_length
+fill-requires c = tt
 
 pub returns : goal.returns
 returns c =

@@ -60,7 +60,7 @@ pub slice_bounds-write_pages-end-4 : goal.slice_bounds-write_pages-end-4
 slice_bounds-write_pages-end-4 c = sym (length-take-le _ _ (array-share-prefix-highs-2 c))
 
 pub write_pages-handed-requires : goal.write_pages-handed-requires
-write_pages-handed-requires c κs =
+write_pages-handed-requires c =
     let start = c in
     let streams = c.fewer-streams.result in
     (fit-take streams start.args.sheet.lows start.requires.lows, fit-take streams start.args.sheet.highs start.requires.highs)

@@ -19,7 +19,7 @@ returns-then-refusal-ne0 c =
     }
 
 pub show_counts-requires : goal.show_counts-requires
-show_counts-requires c κs = read_ranges _ c.read-reading.ensures
+show_counts-requires c = read_ranges _ c.read-reading.ensures
 
 pub returns : goal.returns
 returns c = shows-counts _ c.read-reading.ensures c.if-refusal-ne0.false c.show_counts.ensures

@@ -5,25 +5,25 @@ use Rattle.show_join.proofs.Printing.{in_rows}
 use Rattle.show_join.proofs.join_in_rows.Goals as goal
 
 pub work_room-keys-requires : goal.work_room-keys-requires
-work_room-keys-requires c κs = tt
+work_room-keys-requires c = tt
 
 pub work_room-live-requires : goal.work_room-live-requires
-work_room-live-requires c κs = tt
+work_room-live-requires c = tt
 
 pub work_room-class-requires : goal.work_room-class-requires
-work_room-class-requires c κs = tt
+work_room-class-requires c = tt
 
 pub work_room-next-requires : goal.work_room-next-requires
-work_room-next-requires c κs = tt
+work_room-next-requires c = tt
 
 pub work_room-heads-requires : goal.work_room-heads-requires
-work_room-heads-requires c κs = tt
+work_room-heads-requires c = tt
 
 pub work_room-links-requires : goal.work_room-links-requires
-work_room-links-requires c κs = tt
+work_room-links-requires c = tt
 
 pub work_room-envelopes-requires : goal.work_room-envelopes-requires
-work_room-envelopes-requires c κs = tt
+work_room-envelopes-requires c = tt
 
 pub slice_bounds-join_tables-end : goal.slice_bounds-join_tables-end
 slice_bounds-join_tables-end c = sym (length-take-le _ _ (array-borrow-prefix-keys c))
@@ -47,7 +47,7 @@ pub slice_bounds-join_tables-end-7 : goal.slice_bounds-join_tables-end-7
 slice_bounds-join_tables-end-7 c = sym (length-take-le _ _ (array-borrow-prefix-envelopes c))
 
 pub join_tables-requires : goal.join_tables-requires
-join_tables-requires c κs = tt
+join_tables-requires c = tt
 
 pub returns : goal.returns
 returns c =

@@ -39,7 +39,7 @@ returns c =
     record {
       bytes = shown.bytes;
       prints = both c.if-first-ne0.false c.if-second-ne0.false
-          (transport (λ i. PrintsTables (given_table (take (used i) a.entries.now) (take (rows i) a.finals.now) a.first.sheet.letters (streams i)) (given_table (take (second-used i) a.second-entries.now) (take (second-rows i) a.second-finals.now) a.second.sheet.letters (second-streams i)) shown.bytes)
+          (transport (λ i. PrintsTables (given_table (take (used i) a.entries.now) (take (rows i) a.finals.now) a.first.sheet.letters (streams i)) (given_table (take (second-used i) a.second_entries.now) (take (second-rows i) a.second_finals.now) a.second.sheet.letters (second-streams i)) shown.bytes)
           shown.prints);
       hands = shown.hands;
     }

@@ -11,7 +11,7 @@ pub slice_bounds-show_both-end-2 : goal.slice_bounds-show_both-end-2
 slice_bounds-show_both-end-2 c = sym (opened-sizes c.open_table-opened.ensures).1
 
 pub show_both-requires : goal.show_both-requires
-show_both-requires c κs =
+show_both-requires c =
     let sizes = opened-sizes c.open_table-opened.ensures in
     let start = c in
     (start.requires.0, start.requires.1, sizes.0, sizes.1)

@@ -11,7 +11,7 @@ pub slice_bounds-show_from-end-2 : goal.slice_bounds-show_from-end-2
 slice_bounds-show_from-end-2 c = sym (opened-sizes c.open_table-opened.ensures).1
 
 pub show_from-requires : goal.show_from-requires
-show_from-requires c κs = opened-sizes c.open_table-opened.ensures
+show_from-requires c = opened-sizes c.open_table-opened.ensures
 
 pub returns : goal.returns
 returns c = record { bytes = c.show_from.ensures.bytes; prints = calls_print c.open_table-opened.ensures c.show_from.ensures.prints; hands = c.show_from.ensures.hands }

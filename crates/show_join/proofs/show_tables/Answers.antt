@@ -8,15 +8,15 @@ use Rattle.lend.proofs.Rows.{lent-entries}
 use Rattle.show_join.proofs.Printing.{shown-tables}
 use Rattle.show_join.proofs.show_tables.Goals as goal
 
--- The entries of the rows lent.
-entries_fit : (c : tie.After-rows-lent) → c.rows-lent.result * c.before.before.join-streams.result.letters ≤ 32768
-entries_fit c = let letters = c.before.before.join-streams.result.letters in subst (λ n. n * letters ≤ 32768) (sym c.rows-lent.ensures) (lent-entries letters)
-
 pub overflow_mul-room : goal.overflow_mul-room
-overflow_mul-room c = let h = entries_fit c in omega arith
+overflow_mul-room c =
+    let entries_fit : c.rows_lent-rows.result * c.join_streams-streams.result.letters ≤ 32768 = let letters = c.join_streams-streams.result.letters in subst (λ n. n * letters ≤ 32768) (sym c.rows_lent-rows.ensures) (lent-entries letters) in
+    let h = entries_fit in omega arith
 
 pub slice_bounds-entries-end : goal.slice_bounds-entries-end
-slice_bounds-entries-end c = omega (arith, entries_fit c)
+slice_bounds-entries-end c =
+    let entries_fit : c.rows_lent-rows.result * c.join_streams-streams.result.letters ≤ 32768 = let letters = c.join_streams-streams.result.letters in subst (λ n. n * letters ≤ 32768) (sym c.rows_lent-rows.ensures) (lent-entries letters) in
+    omega (arith, entries_fit)
 
 pub slice_bounds-join_in_rows-end : goal.slice_bounds-join_in_rows-end
 slice_bounds-join_in_rows-end c = sym (length-take-le _ _ (array-borrow-prefix-entries c))

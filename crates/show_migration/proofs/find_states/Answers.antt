@@ -37,5 +37,5 @@ returns c =
     let new-used = c.used_entries-new_used.ensures in
     let new-streams = c.stored_streams-2.ensures in
     found c.if-old-ne0.false c.if-new-ne0.false
-    (transport (λ i. CarryOutcome (given_table (take (used i) a.entries.now) (take (rows i) a.finals.now) a.old.sheet.letters (streams i)) (given_table (take (new-used i) a.new-entries.now) (take (new-rows i) a.new-finals.now) a.new.sheet.letters (new-streams i)) (length a.list.now) answer.result answer.new.1.1.1.1.1.1.1.1.0)
+    (transport (λ i. CarryOutcome (given_table (take (used i) a.entries.now) (take (rows i) a.finals.now) a.old.sheet.letters (streams i)) (given_table (take (new-used i) a.new_entries.now) (take (new-rows i) a.new_finals.now) a.new.sheet.letters (new-streams i)) (length a.list.now) answer.result answer.new.1.1.1.1.1.1.1.1.0)
     answer.ensures)

@@ -12,7 +12,7 @@ pub slice_bounds-show_opened-end-2 : goal.slice_bounds-show_opened-end-2
 slice_bounds-show_opened-end-2 c = sym (opened-sizes c.open_table-opened.ensures).1
 
 pub show_opened-requires : goal.show_opened-requires
-show_opened-requires c κs = opened-sizes c.open_table-opened.ensures
+show_opened-requires c = opened-sizes c.open_table-opened.ensures
 
 pub returns : goal.returns
 returns c = record { bytes = c.show_opened.ensures.bytes; prints = calls_print c.open_table-opened.ensures c.show_opened.ensures.prints; hands = c.show_opened.ensures.hands }

@@ -16,7 +16,7 @@ pub slice_bounds-find_states-end-2 : goal.slice_bounds-find_states-end-2
 slice_bounds-find_states-end-2 c = sym (opened-sizes c.open_table-opened.ensures).1
 
 pub find_states-refusal-requires : goal.find_states-refusal-requires
-find_states-refusal-requires c κs = let sizes = opened-sizes c.open_table-opened.ensures in (c.requires.0, c.requires.1, sizes.0, sizes.1)
+find_states-refusal-requires c = let sizes = opened-sizes c.open_table-opened.ensures in (c.requires.0, c.requires.1, sizes.0, sizes.1)
 
 pub slice_bounds-write_states-end : goal.slice_bounds-write_states-end
 slice_bounds-write_states-end c = sym (length-take-le _ _ (omega (arith, c.used_rows-rows.ensures, c.find_states-refusal.auto.1.1.1.1.1.1.0)))

@@ -6,19 +6,19 @@ use Rattle.show_statistics.proofs.Printing.{explored-counts}
 use Rattle.show_statistics.proofs.count_situations.Goals as goal
 
 pub rows_lent-rows-requires : goal.rows_lent-rows-requires
-rows_lent-rows-requires c κs = tt
+rows_lent-rows-requires c = tt
 
 pub key_room-keys-requires : goal.key_room-keys-requires
-key_room-keys-requires c κs = tt
+key_room-keys-requires c = tt
 
 pub work_room-heads-requires : goal.work_room-heads-requires
-work_room-heads-requires c κs = tt
+work_room-heads-requires c = tt
 
 pub work_room-links-requires : goal.work_room-links-requires
-work_room-links-requires c κs = tt
+work_room-links-requires c = tt
 
 pub situations-requires : goal.situations-requires
-situations-requires c κs = tt
+situations-requires c = tt
 
 pub returns : goal.returns
 returns c =

@@ -4,16 +4,16 @@ use Rattle.show_statistics.proofs.Printing.{call-prints}
 use Rattle.show_statistics.proofs.find_statistics.Goals as goal
 
 pub read-reading-requires : goal.read-reading-requires
-read-reading-requires c κs = tt
+read-reading-requires c = tt
 
 pub rows_lent-rows-requires : goal.rows_lent-rows-requires
-rows_lent-rows-requires c κs = tt
+rows_lent-rows-requires c = tt
 
 pub compile_lent-compiled-requires : goal.compile_lent-compiled-requires
-compile_lent-compiled-requires c κs = tt
+compile_lent-compiled-requires c = tt
 
 pub known_situations-situations-requires : goal.known_situations-situations-requires
-known_situations-situations-requires c κs = tt
+known_situations-situations-requires c = tt
 
 pub returns : goal.returns
 returns c = call-prints c.args.text.now c.read-reading.ensures c.rows_lent-rows.ensures c.compile_lent-compiled.ensures.call c.known_situations-situations.ensures

@@ -4,7 +4,7 @@ use Rattle.show_statistics.specs.Shows.{told, counted}
 use Rattle.show_statistics.proofs.known_situations.Goals as goal
 
 pub count_situations-requires : goal.count_situations-requires
-count_situations-requires c κs = tt
+count_situations-requires c = tt
 
 pub returns-then-compiled-eq9 : goal.returns-then-compiled-eq9
 returns-then-compiled-eq9 c = counted c.if-compiled-eq9.true c.count_situations.ensures

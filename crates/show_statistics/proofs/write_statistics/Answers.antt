@@ -9,10 +9,10 @@ use Rattle.statistics_text.proofs.Lines.{text-short}
 use Rattle.show_statistics.proofs.write_statistics.Goals as goal
 
 pub fill-size-requires : goal.fill-size-requires
-fill-size-requires c κs = tt
+fill-size-requires c = tt
 
 pub write_front-requires : goal.write_front-requires
-write_front-requires c κs = tt
+write_front-requires c = tt
 
 pub returns : goal.returns
 returns c =

@@ -5,25 +5,25 @@ use Rattle.show_strategy.proofs.Room.{forced_in_rows}
 use Rattle.show_strategy.proofs.force_in_rows.Goals as goal
 
 pub key_room-keys-requires : goal.key_room-keys-requires
-key_room-keys-requires c κs = tt
+key_room-keys-requires c = tt
 
 pub work_room-live-requires : goal.work_room-live-requires
-work_room-live-requires c κs = tt
+work_room-live-requires c = tt
 
 pub work_room-class-requires : goal.work_room-class-requires
-work_room-class-requires c κs = tt
+work_room-class-requires c = tt
 
 pub work_room-next-requires : goal.work_room-next-requires
-work_room-next-requires c κs = tt
+work_room-next-requires c = tt
 
 pub work_room-heads-requires : goal.work_room-heads-requires
-work_room-heads-requires c κs = tt
+work_room-heads-requires c = tt
 
 pub work_room-links-requires : goal.work_room-links-requires
-work_room-links-requires c κs = tt
+work_room-links-requires c = tt
 
 pub work_room-envelopes-requires : goal.work_room-envelopes-requires
-work_room-envelopes-requires c κs = tt
+work_room-envelopes-requires c = tt
 
 pub slice_bounds-force-end : goal.slice_bounds-force-end
 slice_bounds-force-end c = sym (length-take-le _ _ (array-borrow-prefix-keys c))
@@ -47,7 +47,7 @@ pub slice_bounds-force-end-7 : goal.slice_bounds-force-end-7
 slice_bounds-force-end-7 c = sym (length-take-le _ _ (array-borrow-prefix-envelopes c))
 
 pub force-requires : goal.force-requires
-force-requires c κs = tt
+force-requires c = tt
 
 pub returns : goal.returns
 returns c =

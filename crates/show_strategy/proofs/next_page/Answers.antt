@@ -36,4 +36,4 @@ pub returns : goal.returns
 returns c =
     let a = c.args in
     let shown = cut_to a.sheet a.refusal a.states a.choices a.entries.now a.finals.now a.play.now in
-    subst (λ n. IsPage (play_at (shown n)) (play_places_of (shown n)) a.from a.out.now c.fill_page.new.1.1.1.1.1.1.1.1.1.1.1.0 c.fill_page.result) c.fewer-streams.ensures c.fill_page.ensures
+    subst (λ n. IsPage (play_at (shown n)) (play_places_of (shown n)) a.from a.out.now c.fill_page.new.out c.fill_page.result) c.fewer-streams.ensures c.fill_page.ensures

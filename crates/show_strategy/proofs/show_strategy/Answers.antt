@@ -11,12 +11,10 @@ use Rattle.stored_ranges.proofs.Ranges.{read_ranges}
 use Rattle.show_strategy.proofs.Printing.{shown_strategy}
 use Rattle.show_strategy.proofs.show_strategy.Goals as goal
 
--- The entries of the rows lent.
-entries_fit : (c : tie.After-rows-lent) → c.rows-lent.result * c.before.before.before.before.before.read.result.sheet.letters ≤ 32768
-entries_fit c = let letters = c.before.before.before.before.before.read.result.sheet.letters in subst (λ n. n * letters ≤ 32768) (sym c.rows-lent.ensures) (lent-entries letters)
-
 pub overflow_mul-room : goal.overflow_mul-room
-overflow_mul-room c = let h = entries_fit c in omega arith
+overflow_mul-room c =
+    let entries_fit : c.rows_lent-rows.result * c.read-reading.result.sheet.letters ≤ 32768 = let letters = c.read-reading.result.sheet.letters in subst (λ n. n * letters ≤ 32768) (sym c.rows_lent-rows.ensures) (lent-entries letters) in
+    let h = entries_fit in omega arith
 
 pub overflow_mul-rows : goal.overflow_mul-rows
 overflow_mul-rows c =
@@ -25,7 +23,9 @@ overflow_mul-rows c =
     omega (arith, mul-le-mul rows choices)
 
 pub slice_bounds-entries-end : goal.slice_bounds-entries-end
-slice_bounds-entries-end c = omega (arith, entries_fit c)
+slice_bounds-entries-end c =
+    let entries_fit : c.rows_lent-rows.result * c.read-reading.result.sheet.letters ≤ 32768 = let letters = c.read-reading.result.sheet.letters in subst (λ n. n * letters ≤ 32768) (sym c.rows_lent-rows.ensures) (lent-entries letters) in
+    omega (arith, entries_fit)
 
 pub slice_bounds-show_in_rows-end : goal.slice_bounds-show_in_rows-end
 slice_bounds-show_in_rows-end c = sym (length-take-le _ _ (array-borrow-prefix-entries c))
@@ -37,8 +37,9 @@ pub slice_bounds-show_in_rows-end-3 : goal.slice_bounds-show_in_rows-end-3
 slice_bounds-show_in_rows-end-3 c = sym (length-take-le _ _ (array-borrow-prefix-play c))
 
 pub show_in_rows-requires : goal.show_in_rows-requires
-show_in_rows-requires c κs =
-    (read_ranges _ c.read-reading.ensures, omega (arith, c.rows_lent-rows.ensures), omega (arith, slice-aggregate-show-in-rows c, entries_fit c), omega (arith, slice-aggregate-show-in-rows-3 c, c.fewer-play_room.ensures))
+show_in_rows-requires c =
+    let entries_fit : c.rows_lent-rows.result * c.read-reading.result.sheet.letters ≤ 32768 = let letters = c.read-reading.result.sheet.letters in subst (λ n. n * letters ≤ 32768) (sym c.rows_lent-rows.ensures) (lent-entries letters) in
+    (read_ranges _ c.read-reading.ensures, omega (arith, c.rows_lent-rows.ensures), omega (arith, slice-aggregate-show-in-rows c, entries_fit), omega (arith, slice-aggregate-show-in-rows-3 c, c.fewer-play_room.ensures))
 
 pub returns : goal.returns
 returns c =

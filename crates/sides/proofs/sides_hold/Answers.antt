@@ -6,10 +6,10 @@ use Rattle.nodes.specs.Evaluate.{Nodes, stored, View, view}
 use Rattle.sides.proofs.Values.{value-given}
 use Rattle.sides.proofs.sides_hold.Goals as goal
 
-abbrev nodes : tie.Start → Nodes
+abbrev nodes : goal.Start → Nodes
 nodes s = stored s.args.kinds.now s.args.values.now s.args.starts.now
 
-abbrev seen : tie.Start → View
+abbrev seen : goal.Start → View
 seen s = view s.args.window.now s.args.streams s.args.firsts.now s.args.whole
 
 pub returns : goal.returns

@@ -43,24 +43,6 @@ slice_bounds-explore_stored-end-4 c = cut_long c.args.sheet.first_nodes c.args.s
 pub overflow_add-ahead : goal.overflow_add-ahead
 overflow_add-ahead c = omega (arith, c.fewer-ahead.ensures, c.fewer.ensures)
 
-pub shape_of-letter_values : goal.shape_of-letter_values
-shape_of-letter_values c = c.fill_letters.auto.1.1.0
-
-pub shape_of-entries : goal.shape_of-entries
-shape_of-entries c = c.explore_stored-found.auto.1.1.1.1.1.1.1.1.1.1.1.1.1.1.1.1.0
-
-pub shape_of-finals : goal.shape_of-finals
-shape_of-finals c = c.explore_stored-found.auto.1.1.1.1.1.1.1.1.1.1.1.1.1.1.1.1.1.0
-
-pub shape_of-keys : goal.shape_of-keys
-shape_of-keys c = c.explore_stored-found.auto.1.1.1.1.1.1.1.1.1.1.1.1.1.0
-
-pub shape_of-heads : goal.shape_of-heads
-shape_of-heads c = c.explore_stored-found.auto.1.1.1.1.1.1.1.1.1.1.1.1.1.1.0
-
-pub shape_of-links : goal.shape_of-links
-shape_of-links c = c.explore_stored-found.auto.1.1.1.1.1.1.1.1.1.1.1.1.1.1.1.0
-
 pub returns : goal.returns
 returns c =
     let a = c.args in

@@ -11,7 +11,7 @@ pub returns-then-start-end : goal.returns-then-start-end
 returns-then-start-end c = loop_ends c.loop-from.invariant c.next_token-token.ensures c.if-start-end.true
 
 pub constraint-line-requires : goal.constraint-line-requires
-constraint-line-requires c κs = c.loop-from.invariant.place
+constraint-line-requires c = c.loop-from.invariant.place
 
 pub loop-from-smaller : goal.loop-from-smaller
 loop-from-smaller c =

@@ -9,10 +9,6 @@ use Rattle.spans.proofs.Tables.{table-few, table-many}
 use Rattle.spans.proofs.Lines.{constraints_offset_lem, spans-long, spans-short}
 use Rattle.spans.proofs.spans.Goals as goal
 
--- Where the constraint lines begin.
-begins : (c : tie.After-header-of) → c.header_of.result.constraints ≡ constraints_offset c.before.before.before.args.text.now
-begins c = constraints_offset_lem c.header_of.ensures
-
 pub returns-then-text-gt65535 : goal.returns-then-text-gt65535
 returns-then-text-gt65535 c =
     let text = c.args.text.now in
@@ -21,7 +17,7 @@ returns-then-text-gt65535 c =
     sym (table-few text few ∙ ap (put_spans no_spans 0) none)
 
 pub constraints-count-requires : goal.constraints-count-requires
-constraints-count-requires c κs =
+constraints-count-requires c =
     let text = c.args.text.now in
     record {
       short = omega (arith, c.if-text-gt65535.false);
@@ -31,16 +27,18 @@ constraints-count-requires c κs =
 
 pub returns-then-count-gt1024 : goal.returns-then-count-gt1024
 returns-then-count-gt1024 c =
+    let begins : c.header_of-header.result.constraints-count ≡ constraints_offset c.args.text.now = constraints_offset_lem c.header_of-header.ensures in
     let text = c.args.text.now in
     let short : length text ≤ 65535 = omega (arith, c.if-text-gt65535.false) in
-    let all = ap (constraints_to text (suc (length text))) (begins c) ∙ sym (spans-short text short) in
+    let all = ap (constraints_to text (suc (length text))) (begins) ∙ sym (spans-short text short) in
     let many : span_bound < length (spans_in text) = omega (arith, c.constraints-count.ensures.0, ap length all, c.if-count-gt1024.true) in
     sym (table-many text many)
 
 pub returns : goal.returns
 returns c =
+    let begins : c.header_of-header.result.constraints-count ≡ constraints_offset c.args.text.now = constraints_offset_lem c.header_of-header.ensures in
     let text = c.args.text.now in
     let short : length text ≤ 65535 = omega (arith, c.if-text-gt65535.false) in
-    let all = ap (constraints_to text (suc (length text))) (begins c) ∙ sym (spans-short text short) in
+    let all = ap (constraints_to text (suc (length text))) (begins) ∙ sym (spans-short text short) in
     let few : length (spans_in text) ≤ span_bound = omega (arith, c.constraints-count.ensures.0, ap length all, c.if-count-gt1024.false) in
     c.constraints-count.ensures.1 (omega (arith, c.if-count-gt1024.false)) ∙ ap (put_spans no_spans 0) all ∙ sym (table-few text few)

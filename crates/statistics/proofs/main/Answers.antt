@@ -4,22 +4,22 @@ use lib.Seq.{length-take-le}
 use Rattle.statistics.proofs.main.Goals as goal
 
 pub open_sheet-descriptor-requires : goal.open_sheet-descriptor-requires
-open_sheet-descriptor-requires c κs = tt
+open_sheet-descriptor-requires c = tt
 
 pub read_input-input-requires : goal.read_input-input-requires
-read_input-input-requires c κs = tt
+read_input-input-requires c = tt
 
 pub close-requires : goal.close-requires
-close-requires c κs = tt
+close-requires c = tt
 
 pub tell-requires : goal.tell-requires
-tell-requires c κs = tt
+tell-requires c = tt
 
 pub slice_bounds-show_statistics-end : goal.slice_bounds-show_statistics-end
 slice_bounds-show_statistics-end c = sym (length-take-le _ _ (array-share-prefix-text c))
 
 pub show_statistics-printed-requires : goal.show_statistics-printed-requires
-show_statistics-printed-requires c κs = tt
+show_statistics-printed-requires c = tt
 
 pub tell-requires-2 : goal.tell-requires-2
-tell-requires-2 c κs = tt
+tell-requires-2 c = tt

@@ -15,7 +15,7 @@ pub returns-then-out-at : goal.returns-then-out-at
 returns-then-out-at c = no_place c.args.out.now c.if-out-at.true c.requires
 
 pub named_line-requires : goal.named_line-requires
-named_line-requires c κs = tt
+named_line-requires c = tt
 
 pub overflow_add-result : goal.overflow_add-result
 overflow_add-result c =

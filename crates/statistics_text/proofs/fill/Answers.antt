@@ -1,36 +1,32 @@
 -- `statistics_text::fill` meets its contract: each line is appended where the last one ended (Lines).
 use native.Mathlib.Omega.{arith}
-use mathlib.Core.Path.{◌∙◌}
 use Rattle.print.proofs.Append.{reached}
 use Rattle.statistics_text.proofs.Lines.{lines-appended}
 use Rattle.statistics_text.proofs.fill.Goals as goal
 
 pub sizes_known-known-requires : goal.sizes_known-known-requires
-sizes_known-known-requires c κs = tt
+sizes_known-known-requires c = tt
 
 pub situations_known-counted-requires : goal.situations_known-counted-requires
-situations_known-counted-requires c κs = tt
+situations_known-counted-requires c = tt
 
 pub fill_sheet-situations_at-requires : goal.fill_sheet-situations_at-requires
-fill_sheet-situations_at-requires c κs = tt
+fill_sheet-situations_at-requires c = tt
 
 pub append_known-states_at-requires : goal.append_known-states_at-requires
-append_known-states_at-requires c κs = reached c.fill_sheet-situations_at.ensures
+append_known-states_at-requires c = reached c.fill_sheet-situations_at.ensures
 
 pub append_known-rows_at-requires : goal.append_known-rows_at-requires
-append_known-rows_at-requires c κs = reached c.append_known-states_at.ensures
+append_known-rows_at-requires c = reached c.append_known-states_at.ensures
 
 pub append_known-refused_at-requires : goal.append_known-refused_at-requires
-append_known-refused_at-requires c κs = reached c.append_known-rows_at.ensures
+append_known-refused_at-requires c = reached c.append_known-rows_at.ensures
 
 pub overflow_cast-refusal : goal.overflow_cast-refusal
 overflow_cast-refusal c = omega (arith, c.well_formed)
 
 pub append_known-requires : goal.append_known-requires
-append_known-requires c κs = reached c.append_known-refused_at.ensures
-
-pub shape_of-out : goal.shape_of-out
-shape_of-out c = c.append_known.auto.0 ∙ c.append_known-refused_at.auto.0 ∙ c.append_known-rows_at.auto.0 ∙ c.append_known-states_at.auto.0 ∙ c.fill_sheet-situations_at.auto.1.1.0
+append_known-requires c = reached c.append_known-refused_at.ensures
 
 pub returns : goal.returns
 returns c =

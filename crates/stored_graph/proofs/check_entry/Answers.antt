@@ -17,21 +17,25 @@ no_target : {v rows : ℕ} → (v ≡ no_state → ⊥) → rows ≤ v → (v �
 no_target n l (inl q) = n q
 no_target n l (inr q) = omega arith
 
--- the row lies within the entries
-fits : (c : tie.Start) → c.args.row * c.args.letters + c.args.letters ≤ length c.args.entries.now
-fits c = row_fits c.args.row c.args.rows c.args.letters (length c.args.entries.now) c.requires.1.1.0.0 c.requires.0.entries_fit
-
 pub overflow_mul-entry : goal.overflow_mul-entry
-overflow_mul-entry c = omega (arith, fits c, c.well_formed)
+overflow_mul-entry c =
+    let fits : c.args.row * c.args.letters + c.args.letters ≤ length c.args.entries.now = row_fits c.args.row c.args.rows c.args.letters (length c.args.entries.now) c.requires.1.1.0.0 c.requires.0.entries_fit in
+    omega (arith, fits, c.well_formed)
 
 pub overflow_add-entry : goal.overflow_add-entry
-overflow_add-entry c = omega (arith, fits c, c.well_formed)
+overflow_add-entry c =
+    let fits : c.args.row * c.args.letters + c.args.letters ≤ length c.args.entries.now = row_fits c.args.row c.args.rows c.args.letters (length c.args.entries.now) c.requires.1.1.0.0 c.requires.0.entries_fit in
+    omega (arith, fits, c.well_formed)
 
 pub offset_bounds-entries-row : goal.offset_bounds-entries-row
-offset_bounds-entries-row c = omega (arith, fits c, c.well_formed)
+offset_bounds-entries-row c =
+    let fits : c.args.row * c.args.letters + c.args.letters ≤ length c.args.entries.now = row_fits c.args.row c.args.rows c.args.letters (length c.args.entries.now) c.requires.1.1.0.0 c.requires.0.entries_fit in
+    omega (arith, fits, c.well_formed)
 
 pub bounds-entries-row : goal.bounds-entries-row
-bounds-entries-row c = omega (arith, fits c)
+bounds-entries-row c =
+    let fits : c.args.row * c.args.letters + c.args.letters ≤ length c.args.entries.now = row_fits c.args.row c.args.rows c.args.letters (length c.args.entries.now) c.requires.1.1.0.0 c.requires.0.entries_fit in
+    omega (arith, fits)
 
 -- the entry names no row
 pub returns-then-entry : goal.returns-then-entry

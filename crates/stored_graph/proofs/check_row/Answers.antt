@@ -10,7 +10,7 @@ pub loop-letter-init : goal.loop-letter-init
 loop-letter-init c = (omega arith, c.requires.1.1.0.1, c.requires.1.1.1)
 
 pub check_entry-met-requires : goal.check_entry-met-requires
-check_entry-met-requires c κs =
+check_entry-met-requires c =
     let pre = c.requires in
     let loop = c.loop-letter in
     (pre.0, (pre.1.0, ((pre.1.1.0.0, c.loop-letter-test.true, loop.invariant.1), loop.invariant.2)))

@@ -15,7 +15,7 @@ pub returns-then-row-met : goal.returns-then-row-met
 returns-then-row-met c = λ G. row_unmet G c.loop-row.invariant.1 c.loop-row.row c.if-row-met.true c.loop-row-test.true (omega arith)
 
 pub check_row-met-requires : goal.check_row-met-requires
-check_row-met-requires c κs =
+check_row-met-requires c =
     let pre = c.requires in
     (pre.0, (pre.1, ((c.loop-row-test.true, c.if-row-met.false), c.loop-row.invariant.1)))
 

@@ -3,7 +3,6 @@ use Prim.Native.Nat.{ℕ, ◌+◌, ◌-◌, ◌<◌}
 use native.Mathlib.Omega.{arith}
 use native.Mathlib.Decide.{ℕ_discrete}
 use mathlib.Core.Path.{◌≡◌, sym, subst}
-use borrow.Author.Tests.{not-true, not-false}
 use Rattle.basics.proofs.Answers.{says_yes, says_no}
 use Rattle.streams.specs.Description.{StreamFits}
 use Rattle.streams.specs.declared.StreamsDescription.{StreamsDescription}
@@ -20,13 +19,13 @@ pub loop-stream-init : goal.loop-stream-init
 loop-stream-init c = (omega arith, λ k l. absurd (omega arith))
 
 pub returns-then-not-stream_fits : goal.returns-then-not-stream_fits
-returns-then-not-stream_fits c = λ each. says_no {b = c.stream_fits.result} (not-true _ c.if-not-stream_fits.true) c.stream_fits.ensures (each c.loop-stream.stream c.loop-stream-test.true)
+returns-then-not-stream_fits c = λ each. says_no {b = c.stream_fits.result} c.if-not-stream_fits.true c.stream_fits.ensures (each c.loop-stream.stream c.loop-stream-test.true)
 
 pub loop-stream-smaller : goal.loop-stream-smaller
 loop-stream-smaller c = omega arith
 
 pub loop-stream-preserved : goal.loop-stream-preserved
-loop-stream-preserved c = (omega (arith, c.loop-stream-test.true), one_more _ _ c.loop-stream.invariant.1 (says_yes {b = c.stream_fits.result} (not-false _ c.if-not-stream_fits.false) c.stream_fits.ensures))
+loop-stream-preserved c = (omega (arith, c.loop-stream-test.true), one_more _ _ c.loop-stream.invariant.1 (says_yes {b = c.stream_fits.result} c.if-not-stream_fits.false c.stream_fits.ensures))
 
 pub returns : goal.returns
 returns c = λ k l. c.loop-stream.invariant.1 k (omega (arith, c.loop-stream-test.false))

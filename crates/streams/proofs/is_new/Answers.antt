@@ -4,13 +4,6 @@ use native.Mathlib.Omega.{arith}
 use Rattle.streams.proofs.Names.{name-stands, name-other}
 use Rattle.streams.proofs.is_new.Goals as goal
 
--- Where the loop's place is, and where the function starts.
-abbrev loop-of : tie.After-same-bytes invariant-loop decreases-loop → tie.At-loop invariant-loop decreases-loop
-loop-of c = c.before.before.before.before.before.before
-
-abbrev start_of : tie.After-same-bytes invariant-loop decreases-loop → tie.Start invariant-loop decreases-loop
-start_of c = (loop-of c).before.before.before.before.before
-
 pub overflow_add-to : goal.overflow_add-to
 overflow_add-to c = omega (arith, c.name_length.ensures)
 
@@ -41,9 +34,9 @@ slice_bounds-same_bytes-end-in-loop-other c = omega (arith, c.name_length.ensure
 pub returns-then-same_bytes : goal.returns-then-same_bytes
 returns-then-same_bytes c =
     let at = c in
-    let s = (start_of at).args in
-    λ new. new (loop-of at).loop.other at.loop-test.true
-    (name-stands s.names.now s.lengths.now s.stream (loop-of at).loop.other at.name-length2.ensures (loop-of at).name_length.ensures at.same_bytes.ensures c.if-same_bytes.true)
+    let s = c.args in
+    λ new. new c.loop-other.other at.loop-other-test.true
+    (name-stands s.names.now s.lengths.now s.stream c.loop-other.other at.name_length-in-loop-other.ensures c.name_length.ensures at.same_bytes.ensures c.if-same_bytes.true)
 
 pub loop-other-smaller : goal.loop-other-smaller
 loop-other-smaller c = omega arith
@@ -51,9 +44,9 @@ loop-other-smaller c = omega arith
 pub loop-other-preserved : goal.loop-other-preserved
 loop-other-preserved c =
     let at = c in
-    let s = (start_of at).args in (
-      omega (arith, at.loop-test.true),
-      name-other s.names.now s.lengths.now s.stream (loop-of at).loop.other at.name-length2.ensures (loop-of at).name_length.ensures at.same_bytes.ensures c.if-same_bytes.false (loop-of at).loop.invariant.1,
+    let s = c.args in (
+      omega (arith, at.loop-other-test.true),
+      name-other s.names.now s.lengths.now s.stream c.loop-other.other at.name_length-in-loop-other.ensures c.name_length.ensures at.same_bytes.ensures c.if-same_bytes.false c.loop-other.invariant.1,
     )
 
 pub returns : goal.returns

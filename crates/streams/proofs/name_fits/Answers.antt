@@ -4,33 +4,29 @@ use native.Mathlib.Omega.{arith}
 use mathlib.Core.Path.{◌≡◌, sym, ap, subst, ◌∙◌}
 use lib.Dec.{T}
 use lib.ListN.{take, drop}
-use borrow.Author.Tests.{not-true, not-false}
 use Rattle.basics.proofs.Answers.{says_both}
 use Rattle.text.specs.Token.{is_name, is_reserved}
 use Rattle.sheet.specs.Names.{name_in}
 use Rattle.streams.proofs.Names.{name-part}
 use Rattle.streams.proofs.name_fits.Goals as goal
 
--- The function starts, before its name is tested; the part of the bytes that is tested is the name.
-abbrev start_of : tie.After-name-length → tie.Start
-start_of c = c.before.before.before.before.before.before
-
-part_of : (c : tie.After-name-length) → take ((start_of c).args.stream * 8 + c.name_length.result - (start_of c).args.stream * 8) (drop ((start_of c).args.stream * 8) (start_of c).args.names.now) ≡ name_in (start_of c).args.names.now (start_of c).args.lengths.now (start_of c).args.stream
-part_of c = name-part (start_of c).args.names.now (start_of c).args.lengths.now (start_of c).args.stream c.name_length.ensures
-
 pub returns-then-lengths-stream-gt8 : goal.returns-then-lengths-stream-gt8
 returns-then-lengths-stream-gt8 c = λ f. let z = f.short in let w = c.if-lengths-stream-gt8.true in omega arith
 
 pub returns-then-not-is_name : goal.returns-then-not-is_name
-returns-then-not-is_name c = λ f. subst T (ap is_name (sym (part_of c)) ∙ sym c.is_name.ensures ∙ not-true _ c.if-not-is_name.true) f.is_aname
+returns-then-not-is_name c =
+    let part_of : take (c.args.stream * 8 + c.name_length.result - c.args.stream * 8) (drop (c.args.stream * 8) c.args.names.now) ≡ name_in c.args.names.now c.args.lengths.now c.args.stream = name-part c.args.names.now c.args.lengths.now c.args.stream c.name_length.ensures in
+    λ f. subst T (ap is_name (sym (part_of)) ∙ sym c.is_name.ensures ∙ c.if-not-is_name.true) f.is_aname
 
 pub returns-then-is_reserved : goal.returns-then-is_reserved
 returns-then-is_reserved c =
-    λ f. subst T (sym (ap is_reserved (sym (part_of c)) ∙ sym c.is_reserved.ensures ∙ c.if-is_reserved.true) ∙ f.unreserved) tt
+    let part_of : take (c.args.stream * 8 + c.name_length.result - c.args.stream * 8) (drop (c.args.stream * 8) c.args.names.now) ≡ name_in c.args.names.now c.args.lengths.now c.args.stream = name-part c.args.names.now c.args.lengths.now c.args.stream c.name_length.ensures in
+    λ f. subst T (sym (ap is_reserved (sym (part_of)) ∙ sym c.is_reserved.ensures ∙ c.if-is_reserved.true) ∙ f.unreserved) tt
 
 pub returns : goal.returns
 returns c =
-    let named = part_of c in
-    let name = ap is_name (sym named) ∙ sym c.is_name.ensures ∙ not-false _ c.if-not-is_name.false in
+    let part_of : take (c.args.stream * 8 + c.name_length.result - c.args.stream * 8) (drop (c.args.stream * 8) c.args.names.now) ≡ name_in c.args.names.now c.args.lengths.now c.args.stream = name-part c.args.names.now c.args.lengths.now c.args.stream c.name_length.ensures in
+    let named = part_of in
+    let name = ap is_name (sym named) ∙ sym c.is_name.ensures ∙ c.if-not-is_name.false in
     let free = ap is_reserved (sym named) ∙ sym c.is_reserved.ensures ∙ c.if-is_reserved.false in
     says_both c.is_new.result (λ n. record { short = omega (arith, c.if-lengths-stream-gt8.false); is_aname = subst T (sym name) tt; unreserved = free; is_new = n }) (λ f. f.is_new) c.is_new.ensures

@@ -8,20 +8,18 @@ use Rattle.pages.specs.Lines.{IsPage}
 use Rattle.pages.specs.Output.{output_at, places_of}
 use Rattle.table_pages.proofs.next_page.Goals as goal
 
-lows-long : (c : tie.Start) → length c.args.streams.lows ≡ 8
-lows-long c = search rules
-
-highs-long : (c : tie.Start) → length c.args.streams.highs ≡ 8
-highs-long c = search rules
-
 pub slice_bounds-lows-end : goal.slice_bounds-lows-end
-slice_bounds-lows-end c = omega (arith, c.fewer-count.ensures, lows-long c)
+slice_bounds-lows-end c =
+    let lows-long : length c.args.streams.lows ≡ 8 = search rules in
+    omega (arith, c.fewer-count.ensures, lows-long)
 
 pub slice_bounds-fill_page-end-3 : goal.slice_bounds-fill_page-end-3
 slice_bounds-fill_page-end-3 c = sym (length-take-le _ _ (array-share-prefix-lows c))
 
 pub slice_bounds-highs-end : goal.slice_bounds-highs-end
-slice_bounds-highs-end c = omega (arith, c.fewer-count.ensures, highs-long c)
+slice_bounds-highs-end c =
+    let highs-long : length c.args.streams.highs ≡ 8 = search rules in
+    omega (arith, c.fewer-count.ensures, highs-long)
 
 pub slice_bounds-fill_page-end-4 : goal.slice_bounds-fill_page-end-4
 slice_bounds-fill_page-end-4 c = sym (length-take-le _ _ (array-share-prefix-highs c))
@@ -33,5 +31,5 @@ returns c =
     (λ n. IsPage
     (output_at (record { refusal = a.refusal; states = a.states; names = a.streams.names; lengths = a.streams.lengths; lows = take n a.streams.lows; highs = take n a.streams.highs; entries = a.entries.now; finals = a.finals.now }))
     (places_of (record { refusal = a.refusal; states = a.states; names = a.streams.names; lengths = a.streams.lengths; lows = take n a.streams.lows; highs = take n a.streams.highs; entries = a.entries.now; finals = a.finals.now }))
-    a.from a.out.now c.fill_page.new.1.1.1.1.1.1.1.1.1.0 c.fill_page.result)
+    a.from a.out.now c.fill_page.new.out c.fill_page.result)
     c.fewer-count.ensures c.fill_page.ensures

@@ -3,7 +3,6 @@ use Prim.Native.Nat.{ℕ, ◌-◌, ◌≤◌}
 use native.Mathlib.Omega.{arith}
 use mathlib.Core.Path.{sym, ◌∙◌}
 use lib.ListN.{length}
-use borrow.Author.Tests.{not-false}
 use Rattle.pages.specs.Lines.{line_room}
 use Rattle.pages.specs.Output.{Printout, output_at}
 use Rattle.pages.proofs.Handed.{handed_none, handed_all, handed_cut, handed_onward, handed_more, handed_few}
@@ -11,18 +10,8 @@ use Rattle.table_pages.specs.Printout.{described_printout}
 use Rattle.table_pages.proofs.Pages.{lines-short, few-lines}
 use Rattle.table_pages.proofs.write_pages.Goals as goal
 
--- What is printed.
-abbrev shown : (c : tie.At-loop invariant-loop decreases-loop) → Printout
-shown c = let a = c.before.before.before.before.args in described_printout a.streams a.refusal a.states a.entries.now a.finals.now
-
--- No line is longer than there is room for.
-short : (c : tie.At-loop invariant-loop decreases-loop) (k : ℕ) → length (output_at (shown c) k) ≤ line_room
-short c =
-    let s = c.before.before.before.before in
-    lines-short s.args.streams s.args.states s.args.entries.now s.args.finals.now s.requires.0 (omega (arith, s.ranges.refusal)) (λ i. omega (arith, c.before.before.before.shared-slice-known.given i)) (λ i. omega (arith, c.before.before.shared-slice-known2.given i)) s.requires.1
-
 pub large_buffer-page-requires : goal.large_buffer-page-requires
-large_buffer-page-requires c κs = tt
+large_buffer-page-requires c = tt
 
 pub loop-streams-init : goal.loop-streams-init
 loop-streams-init c = (sym c.large_buffer-page.ensures, handed_none _ _)
@@ -31,34 +20,40 @@ pub slice_bounds-next_page-end : goal.slice_bounds-next_page-end
 slice_bounds-next_page-end c = sym c.loop-streams.invariant.0
 
 pub next_page-filled-requires : goal.next_page-filled-requires
-next_page-filled-requires c κs = tt
+next_page-filled-requires c = tt
 
 pub returns-then-count-eq0 : goal.returns-then-count-eq0
 returns-then-count-eq0 c =
+    let shown : Printout = let a = c.args in described_printout a.streams a.refusal a.states a.entries.now a.finals.now in
+    let short : (k : ℕ) → length (output_at (shown) k) ≤ line_room = (let s = c in
+    lines-short s.args.streams s.args.states s.args.entries.now s.args.finals.now s.requires.0 (omega (arith, s.ranges.refusal)) (λ i. omega (arith, c.type_inv.entries i)) (λ i. omega (arith, c.type_inv.finals i)) s.requires.1) in
     let t = c in
-    handed_all _ _ t.loop.invariant.1 c.next_page-filled.ensures (short t) (omega (arith, t.loop.invariant.0)) c.if-count-eq0.true
+    handed_all _ _ t.loop-streams.invariant.1 c.next_page-filled.ensures (short) (omega (arith, t.loop-streams.invariant.0)) c.if-count-eq0.true
 
 pub slice_bounds-write_front-end : goal.slice_bounds-write_front-end
 slice_bounds-write_front-end c = sym (c.next_page-filled.auto.1.1.1.1.1.1.0 ∙ c.loop-streams.invariant.0)
 
 pub write_front-handed-requires : goal.write_front-handed-requires
-write_front-handed-requires c κs = tt
+write_front-handed-requires c = tt
 
 pub returns-then-not-handed : goal.returns-then-not-handed
 returns-then-not-handed c = handed_cut _ _ c.loop-streams.invariant.1 c.next_page-filled.ensures c.if-count-eq0.false
 
 pub overflow_add-size : goal.overflow_add-size
 overflow_add-size c =
+    let shown : Printout = let a = c.args in described_printout a.streams a.refusal a.states a.entries.now a.finals.now in
+    let short : (k : ℕ) → length (output_at (shown) k) ≤ line_room = (let s = c in
+    lines-short s.args.streams s.args.states s.args.entries.now s.args.finals.now s.requires.0 (omega (arith, s.ranges.refusal)) (λ i. omega (arith, c.type_inv.entries i)) (λ i. omega (arith, c.type_inv.finals i)) s.requires.1) in
     let t = c in
-    omega (arith, handed_few _ _ t.loop.invariant.1 c.next_page-filled.ensures c.write_front-handed.ensures (not-false _ c.if-not-handed.false) (short t) (few-lines (shown t) t.requires.1))
+    omega (arith, handed_few _ _ t.loop-streams.invariant.1 c.next_page-filled.ensures c.write_front-handed.ensures c.if-not-handed.false (short) (few-lines (shown) t.requires.1))
 
 pub loop-streams-smaller : goal.loop-streams-smaller
 loop-streams-smaller c =
     let t = c in
     let p = c.next_page-filled.ensures in
-    omega (arith, handed_onward _ _ t.loop.invariant.1 p c.if-count-eq0.false, p.holds.inside t.loop.invariant.1.inside)
+    omega (arith, handed_onward _ _ t.loop-streams.invariant.1 p c.if-count-eq0.false, p.holds.inside t.loop-streams.invariant.1.inside)
 
 pub loop-streams-preserved : goal.loop-streams-preserved
 loop-streams-preserved c =
     let t = c in
-    (c.next_page-filled.auto.1.1.1.1.1.1.0 ∙ t.loop.invariant.0, handed_more _ _ t.loop.invariant.1 c.next_page-filled.ensures c.write_front-handed.ensures (not-false _ c.if-not-handed.false))
+    (c.next_page-filled.auto.1.1.1.1.1.1.0 ∙ t.loop-streams.invariant.0, handed_more _ _ t.loop-streams.invariant.1 c.next_page-filled.ensures c.write_front-handed.ensures c.if-not-handed.false)

@@ -3,18 +3,11 @@ use mathlib.Core.Path.{◌≡◌, subst}
 use lib.IntN.{pos}
 use lib.ListN.{length, replicate}
 use borrow.Author.Rules.{rules}
-use borrow.Author.Tests.{not-true, not-false}
 use Rattle.output.specs.Output.{Hands}
 use Rattle.basics.proofs.Answers.{says_yes, says_no}
 use Rattle.streams.specs.declared.StreamsDescription.{StreamsDescription}
 use Rattle.table_pages.proofs.Pages.{fit-held, refused-is}
 use Rattle.table_pages.proofs.write_table.Goals as goal
-
-lows-long : (c : tie.Start) → length c.args.streams.lows ≡ 8
-lows-long c = search rules
-
-highs-long : (c : tie.Start) → length c.args.streams.highs ≡ 8
-highs-long c = search rules
 
 pub returns-then-refusal-ne0 : goal.returns-then-refusal-ne0
 returns-then-refusal-ne0 c =
@@ -27,9 +20,11 @@ returns-then-refusal-ne0 c =
     }
 
 pub returns-then-not-fit : goal.returns-then-not-fit
-returns-then-not-fit c = record { refused = λ n. absurd (n c.if-refusal-ne0.false); table = λ z fit. absurd (says_no {b = c.streams_fit-fit.result} (not-true _ c.if-not-fit.true) c.streams_fit-fit.ensures fit) }
+returns-then-not-fit c = record { refused = λ n. absurd (n c.if-refusal-ne0.false); table = λ z fit. absurd (says_no {b = c.streams_fit-fit.result} c.if-not-fit.true c.streams_fit-fit.ensures fit) }
 
 pub write_pages-requires-2 : goal.write_pages-requires-2
-write_pages-requires-2 c κs =
+write_pages-requires-2 c =
+    let lows-long : length c.args.streams.lows ≡ 8 = search rules in
+    let highs-long : length c.args.streams.highs ≡ 8 = search rules in
     let start = c in
-    (fit-held start.args.streams (lows-long start) (highs-long start) (says_yes {b = c.streams_fit-fit.result} (not-false _ c.if-not-fit.false) c.streams_fit-fit.ensures), search rules)
+    (fit-held start.args.streams (lows-long) (highs-long) (says_yes {b = c.streams_fit-fit.result} c.if-not-fit.false c.streams_fit-fit.ensures), search rules)

@@ -5,7 +5,6 @@ use mathlib.Core.Path.{◌≡◌, refl, sym, ◌∙◌}
 use lib.IntN.{pos}
 use lib.ListN.{length, replicate}
 use lib.Seq.{length-take-le}
-use borrow.Author.Tests.{not-true, not-false}
 use Rattle.letters.proofs.Counts.{length-described}
 use Rattle.print.proofs.Append.{appends_nothing, appends_same}
 use Rattle.table_text.proofs.Places.{nothing-there, nothing-beyond, no_letters, no_values, few_streams, line-there}
@@ -27,14 +26,14 @@ overflow_cast-letter c =
     omega arith
 
 pub returns-then-not-letter_values : goal.returns-then-not-letter_values
-returns-then-not-letter_values c = appends_same (appends_nothing (omega arith)) (sym (let a = c.args in no_values a.lows.now a.highs.now a.entries.now a.finals.now a.place c.letter_count-count.ensures (sym c.letter_values.ensures.0 ∙ not-true _ c.if-not-letter_values.true)))
+returns-then-not-letter_values c = appends_same (appends_nothing (omega arith)) (sym (let a = c.args in no_values a.lows.now a.highs.now a.entries.now a.finals.now a.place c.letter_count-count.ensures (sym c.letter_values.ensures.0 ∙ c.if-not-letter_values.true)))
 
 pub slice_bounds-values-end : goal.slice_bounds-values-end
 slice_bounds-values-end c =
     let a = c.args in
-    let h = few_streams a.lows.now a.highs.now a.entries.now a.finals.now a.place c.letter_count-count.ensures (sym c.letter_values.ensures.0 ∙ not-false _ c.if-not-letter_values.false) in
+    let h = few_streams a.lows.now a.highs.now a.entries.now a.finals.now a.place c.letter_count-count.ensures (sym c.letter_values.ensures.0 ∙ c.if-not-letter_values.false) in
     let d = length-described a.lows.now a.highs.now in
-    let k : length c.letter_values.new.1.1.1.0 ≡ 8 = c.letter_values.auto.1.1.1.0 in
+    let k : length c.letter_values.new.out ≡ 8 = c.letter_values.auto.1.1.1.0 in
     let f = c.fewer-streams.ensures in
     omega arith
 
@@ -45,4 +44,4 @@ pub returns : goal.returns
 returns c =
     let a = c.args in
     appends_same c.entry_line.ensures
-    (line-there a.lows.now a.highs.now a.entries.now a.finals.now a.place c.letter_count-count.ensures (sym c.letter_values.ensures.0 ∙ not-false _ c.if-not-letter_values.false) c.if-entries-place.false c.if-next.false c.fewer-streams.ensures (replicate 8 (pos 0)) refl c.letter_values.ensures.1 c.byte_at.ensures)
+    (line-there a.lows.now a.highs.now a.entries.now a.finals.now a.place c.letter_count-count.ensures (sym c.letter_values.ensures.0 ∙ c.if-not-letter_values.false) c.if-entries-place.false c.if-next.false c.fewer-streams.ensures (replicate 8 (pos 0)) refl c.letter_values.ensures.1 c.byte_at.ensures)

@@ -7,13 +7,6 @@ use Rattle.tables.specs.Parts.{HasTableSizes, AreFlags}
 use Rattle.tables.proofs.Parts.{parts-well_formed, well_formed-sizes}
 use Rattle.tables.proofs.is_well_formed.Goals as goal
 
--- the sizes and the final bytes have passed
-sizes : (c : tie.Else2) → let a = c.before.before.before.before.before.before.args in HasTableSizes a.letters (length a.finals.now) (length a.entries.now)
-sizes c = says_yes (not-false c.before.before.before.has-sizes.result c.before.before.if1.false) c.before.before.before.has-sizes.ensures
-
-bits : (c : tie.Else2) → AreFlags c.before.before.before.before.before.before.args.finals.now
-bits c = says_yes (not-false c.before.are-flags.result c.if2.false) c.before.are-flags.ensures
-
 pub returns-then-not-has_sizes : goal.returns-then-not-has_sizes
 returns-then-not-has_sizes c = λ formed. says_no (not-true c.has_sizes.result c.if-not-has_sizes.true) c.has_sizes.ensures (well_formed-sizes formed)
 
@@ -21,7 +14,12 @@ pub returns-then-not-are_flags : goal.returns-then-not-are_flags
 returns-then-not-are_flags c = λ formed. says_no (not-true c.are_flags.result c.if-not-are_flags.true) c.are_flags.ensures formed.flags
 
 pub overflow_cast-rows : goal.overflow_cast-rows
-overflow_cast-rows c = omega (arith, (sizes c).few_rows)
+overflow_cast-rows c =
+    let sizes : let a = c.args in HasTableSizes a.letters (length a.finals.now) (length a.entries.now) = says_yes (not-false c.has_sizes.result c.if-not-has_sizes.false) c.has_sizes.ensures in
+    omega (arith, (sizes).few_rows)
 
 pub returns : goal.returns
-returns c = says_both c.are_rows.result (parts-well_formed (sizes c) (bits c)) (λ formed. formed.whole.state_or_none) c.are_rows.ensures
+returns c =
+    let sizes : let a = c.args in HasTableSizes a.letters (length a.finals.now) (length a.entries.now) = says_yes (not-false c.has_sizes.result c.if-not-has_sizes.false) c.has_sizes.ensures in
+    let bits : AreFlags c.args.finals.now = says_yes (not-false c.are_flags.result c.if-not-are_flags.false) c.are_flags.ensures in
+    says_both c.are_rows.result (parts-well_formed (sizes) (bits)) (λ formed. formed.whole.state_or_none) c.are_rows.ensures

@@ -9,7 +9,7 @@ pub loop-at-init : goal.loop-at-init
 loop-at-init c = (nothing_read _ _ _ _ (omega arith), refl)
 
 pub count_part-part-requires : goal.count_part-part-requires
-count_part-part-requires c κs = c.loop-at-test.true
+count_part-part-requires c = c.loop-at-test.true
 
 pub loop-at-smaller : goal.loop-at-smaller
 loop-at-smaller c = omega (arith, c.count_part-part.ensures.onward, c.count_part-part.ensures.inside)
@@ -18,9 +18,6 @@ pub loop-at-preserved : goal.loop-at-preserved
 loop-at-preserved c =
     let t = c.loop-at in
     (read_more _ _ t.invariant.0 c.count_part-part.ensures, c.count_part-part.auto.1.1.1.1.1.1.1.0 ∙ t.invariant.1)
-
-pub shape_of-counts : goal.shape_of-counts
-shape_of-counts c = c.loop-at.invariant.1
 
 pub returns : goal.returns
 returns c = read_all _ _ c.loop-at.invariant.0 c.loop-at-test.false

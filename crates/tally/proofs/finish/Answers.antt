@@ -1,24 +1,15 @@
 -- `tally::finish` meets its contract, by the stage that the record ends in (Ends).
-use mathlib.Core.Path.{refl, ◌∙◌}
+use mathlib.Core.Path.{refl}
 use Rattle.tally.proofs.Ends.{record_ends}
 use Rattle.tally.proofs.finish.Goals as goal
-
-pub shape_of-counts-in-Names : goal.shape_of-counts-in-Names
-shape_of-counts-in-Names c = c.refused.auto.1.0 ∙ c.last_line-ended.auto.1.1.1.1.1.0
 
 pub returns-in-Names : goal.returns-in-Names
 returns-in-Names c =
     let r = c.refused.ensures in
     record_ends _ _ _ c.last_line-ended.ensures c.enum_told-1.given.1 r.0 r.1
 
-pub shape_of-counts-in-Values : goal.shape_of-counts-in-Values
-shape_of-counts-in-Values c = c.last_line-ended.auto.1.1.1.1.1.0
-
 pub returns-in-Values : goal.returns-in-Values
 returns-in-Values c = record_ends _ _ _ c.last_line-ended.ensures c.stage-1.given.1 refl refl
-
-pub shape_of-counts-in-Refused : goal.shape_of-counts-in-Refused
-shape_of-counts-in-Refused c = c.refused-in-Refused.auto.1.0 ∙ c.last_line-ended.auto.1.1.1.1.1.0
 
 pub returns-in-Refused : goal.returns-in-Refused
 returns-in-Refused c =

@@ -15,8 +15,5 @@ loop-i-smaller c = omega (arith, length-set c.loop-i.counts c.loop-i.i 0)
 pub loop-i-preserved : goal.loop-i-preserved
 loop-i-preserved c = clearing_next c.loop-i-test.true c.loop-i.invariant
 
-pub shape_of-counts : goal.shape_of-counts
-shape_of-counts c = c.loop-i.invariant.same
-
 pub returns : goal.returns
 returns c = (refl, cleared-all (clearing_end c.loop-i-test.false c.loop-i.invariant))

@@ -4,7 +4,6 @@ use Rattle.text.specs.Bytes.{bytes_of}
 use Rattle.vocabulary.specs.Word.{word_number}
 use Rattle.vocabulary.proofs.is_if.Goals as goal
 
-unfolding word_number
-
 pub returns : goal.returns
+unfolding word_number
 returns c = sym (c.word_number-number.ensures.same (bytes_of "if") tt)

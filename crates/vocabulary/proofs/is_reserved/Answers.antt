@@ -6,7 +6,6 @@ use Rattle.vocabulary.specs.Word.{word_number}
 use Rattle.vocabulary.proofs.Words.{member-place}
 use Rattle.vocabulary.proofs.is_reserved.Goals as goal
 
-unfolding reserved_words is_reserved word_number
-
 pub returns : goal.returns
+unfolding reserved_words is_reserved word_number
 returns c = ap (λ p. ltb p 18) c.word_place-place.ensures ∙ member-place c.word_number-number.ensures reserved_words tt

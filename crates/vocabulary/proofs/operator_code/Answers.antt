@@ -5,9 +5,6 @@ use Rattle.vocabulary.specs.Word.{infix_code, word_number}
 use Rattle.vocabulary.proofs.Words.{code-found}
 use Rattle.vocabulary.proofs.operator_code.Goals as goal
 
-unfolding operator_tokens word_number
-
-unfolding operator_tokens operator_of word_number
-
 pub returns : goal.returns
+unfolding operator_tokens operator_of word_number
 returns c = code-found c.word_number-number.ensures infix_code operator_tokens tt refl refl c.word_place-place.ensures

@@ -5,9 +5,6 @@ use Rattle.vocabulary.specs.Word.{prefix_code, word_number}
 use Rattle.vocabulary.proofs.Words.{code-found}
 use Rattle.vocabulary.proofs.prefix_code.Goals as goal
 
-unfolding prefix_tokens word_number
-
-unfolding prefix_tokens prefix_of word_number
-
 pub returns : goal.returns
+unfolding prefix_tokens prefix_of word_number
 returns c = code-found c.word_number-number.ensures prefix_code prefix_tokens tt refl refl c.word_place-place.ensures

@@ -5,9 +5,6 @@ use Rattle.vocabulary.specs.Word.{relation_number, word_number}
 use Rattle.vocabulary.proofs.Words.{code-found}
 use Rattle.vocabulary.proofs.relation_code.Goals as goal
 
-unfolding relation_tokens word_number
-
-unfolding relation_tokens relation_of word_number
-
 pub returns : goal.returns
+unfolding relation_tokens relation_of word_number
 returns c = code-found c.word_number-number.ensures relation_number relation_tokens tt refl refl c.word_place-place.ensures

@@ -6,9 +6,6 @@ use Rattle.vocabulary.specs.Word.{word_number}
 use Rattle.vocabulary.proofs.Words.{code-found}
 use Rattle.vocabulary.proofs.stream_kind_code.Goals as goal
 
-unfolding stream_kind_tokens word_number
-
-unfolding stream_kind_tokens stream_kind_of word_number
-
 pub returns : goal.returns
+unfolding stream_kind_tokens stream_kind_of word_number
 returns c = code-found c.word_number-number.ensures stream_kind_code stream_kind_tokens tt refl refl c.word_place-place.ensures

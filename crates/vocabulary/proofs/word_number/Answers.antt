@@ -10,32 +10,33 @@ use Rattle.scan.proofs.Tokens.{drop_at, drop-end}
 use Rattle.vocabulary.proofs.Words.{AreBytes, word_below, tells-word, tells-long}
 use Rattle.vocabulary.proofs.word_number.Goals as goal
 
--- With a byte more to come the number is below 256 to the seventh.
-room : (c : tie.In-loop invariant-loop decreases-loop) → c.before.loop.number < 72057594037927936
-room c =
-    let token = c.before.before.before.before.args.token.now in
-    let i = c.before.loop.i in
-    let bytes : AreBytes (drop i token) = λ k. subst (λ b. b < 256) (sym (get_or-drop i token k 0)) (c.before.before.before.shared-slice-known.given (i + k)).fits in
-    let z = word_below (drop i token) 6 (let l = length-drop i token in omega arith) bytes in
-    omega arith
-
-unfolding word_number
-
-unfolding word_number
-
 pub returns-then-token-gt7 : goal.returns-then-token-gt7
 returns-then-token-gt7 c = tells-long c.args.token.now c.if-token-gt7.true
 
 pub loop-i-init : goal.loop-i-init
+unfolding word_number
 loop-i-init c = (omega arith, sym (ap word_number (drop-end c.args.token.now)))
 
 pub overflow_mul-number : goal.overflow_mul-number
-overflow_mul-number c = let z = room c in omega arith
+overflow_mul-number c =
+    let room : c.loop-i.number < 72057594037927936 = (let token = c.args.token.now in
+    let i = c.loop-i.i in
+    let bytes : AreBytes (drop i token) = λ k. subst (λ b. b < 256) (sym (get_or-drop i token k 0)) (c.type_inv.token (i + k)).fits in
+    let z = word_below (drop i token) 6 (let l = length-drop i token in omega arith) bytes in
+    omega arith) in
+    let z = room in omega arith
 
 pub overflow_add-number : goal.overflow_add-number
-overflow_add-number c = let z = room c in let b = c.type_inv.token (c.loop-i.i - 1) in omega arith
+overflow_add-number c =
+    let room : c.loop-i.number < 72057594037927936 = (let token = c.args.token.now in
+    let i = c.loop-i.i in
+    let bytes : AreBytes (drop i token) = λ k. subst (λ b. b < 256) (sym (get_or-drop i token k 0)) (c.type_inv.token (i + k)).fits in
+    let z = word_below (drop i token) 6 (let l = length-drop i token in omega arith) bytes in
+    omega arith) in
+    let z = room in let b = c.type_inv.token (c.loop-i.i - 1) in omega arith
 
 pub loop-i-preserved : goal.loop-i-preserved
+unfolding word_number
 loop-i-preserved c =
     let token = c.args.token.now in
     let i = c.loop-i.i in

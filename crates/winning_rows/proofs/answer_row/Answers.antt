@@ -43,8 +43,5 @@ pub loop-letter-preserved : goal.loop-letter-preserved
 loop-letter-preserved c =
     (omega arith, c.loop-letter.invariant.1, answers_skip (λ k x. x.ranked (sym c.number_at-rank.ensures ∙ c.if-rank-ne0.false)) c.loop-letter.invariant.2)
 
-pub shape_of-answers : goal.shape_of-answers
-shape_of-answers c = c.loop-letter.invariant.1 ∙ c.fill_entries.auto.0
-
 pub returns : goal.returns
 returns c = answers-all (omega (arith, c.loop-letter-test.false)) c.loop-letter.invariant.2

@@ -4,20 +4,12 @@ use Rattle.winning_rows.proofs.Sweeping.{fits-sized, passes-ranked}
 use Rattle.winning_rows.proofs.rank_rows.Goals as goal
 
 pub sweeps-requires : goal.sweeps-requires
-sweeps-requires c κs =
+sweeps-requires c =
     fits-sized refl (sym c.fill.auto.0) c.requires
 
 pub sweeps-requires-2 : goal.sweeps-requires-2
-sweeps-requires-2 c κs =
+sweeps-requires-2 c =
     fits-sized (sym c.sweeps.auto.1.1.1.1.0) (sym (c.keep_flagged.auto.1.0 ∙ c.sweeps.auto.1.1.1.0 ∙ c.fill.auto.0)) c.requires
-
-pub shape_of-ranks : goal.shape_of-ranks
-shape_of-ranks c =
-    c.sweeps-2.auto.1.1.1.0 ∙ c.keep_flagged.auto.1.0 ∙ c.sweeps.auto.1.1.1.0 ∙ c.fill.auto.0
-
-pub shape_of-answers : goal.shape_of-answers
-shape_of-answers c =
-    c.sweeps-2.auto.1.1.1.1.0 ∙ c.sweeps.auto.1.1.1.1.0
 
 pub returns : goal.returns
 returns c =

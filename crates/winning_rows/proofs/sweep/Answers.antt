@@ -13,7 +13,7 @@ loop-i-init c =
     (omega arith, omega arith, refl, refl, λ final. swept_start args.down (length args.ranks.now) args.ranks.now args.first)
 
 pub turn_row-requires : goal.turn_row-requires
-turn_row-requires c κs =
+turn_row-requires c =
     let loop = c.loop-i in
     let args = c.args in
     (fits-sized (sym loop.invariant.3) (sym loop.invariant.2) c.requires.0, omega (arith, loop.invariant.2, c.row_of-row.ensures, row_inside args.down (length args.ranks.now) loop.i c.loop-i-test.true))
@@ -38,12 +38,6 @@ loop-i-preserved c =
       λ final. ⊎_elim (λ w. swept_turned args.down rows loop.i ranks call.result w.1 inside (omega (arith, loop.invariant.2)) w.0.true (loop.invariant.4 final) (turned final))
           (λ w. swept_kept args.down rows loop.i ranks call.result w.1 inside w.0.left (loop.invariant.4 final) (turned final)) c.if-turn_row.branch,
     )
-
-pub shape_of-ranks : goal.shape_of-ranks
-shape_of-ranks c = c.loop-i.invariant.2
-
-pub shape_of-answers : goal.shape_of-answers
-shape_of-answers c = c.loop-i.invariant.3
 
 pub returns : goal.returns
 returns c =

@@ -13,28 +13,26 @@ use Rattle.write_residue.specs.Wrote.{Appended}
 use Rattle.write_residue.proofs.Answers.{end-room, end-full}
 use Rattle.write_residue.proofs.append.Goals as goal
 
-abbrev nodes : tie.Start → Nodes
-nodes s = stored s.args.new-kinds.now s.args.new-values.now s.args.new-starts.now
-
--- What the slices tell of the arrays that they are made of.
-arrays : (c : tie.After-start-list2) → HasArrays (nodes c.before.before.before.before.before.before)
-arrays c = record { kinds = c.before.before.before.before.kind-list2.given.0; values = c.before.before.value-list2.given.0; starts = c.start-list2.given.0 }
+abbrev nodes : goal.Start → Nodes
+nodes s = stored s.args.new_kinds.now s.args.new_values.now s.args.new_starts.now
 
 pub returns-then-end-ge1024 : goal.returns-then-end-ge1024
 returns-then-end-ge1024 c =
+    let arrays : HasArrays (nodes c) = record { kinds = c.kind_list-2-1.given.0; values = c.value_list-2-1.given.0; starts = c.start_list-2-1.given.0 } in
     let s = c in
     record {
       next = sym (end-full s.args.end 1 (omega arith));
       kept = below_refl s.args.end (nodes s);
       nodes = λ h. absurd (omega arith);
-      arrays = arrays c;
+      arrays = arrays;
     }
 
 pub returns : goal.returns
 returns c =
+    let arrays : HasArrays (nodes c) = record { kinds = c.kind_list-2-1.given.0; values = c.value_list-2-1.given.0; starts = c.start_list-2-1.given.0 } in
     let s = c in
     let x = node s.args.kind s.args.value s.args.start in
-    let a = arrays c in
+    let a = arrays in
     let put : Appended (nodes s) (with_node (nodes s) s.args.end x) s.args.end x (s.args.end + 1) =
     record {
       next = sym (end-room s.args.end 1 (omega arith));

@@ -16,21 +16,21 @@ use Rattle.write_residue.proofs.Recursion.{first_arm, stored_arm, next_arm, next
 use Rattle.write_residue.proofs.Answers.{moves-known, moves-to}
 use Rattle.write_residue.proofs.led_to.Goals as goal
 
-abbrev nodes : tie.Start → Nodes
+abbrev nodes : goal.Start → Nodes
 nodes s = stored s.args.kinds.now s.args.values.now s.args.starts.now
 
-abbrev seen : tie.Start → List ℤ → View
+abbrev seen : goal.Start → List ℤ → View
 seen s window = view window s.args.older.streams s.args.firsts.now s.args.older.whole
 
-some : (s : tie.Start) → s.args.end ≡ 0 → ⊥
+some : (s : goal.Start) → s.args.end ≡ 0 → ⊥
 some s z = omega (arith, s.requires)
 
 -- A node of these that is no `first` and no `next` is a `fby`.
-is-fby : (s : tie.Start) → (get_or s.args.kinds.now (s.args.end - 1) 0 ≡ 2 → ⊥) → (get_or s.args.kinds.now (s.args.end - 1) 0 ≡ 3 → ⊥) → get_or s.args.kinds.now (s.args.end - 1) 0 ≡ 6
+is-fby : (s : goal.Start) → (get_or s.args.kinds.now (s.args.end - 1) 0 ≡ 2 → ⊥) → (get_or s.args.kinds.now (s.args.end - 1) 0 ≡ 3 → ⊥) → get_or s.args.kinds.now (s.args.end - 1) 0 ≡ 6
 is-fby s a b = omega (arith, s.requires.0, s.requires.1, a, b)
 
 pub moved_to-requires : goal.moved_to-requires
-moved_to-requires c κs = tt
+moved_to-requires c = tt
 
 pub returns-then-older : goal.returns-then-older
 returns-then-older c =
@@ -38,10 +38,10 @@ returns-then-older c =
     moves-to c.moved_to.ensures (λ window. first_arm (nodes s) (seen s window) s.args.older.letters s.args.place s.args.end (some s) c.if-kind-eq-FIRST_NODE.true c.if-older.true) (omega (arith, s.requires))
 
 pub stored_first-requires : goal.stored_first-requires
-stored_first-requires c κs = tt
+stored_first-requires c = tt
 
 pub moved_known-requires : goal.moved_known-requires
-moved_known-requires c κs = tt
+moved_known-requires c = tt
 
 pub returns-then-kind-eq-FIRST_NODE : goal.returns-then-kind-eq-FIRST_NODE
 returns-then-kind-eq-FIRST_NODE c =
@@ -50,7 +50,7 @@ returns-then-kind-eq-FIRST_NODE c =
     (λ window. sym (stored_arm (nodes s) (seen s window) s.args.older.letters s.args.place s.args.end (some s) c.if-kind-eq-FIRST_NODE.true c.if-older.false))
 
 pub moved_to-requires-then-place-older : goal.moved_to-requires-then-place-older
-moved_to-requires-then-place-older c κs = tt
+moved_to-requires-then-place-older c = tt
 
 pub returns-then-place-older : goal.returns-then-place-older
 returns-then-place-older c =
@@ -58,10 +58,10 @@ returns-then-place-older c =
     moves-to c.moved_to-then-place-older.ensures (λ window. next_arm (nodes s) (seen s window) s.args.older.letters s.args.place s.args.end (some s) c.if-kind-eq-NEXT_NODE.true c.if-place-older.true) (omega (arith, s.requires))
 
 pub no_value_coded-requires : goal.no_value_coded-requires
-no_value_coded-requires c κs = tt
+no_value_coded-requires c = tt
 
 pub moved_known-requires-then-kind-eq-NEXT_NODE : goal.moved_known-requires-then-kind-eq-NEXT_NODE
-moved_known-requires-then-kind-eq-NEXT_NODE c κs = tt
+moved_known-requires-then-kind-eq-NEXT_NODE c = tt
 
 pub returns-then-kind-eq-NEXT_NODE : goal.returns-then-kind-eq-NEXT_NODE
 returns-then-kind-eq-NEXT_NODE c =
@@ -70,7 +70,7 @@ returns-then-kind-eq-NEXT_NODE c =
     (λ window. sym (next-none_arm (nodes s) (seen s window) s.args.older.letters s.args.place s.args.end (some s) c.if-kind-eq-NEXT_NODE.true c.if-place-older.false))
 
 pub moved_to-requires-then-place-ne0 : goal.moved_to-requires-then-place-ne0
-moved_to-requires-then-place-ne0 c κs = tt
+moved_to-requires-then-place-ne0 c = tt
 
 pub returns-then-place-ne0 : goal.returns-then-place-ne0
 returns-then-place-ne0 c =
@@ -78,10 +78,10 @@ returns-then-place-ne0 c =
     moves-to c.moved_to-then-place-ne0.ensures (λ window. fby-right_arm (nodes s) (seen s window) s.args.older.letters s.args.place s.args.end (some s) (is-fby s c.if-kind-eq-FIRST_NODE.false c.if-kind-eq-NEXT_NODE.false) c.if-place-ne0.true) (omega (arith, s.requires))
 
 pub left_end-requires : goal.left_end-requires
-left_end-requires c κs = tt
+left_end-requires c = tt
 
 pub moved_to-requires-then-older-2 : goal.moved_to-requires-then-older-2
-moved_to-requires-then-older-2 c κs = tt
+moved_to-requires-then-older-2 c = tt
 
 pub returns-then-older-2 : goal.returns-then-older-2
 returns-then-older-2 c =
@@ -91,7 +91,7 @@ returns-then-older-2 c =
     (let l = left-before s.args.starts.now (s.args.end - 1) (s.args.end - 1) c.left_end.ensures (omega arith) in omega (arith, s.requires))
 
 pub moved_known-requires-2 : goal.moved_known-requires-2
-moved_known-requires-2 c κs = tt
+moved_known-requires-2 c = tt
 
 pub returns : goal.returns
 returns c =

@@ -15,10 +15,10 @@ use Rattle.write_residue.proofs.Answers.{end_within, negate_known, negate_varyin
 use Rattle.write_residue.proofs.negate_last.Goals as goal
 
 pub negated-value-requires : goal.negated-value-requires
-negated-value-requires c κs = tt
+negated-value-requires c = tt
 
 pub write_known-requires : goal.write_known-requires
-write_known-requires c κs = tt
+write_known-requires c = tt
 
 pub returns-then-inner : goal.returns-then-inner
 returns-then-inner c =
@@ -27,7 +27,7 @@ returns-then-inner c =
     }
 
 pub varying-requires : goal.varying-requires
-varying-requires c κs = tt
+varying-requires c = tt
 
 pub returns : goal.returns
 returns c =
@@ -35,5 +35,5 @@ returns c =
     record {
       wrote = λ old r d w.
           let b : s.args.at ≤ 1025 = omega (arith, c.requires, end_within s.args.at (tree_size (tree_of r)), w.end) in
-          subst (Wrote old (stored c.append.new.0 c.append.new.1.0 c.append.new.1.1.0) s.args.at (negated_residue r)) (sym c.varying.ensures) (negate_varying w b c.if-inner.false c.append.ensures);
+          subst (Wrote old (stored c.append.new.new_kinds c.append.new.new_values c.append.new.new_starts) s.args.at (negated_residue r)) (sym c.varying.ensures) (negate_varying w b c.if-inner.false c.append.ensures);
     }

@@ -14,13 +14,13 @@ use Rattle.write_residue.proofs.Answers.{end_within, operate_known, operate_vary
 use Rattle.write_residue.proofs.operate_last.Goals as goal
 
 pub both-requires : goal.both-requires
-both-requires c κs = tt
+both-requires c = tt
 
 pub apply_coded-value-requires : goal.apply_coded-value-requires
-apply_coded-value-requires c κs = tt
+apply_coded-value-requires c = tt
 
 pub write_known-requires : goal.write_known-requires
-write_known-requires c κs = tt
+write_known-requires c = tt
 
 pub returns-then-both : goal.returns-then-both
 returns-then-both c =
@@ -30,7 +30,7 @@ returns-then-both c =
     }
 
 pub varying-requires : goal.varying-requires
-varying-requires c κs = tt
+varying-requires c = tt
 
 pub returns : goal.returns
 returns c =
@@ -38,6 +38,6 @@ returns c =
     record {
       wrote = λ old between r q u w.
           let b : s.args.at ≤ 1025 = omega (arith, s.requires, end_within s.args.left.end (tree_size (tree_of q)), w.end) in
-          subst (Wrote old (stored c.append.new.0 c.append.new.1.0 c.append.new.1.1.0) s.args.at (operated_residue s.args.kind r q)) (sym c.varying.ensures)
+          subst (Wrote old (stored c.append.new.new_kinds c.append.new.new_values c.append.new.new_starts) s.args.at (operated_residue s.args.kind r q)) (sym c.varying.ensures)
           (operate_varying s.args.kind u w b (sym c.both.ensures ∙ c.if-both.false) c.append.ensures);
     }

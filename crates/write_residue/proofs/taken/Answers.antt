@@ -6,7 +6,7 @@ use Rattle.meaning.specs.Value.{nonzero}
 use Rattle.write_residue.proofs.taken.Goals as goal
 
 pub nonzero-requires : goal.nonzero-requires
-nonzero-requires c κs = tt
+nonzero-requires c = tt
 
 pub returns-then-nonzero : goal.returns-then-nonzero
 returns-then-nonzero c =

@@ -7,7 +7,7 @@ use Rattle.write_residue.specs.declared.WrittenResidue.{WrittenResidue}
 use Rattle.write_residue.proofs.varying.Goals as goal
 
 pub no_value_coded-requires : goal.no_value_coded-requires
-no_value_coded-requires c κs = tt
+no_value_coded-requires c = tt
 
 pub returns : goal.returns
 returns c =

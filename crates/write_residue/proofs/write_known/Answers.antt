@@ -13,5 +13,5 @@ returns c =
     let s = c in
     let e = to_z-of_z w64 s.args.value s.ranges.value in
     let w = known_wrote c.append-end.ensures in
-    subst (λ (z : ℤ). WroteKnown (stored s.args.new-kinds.now s.args.new-values.now s.args.new-starts.now) (stored c.append-end.new.0 c.append-end.new.1.0 c.append-end.new.1.1.0) s.args.at s.args.value (known_at z c.append-end.result)) (sym e)
-    (subst (λ (z : ℤ). WroteKnown (stored s.args.new-kinds.now s.args.new-values.now s.args.new-starts.now) (stored c.append-end.new.0 c.append-end.new.1.0 c.append-end.new.1.1.0) s.args.at z (known_at z c.append-end.result)) e w)
+    subst (λ (z : ℤ). WroteKnown (stored s.args.new_kinds.now s.args.new_values.now s.args.new_starts.now) (stored c.append-end.new.new_kinds c.append-end.new.new_values c.append-end.new.new_starts) s.args.at s.args.value (known_at z c.append-end.result)) (sym e)
+    (subst (λ (z : ℤ). WroteKnown (stored s.args.new_kinds.now s.args.new_values.now s.args.new_starts.now) (stored c.append-end.new.new_kinds c.append-end.new.new_values c.append-end.new.new_starts) s.args.at z (known_at z c.append-end.result)) e w)

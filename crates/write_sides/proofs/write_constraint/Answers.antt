@@ -6,10 +6,10 @@ use Rattle.write_sides.proofs.Sides.{constraint-written}
 use Rattle.write_sides.proofs.write_constraint.Goals as goal
 
 pub write_residue-left-requires : goal.write_residue-left-requires
-write_residue-left-requires c κs = tt
+write_residue-left-requires c = tt
 
 pub write_residue-right-requires : goal.write_residue-right-requires
-write_residue-right-requires c κs = tt
+write_residue-right-requires c = tt
 
 pub returns : goal.returns
 returns c =

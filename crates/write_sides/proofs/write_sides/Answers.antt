@@ -14,11 +14,11 @@ count_is : (lefts rights : List ℕ) {a b : ℕ} → a ≡ min (length lefts) (l
 count_is lefts rights p q = q ∙ ap (λ n. min n 32) p
 
 pub fewer-requires : goal.fewer-requires
-fewer-requires c κs =
+fewer-requires c =
     tt
 
 pub fewer-count-requires : goal.fewer-count-requires
-fewer-count-requires c κs =
+fewer-count-requires c =
     tt
 
 pub loop-j-init : goal.loop-j-init
@@ -52,7 +52,7 @@ overflow_cast-roots-in-loop-j c =
     omega (arith, c.type_inv.rights c.loop-j.j)
 
 pub write_constraint-ends-requires : goal.write_constraint-ends-requires
-write_constraint-ends-requires c κs =
+write_constraint-ends-requires c =
     c.loop-j.invariant.room
 
 pub returns-then-ends-gt1024 : goal.returns-then-ends-gt1024
