@@ -88,7 +88,7 @@ streams_from-complete (x ∷ ss) (Integers.more l ls) Integers.none p q all = ab
 streams_from-complete (x ∷ ss) (Integers.more {t = l} {ts = ls} low lows) (Integers.more {t = h} {ts = hs} high highs) p q all =
     let test : T (is_name x.name && is_integer l && is_integer h) = and_both (is_name x.name && is_integer l) (is_integer h) (and_both (is_name x.name) (is_integer l) (all x.name (Memᴰ.head refl)) low) high in
     ap (λ m. cond m (and_then (streams_from (names_of ss) ls hs) (λ ss'. some (stream_from x.name l h ∷ ss'))) none) (to_true (T-reflects (is_name x.name && is_integer l && is_integer h)) test)
-    ∙ ap (λ o. and_then o (λ ss'. some (stream_from x.name l h ∷ ss'))) (streams_from-complete ss lows highs (tail-eq_of_cons-eq p) (tail-eq_of_cons-eq q) (λ t m. all t (Memᴰ.tail m)))
+    ∙ ap (λ o. and_then o (λ ss'. some (stream_from x.name l h ∷ ss'))) (streams_from-complete {ls = ls} {hs = hs} ss lows highs (tail-eq_of_cons-eq p) (tail-eq_of_cons-eq q) (λ t m. all t (Memᴰ.tail m)))
     ∙ ap (λ y. some (y ∷ without_kinds ss)) (stream_from-same x l h (head-eq_of_cons-eq p) (head-eq_of_cons-eq q))
 
 -- ---- the kinds

@@ -19,14 +19,5 @@ overflow_cast-row c = omega (arith, c.type_inv.entries (c.args.start + c.loop-a.
 pub returns-then-marks-row-eq1 : goal.returns-then-marks-row-eq1
 returns-then-marks-row-eq1 c = record { letter = c.loop-a.a; is_letter = c.loop-a-test.true; marked = c.if-marks-row-eq1.true }
 
-pub loop-a-preserved : goal.loop-a-preserved
-loop-a-preserved c =
-    let args = c.args in
-    let loop = c.loop-a in (
-      search rules,
-      below_more _ _ loop.invariant.1
-          (⊎_elim (λ w. w.2.left) (λ w. past args.marks.now (get_or args.entries.now (args.start + loop.a) 0) w.left) c.if-row-marks.branch),
-    )
-
 pub returns : goal.returns
 returns c = λ h. c.loop-a.invariant.1 h.letter (omega (arith, h.is_letter)) h.marked

@@ -3,6 +3,7 @@ use native.Mathlib.Omega.{arith}
 use lib.ListN.{length}
 use Rattle.basics.proofs.Lists.{row_fits}
 use Rattle.marks.proofs.Sweeping.{settled-mark, settled-successor, swept_keep, swept_turn}
+use borrow.Author.Tests.{not-true, not-false}
 use Rattle.marks.proofs.turn_row.Goals as goal
 
 pub returns-then-marks-row : goal.returns-then-marks-row
@@ -21,16 +22,16 @@ has_marked-requires c =
     let start = c in
     row_fits start.args.row (length start.args.marks.now) start.args.letters (length start.args.entries.now) start.requires.0 start.requires.1
 
-pub returns-then-has_marked-to : goal.returns-then-has_marked-to
-returns-then-has_marked-to c =
-    let args = c.args in
-    let found = c.has_marked in
-    swept_keep args.letters args.entries.now args.to args.marks.now args.row
-    (settled-successor args.letters args.entries.now args.to found.result args.marks.now args.row c.if-has_marked-to.true found.ensures)
-
 pub returns : goal.returns
 returns c =
     let start = c in
     let found = c.has_marked in
     swept_turn start.args.letters start.args.entries.now start.args.to found.result start.args.marks.now start.args.row
-    start.requires.0 c.if-marks-row.false c.if-has_marked-to.false found.ensures
+    start.requires.0 c.if-marks-row.false (not-false _ c.if-has_marked-to.false) found.ensures
+
+pub returns-then-has_marked-to : goal.returns-then-has_marked-to
+returns-then-has_marked-to c =
+    let args = c.args in
+    let found = c.has_marked in
+    swept_keep args.letters args.entries.now args.to args.marks.now args.row
+    (settled-successor args.letters args.entries.now args.to found.result args.marks.now args.row (not-true _ c.if-has_marked-to.true) found.ensures)

@@ -96,7 +96,7 @@ module _ (v : ValueStreams) where
             let t = r.0 h.1.1.1.1 in
             let x₂ = (equation-stands (suc x) n a s).0 h.0 in
             let x₃ = (equation-stands (suc (suc x)) m b t).0 h.1.0 in
-            (λ i. elim i [ zero ↦ start.0 h.1.1.0 zero ∙ x₂ zero | suc j ↦ sym (later.0 h.1.1.1.0 j) ∙ x₃ j ], (x₂, (x₃, t))),
+            (λ i. elim i as (λ k. v (n + length (added a)) k ≡ value_from v (fby a b) k) [ zero ↦ start.0 h.1.1.0 zero ∙ x₂ zero | suc j ↦ sym (later.0 h.1.1.1.0 j) ∙ x₃ j ], (x₂, (x₃, t))),
         λ h. (
           (equation-stands (suc x) n a s).1 h.1.0,
           (

@@ -9,9 +9,6 @@ use Rattle.tables.specs.Parts.{AreRows}
 use Rattle.tables.proofs.Parts.{rows_tested}
 use Rattle.tables.proofs.are_rows.Goals as goal
 
-pub loop-i-init : goal.loop-i-init
-loop-i-init c = (omega arith, holds λ i h. absurd (omega arith))
-
 pub loop-i-preserved : goal.loop-i-preserved
 loop-i-preserved c =
     let start = c in

@@ -5,12 +5,6 @@ use Rattle.basics.proofs.Answers.{says_yes, says_no}
 use Rattle.tables.proofs.Parts.{sizes_tested}
 use Rattle.tables.proofs.has_sizes.Goals as goal
 
-pub returns-then-not-rows_fit : goal.returns-then-not-rows_fit
-returns-then-not-rows_fit c = λ sizes. says_no (not-true c.rows_fit.result c.if-not-rows_fit.true) c.rows_fit.ensures (omega (arith, sizes.whole_rows))
-
-pub overflow_mul-result : goal.overflow_mul-result
-overflow_mul-result c = omega (arith, says_yes (not-false c.rows_fit.result c.if-not-rows_fit.false) c.rows_fit.ensures)
-
 pub returns : goal.returns
 returns c =
     let a = c.args in
