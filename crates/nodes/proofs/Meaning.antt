@@ -21,7 +21,7 @@ use Rattle.sheet.specs.Refusal.{magnitude_bound}
 use Rattle.nodes.specs.Code.{operator_code}
 use Rattle.nodes.specs.Postfix.{Node}
 use Rattle.nodes.specs.Bounded.{in_bound, Small, some_value, bounded, evaluated, value_in, stored_value, SmallValue, operator_at}
-use Rattle.nodes.specs.Evaluate.{Nodes, nodes_of, View, places, operator_node, kind_of, left_end, lookup, negated_result, chosen_result, operated, value_by_kind, part_value, node_value}
+use Rattle.nodes.specs.Evaluate.{Nodes, nodes_of, View, places, operator_node, kind_of, left_end, numbered, stream_evaluated, negated_result, chosen_result, operated, value_by_kind, part_value, node_value}
 use Rattle.nodes.specs.declared.Evaluated.{Evaluated}
 use Rattle.nodes.proofs.Evaluate.{value_before-node}
 use Rattle.nodes.proofs.Postfix.{NodeAt, StoredAt, stored_integer, stored_name, stored_first, stored_next, stored_negation, stored_binary, stored_conditional, stored_fby, left_end-stored}
@@ -130,10 +130,10 @@ module _ (N : Nodes) (W : View) (w : Streams) (shows : Shows W w) where
   pub evaluates_node : {n f m p : ℕ} {e : Expression} {z : Value} → StoredAt N n f e m → Evaluates W w f e p z → part_value N W m p ≡ evaluated z
   evaluates_node (stored_integer x) (integer_is {p = p} {z = z}) = by-node p x (ap bounded x.value)
   evaluates_node (stored_name {k = k} x) (name_is {p = p} b q) =
-      by-node p x (ap (lookup W.streams _) x.value ∙ simp (lt-ltb k W.streams b) (ap bounded (shows k p b q)))
+      by-node p x (ap (stream_evaluated W.window W.streams p) x.value ∙ simp (lt-ltb k W.streams b) (ap bounded (shows k p b q)))
   evaluates_node (stored_first s x) (first_is {p = p} t d) = by-node p x (simp t (evaluates_node s d))
   evaluates_node (stored_first {f = f} s x) (first_stored {p = p} t b) =
-      by-node p x (simp t (ap (lookup (length W.firsts) _) x.value ∙ simp (lt-ltb f (length W.firsts) b) (stored-evaluated (get_or W.firsts f (pos 0)))))
+      by-node p x (simp t (ap (numbered W.firsts) x.value ∙ simp (lt-ltb f (length W.firsts) b) (stored-evaluated (get_or W.firsts f (pos 0)))))
   evaluates_node (stored_next s x) (next_is {p = p} b d) = by-node p x (simp (lt-ltb (suc p) (places W) b) (evaluates_node s d))
   evaluates_node (stored_negation s x) (negation_is {p = p} {z = z} d h) = by-node p x (ap negated_result (evaluates_node s d) ∙ negated-evaluated z h)
   evaluates_node (stored_binary {m = m} {o = o} s t x) (binary_is {p = p} {x = u} {y = v} d hd k hk) =

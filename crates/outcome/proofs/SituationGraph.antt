@@ -44,6 +44,7 @@ place_in decide (x ∷ l) t = choose (decide x t) (place_in decide l t)
 
 place_in-member : (decide : Discrete Situation) (l : List Situation) (t d : Situation) → Memᴰ t l → (place_in decide l t < length l) × (get_or l (place_in decide l t) d ≡ t)
 unfolding place_in
+place_in-member decide [] t d m = elim m [ ]
 place_in-member decide (x ∷ l) t d m = go (decide x t) m (place_in-member decide l t d)
   where
     Found : Dec (x ≡ t) → Type 0

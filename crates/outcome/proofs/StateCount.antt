@@ -34,6 +34,7 @@ prefix-length (a ∷ r) w = ap (a ∷◌) (prefix-length r w)
 below-member : (k : ℕ) (r : List ℕ) → AllBelow k r → (n : ℕ) → Memᴰ n r → n < k
 below-member k (a ∷ r) h n (Memᴰ.head e) = rw e h.0
 below-member k (a ∷ r) h n (Memᴰ.tail m) = below-member k r h.1 n m
+below-member k [] h n x'' = elim x'' [ ]
 
 module _ (s : Sheet) {n : ℕ} {entry : ℕ → ℕ → ℕ} {final : ℕ → ℕ} (t : IsTable (SolutionWord s) (letter_count s.streams) n entry final) where
   abbrev situation_at : ℕ → Situation

@@ -23,15 +23,6 @@ returns-then-not-is_inside c =
       ended = ap starts_inside (drop_at c.args.text.now c.loop-i.i c.loop-i-test.true) ∙ sym c.is_inside.ensures ∙ c.if-not-is_inside.true;
     }
 
-pub loop-i-preserved : goal.loop-i-preserved
-loop-i-preserved c =
-    let text = c.args.text.now in
-    let at = c.args.at in
-    let i = c.loop-i.i in
-    let word = between-last text at i c.loop-i.invariant.0 c.loop-i-test.true in
-    let inside : T (is_inside (get_or text i 0)) = subst T c.is_inside.ensures (subst T (sym (not-false c.is_inside.result c.if-not-is_inside.false)) tt) in
-    (omega arith, omega arith, subst (λ l. T (all_bytes is_inside l)) (sym word) (all_bytes-snoc is_inside (between text at i) (get_or text i 0) c.loop-i.invariant.2 inside))
-
 pub returns : goal.returns
 returns c =
     let e = drop-end c.args.text.now in

@@ -15,12 +15,6 @@ overflow_sub-result c =
     let taken-away : pos 0 -ℤ to_z w64 c.args.value ≡ neg_ℤ (pos c.args.value) = ap (λ z. pos 0 -ℤ z) (magnitude) ∙ zero-less c.args.value in
     subst (SFits w64) (sym (taken-away)) (less-fits c.args.value c.requires)
 
-pub returns-then-negative : goal.returns-then-negative
-returns-then-negative c =
-    let magnitude : to_z w64 c.args.value ≡ pos c.args.value = to_z_pos w64 c.args.value (omega arith) in
-    let taken-away : pos 0 -ℤ to_z w64 c.args.value ≡ neg_ℤ (pos c.args.value) = ap (λ z. pos 0 -ℤ z) (magnitude) ∙ zero-less c.args.value in
-    to_z-of_z w64 _ (sub-result c) ∙ taken-away ∙ ap (λ b. with_sign b c.args.value) (sym c.if-negative.true)
-
 pub returns-else-negative : goal.returns-else-negative
 returns-else-negative c =
     let magnitude : to_z w64 c.args.value ≡ pos c.args.value = to_z_pos w64 c.args.value (omega arith) in
