@@ -1,5 +1,5 @@
 -- The envelope of a row of a stored graph: its letters from the first that leads to a live row to the last.
-use Rattle.std.specs.Prelude.{◌≡◌, cond, List, ℕ, ◌+◌, ◌*◌, ◌/◌, ◌%◌, ◌-◌, ◌<◌, ◌≤◌, min, leb, get_or, length}
+use Rattle.std.specs.Prelude.{◌≡◌, cond, List, ℕ, ◌*◌, ◌/◌, ◌%◌, ◌-◌, ◌<◌, ◌≤◌, min, leb, get_or, length}
 use Rattle.marks.specs.Marks.{Marked, target}
 
 -- the first of so many letters with P, or their number where none has it

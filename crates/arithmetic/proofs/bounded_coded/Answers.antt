@@ -9,9 +9,3 @@ pub returns-then-in_bound : goal.returns-then-in_bound
 returns-then-in_bound c =
     let s = c in
     ap coded (bounded_yes s.args.z s.ranges.z (sym c.in_bound.ensures ∙ c.if-in_bound.true))
-
-pub returns-else-in_bound : goal.returns-else-in_bound
-returns-else-in_bound c =
-    let s = c in
-    held-result (record { sfits = c.no_value_coded.type-inv })
-    (c.no_value_coded.ensures ∙ ap coded (bounded_no s.args.z s.ranges.z (sym c.in_bound.ensures ∙ c.if-in_bound.false)))

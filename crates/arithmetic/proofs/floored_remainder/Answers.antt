@@ -6,11 +6,6 @@ use Rattle.arithmetic.proofs.Coded.{held-result}
 use Rattle.arithmetic.proofs.Floored.{division-fits, moved-fits, remainder-moved, remainder-kept}
 use Rattle.arithmetic.proofs.floored_remainder.Goals as goal
 
-pub returns-then-b-eq0 : goal.returns-then-b-eq0
-returns-then-b-eq0 c =
-    let s = c in
-    held-result (record { sfits = c.no_value_coded.type-inv }) (c.no_value_coded.ensures ∙ by_zero floor_rem_z s.args.a s.args.b (bits_false s.args.b s.ranges.b c.if-b-eq0.true))
-
 pub nonzero_rem-a : goal.nonzero_rem-a
 nonzero_rem-a c =
     let s = c in

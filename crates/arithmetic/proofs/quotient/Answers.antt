@@ -11,11 +11,6 @@ nonzero_div-result c = (
   held_fits quot_z c.args.a c.args.b c.ranges.a c.ranges.b (quot_z_fits c.args.a c.args.b c.requires.0 c.requires.1),
 )
 
-pub returns-then-b-eq0 : goal.returns-then-b-eq0
-returns-then-b-eq0 c =
-    let s = c in
-    held-result (record { sfits = c.no_value_coded.type-inv }) (c.no_value_coded.ensures ∙ by_zero quot_z s.args.a s.args.b (bits_false s.args.b s.ranges.b c.if-b-eq0.true))
-
 pub returns-else-b-eq0 : goal.returns-else-b-eq0
 returns-else-b-eq0 c =
     held-exact quot_z c.args.a c.args.b c.ranges.a c.ranges.b (quot_z_fits c.args.a c.args.b c.requires.0 c.requires.1) ∙ by-nonzero quot_z c.args.a c.args.b (bits-nonzero c.args.b c.if-b-eq0.false) (quotient-within c.args.a c.args.b c.requires.0)
