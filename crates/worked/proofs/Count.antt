@@ -22,6 +22,7 @@ use Rattle.outcome.proofs.SheetWords.{record_of_extend}
 use Rattle.worked.proofs.Equality.{is_member, is_member-sound, has_no_repeats, has_no_repeats-sound}
 
 map-member : {X Y : Type 0} (f : X → Y) (l : List X) (y : Y) → Memᴰ y (map f l) → (x : X) × Memᴰ x l × (y ≡ f x)
+map-member {X = X} {Y = Y} f [] y x' = elim x' [ ]
 map-member f (z ∷ l) y (Memᴰ.head e) = (z, Memᴰ.head refl, e)
 map-member f (z ∷ l) y (Memᴰ.tail m) = let r = map-member f l y m in (r.0, Memᴰ.tail r.1, r.2)
 

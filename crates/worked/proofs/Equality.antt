@@ -109,6 +109,7 @@ is_member-sound x (y ∷ ys) t = go (same_situation x y) refl t (is_member-sound
     go false e t rest = Memᴰ.tail (rest t)
 
 is_member-complete : (x : Situation) (l : List Situation) → Memᴰ x l → T (is_member x l)
+is_member-complete x [] x'' = elim x'' [ ]
 is_member-complete x (y ∷ ys) (Memᴰ.head e) = or_left (same_situation x y) (is_member x ys) (same_situation-complete x y e)
 is_member-complete x (y ∷ ys) (Memᴰ.tail m) = or_right (same_situation x y) (is_member x ys) (is_member-complete x ys m)
 

@@ -116,6 +116,7 @@ row-holds r h = go (answer_to (bytes_of r.text)) (answer_correct (bytes_of r.tex
     go (sheet s) c h = counted-holds r c (counts_situations s (found s)) refl h
 
 all-rows : (l : List WorkedSheet) → T (all row_test l) → (r : WorkedSheet) → Memᴰ r l → Holds r
+all-rows [] t r x'' = elim x'' [ ]
 all-rows (x ∷ l) t r (Memᴰ.head e) = subst Holds (sym e) (row-holds x ((T_and (row_test x) (all row_test l)).0 t).0)
 all-rows (x ∷ l) t r (Memᴰ.tail m) = all-rows l ((T_and (row_test x) (all row_test l)).0 t).1 r m
 

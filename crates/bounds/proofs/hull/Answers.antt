@@ -11,7 +11,7 @@ returns-then-usable-2 c =
     let a = c.args.a in
     let b = c.args.b in
     c.range_within.ensures
-    ∙ within_held c.least.result c.greatest.result (record { sfits = c.least.type-inv }) (record { sfits = c.greatest.type-inv })
+    ∙ within_held c.least.result c.greatest.result (record { sfits = c.least.type_inv }) (record { sfits = c.greatest.type_inv })
     (c.least.ensures ∙ held_both least a.low b.low (record { sfits = omega (arith, c.type_inv.a) }) (record { sfits = omega (arith, c.type_inv.b) }))
     (c.greatest.ensures ∙ held_both greatest a.high b.high (record { sfits = omega (arith, c.type_inv.a) }) (record { sfits = omega (arith, c.type_inv.b) }))
     ∙ joined_yes hull a b (sym c.usable.ensures ∙ c.if-usable.true) (sym c.usable-then-usable.ensures ∙ c.if-usable-2.true)

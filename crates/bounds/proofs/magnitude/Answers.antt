@@ -15,5 +15,5 @@ absolute-requires-2 c = let a = c.args.a in let p = usable-parts a c.requires in
 pub returns : goal.returns
 returns c =
     let s = c in
-    to_z-of_z w64 c.greatest.result (record { sfits = c.greatest.type-inv })
-    ∙ most-is s.args.a s.requires (record { sfits = c.absolute.type-inv }) (record { sfits = c.absolute-2.type-inv }) c.absolute.ensures c.absolute-2.ensures c.greatest.ensures
+    to_z-of_z w64 c.greatest.result (record { sfits = c.greatest.type_inv })
+    ∙ most-is s.args.a s.requires (record { sfits = c.absolute.type_inv }) (record { sfits = c.absolute-2.type_inv }) c.absolute.ensures c.absolute-2.ensures c.greatest.ensures

@@ -5,4 +5,4 @@ use Rattle.bounds.proofs.remainder_bound.Goals as goal
 pub returns : goal.returns
 returns c =
     let s = c in
-    bound-is s.args.a s.args.b s.requires.0 s.requires.1 c.magnitude.ensures c.magnitude_less_one.ensures (record { sfits = c.least.type-inv }) c.least.ensures
+    bound-is s.args.a s.args.b s.requires.0 s.requires.1 c.magnitude.ensures c.magnitude_less_one.ensures (record { sfits = c.least.type_inv }) c.least.ensures

@@ -9,8 +9,8 @@ pub returns : goal.returns
 returns c =
     let s = c in
     c.range_within.ensures
-    ∙ within_held c.least-3.result c.greatest-3.result (record { sfits = c.least-3.type-inv }) (record { sfits = c.greatest-3.type-inv })
-    (c.least-3.ensures ∙ held_both least c.least.result c.least-2.result (record { sfits = c.least.type-inv }) (record { sfits = c.least-2.type-inv })
+    ∙ within_held c.least-3.result c.greatest-3.result (record { sfits = c.least-3.type_inv }) (record { sfits = c.greatest-3.type_inv })
+    (c.least-3.ensures ∙ held_both least c.least.result c.least-2.result (record { sfits = c.least.type_inv }) (record { sfits = c.least-2.type_inv })
     ∙ ap₂ least (c.least.ensures ∙ held_both least s.args.p s.args.q s.ranges.p s.ranges.q) (c.least-2.ensures ∙ held_both least s.args.r s.args.s s.ranges.r s.ranges.s))
-    (c.greatest-3.ensures ∙ held_both greatest c.greatest.result c.greatest-2.result (record { sfits = c.greatest.type-inv }) (record { sfits = c.greatest-2.type-inv })
+    (c.greatest-3.ensures ∙ held_both greatest c.greatest.result c.greatest-2.result (record { sfits = c.greatest.type_inv }) (record { sfits = c.greatest-2.type_inv })
     ∙ ap₂ greatest (c.greatest.ensures ∙ held_both greatest s.args.p s.args.q s.ranges.p s.ranges.q) (c.greatest-2.ensures ∙ held_both greatest s.args.r s.args.s s.ranges.r s.ranges.s))

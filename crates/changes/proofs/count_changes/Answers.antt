@@ -20,7 +20,7 @@ makes-requires c = tt
 
 pub returns-then-not-makes : goal.returns-then-not-makes
 returns-then-not-makes c =
-    let no = says_no (not-true c.makes.result c.if-not-makes.true) c.makes.ensures in
+    let no = says_no c.if-not-makes.true c.makes.ensures in
     record { same_length = refl; counted = λ e l b h. absurd (no (omega arith, e)); kept = λ n. refl }
 
 pub returns-then-row-letter : goal.returns-then-row-letter
@@ -46,7 +46,7 @@ value_count-size-requires c = omega (arith, c.fewer-stream.ensures)
 pub nonzero_div-own : goal.nonzero_div-own
 nonzero_div-own c =
     let all : let a = c.args in (0 < length a.row.now) × (before a.shape c.fewer-stream.result ≡ length a.row.now) = (let made = c.makes in
-    let m = says_yes (not-false made.result c.if-not-makes.false) made.ensures in
+    let m = says_yes c.if-not-makes.false made.ensures in
     (m.0, ap (before c.args.shape) c.fewer-stream.ensures ∙ m.1)) in
     let a = c.args in
     let turn = c.loop-stream in
@@ -56,7 +56,7 @@ nonzero_div-own c =
 pub nonzero_rem-own : goal.nonzero_rem-own
 nonzero_rem-own c =
     let all : let a = c.args in (0 < length a.row.now) × (before a.shape c.fewer-stream.result ≡ length a.row.now) = (let made = c.makes in
-    let m = says_yes (not-false made.result c.if-not-makes.false) made.ensures in
+    let m = says_yes c.if-not-makes.false made.ensures in
     (m.0, ap (before c.args.shape) c.fewer-stream.ensures ∙ m.1)) in
     let a = c.args in
     let turn = c.loop-stream in
@@ -69,7 +69,7 @@ is_set-requires c = omega (arith, c.fewer-stream.ensures)
 pub spread_stream-requires : goal.spread_stream-requires
 spread_stream-requires c =
     let all : let a = c.args in (0 < length a.row.now) × (before a.shape c.fewer-stream.result ≡ length a.row.now) = (let made = c.makes in
-    let m = says_yes (not-false made.result c.if-not-makes.false) made.ensures in
+    let m = says_yes c.if-not-makes.false made.ensures in
     (m.0, ap (before c.args.shape) c.fewer-stream.ensures ∙ m.1)) in
     let whole : let start = c in
     length start.args.row.now ≡ before start.args.shape (c.loop-stream.stream - 1) * (c.value_count-size.result * c.loop-stream.stride) = (let a = c.args in
@@ -89,7 +89,7 @@ spread_stream-requires c =
 pub overflow_mul-stride : goal.overflow_mul-stride
 overflow_mul-stride c =
     let all : let a = c.args in (0 < length a.row.now) × (before a.shape c.fewer-stream.result ≡ length a.row.now) = (let made = c.makes in
-    let m = says_yes (not-false made.result c.if-not-makes.false) made.ensures in
+    let m = says_yes c.if-not-makes.false made.ensures in
     (m.0, ap (before c.args.shape) c.fewer-stream.ensures ∙ m.1)) in
     let whole : let start = c in
     length start.args.row.now ≡ before start.args.shape (c.loop-stream.stream - 1) * (c.value_count-size.result * c.loop-stream.stride) = (let a = c.args in
@@ -109,7 +109,7 @@ loop-stream-smaller c = omega arith
 pub loop-stream-preserved : goal.loop-stream-preserved
 loop-stream-preserved c =
     let all : let a = c.args in (0 < length a.row.now) × (before a.shape c.fewer-stream.result ≡ length a.row.now) = (let made = c.makes in
-    let m = says_yes (not-false made.result c.if-not-makes.false) made.ensures in
+    let m = says_yes c.if-not-makes.false made.ensures in
     (m.0, ap (before c.args.shape) c.fewer-stream.ensures ∙ m.1)) in
     let up = c in
     let a = up.args in
@@ -131,7 +131,7 @@ loop-stream-preserved c =
 pub returns : goal.returns
 returns c =
     let all : let a = c.args in (0 < length a.row.now) × (before a.shape c.fewer-stream.result ≡ length a.row.now) = (let made = c.makes in
-    let m = says_yes (not-false made.result c.if-not-makes.false) made.ensures in
+    let m = says_yes c.if-not-makes.false made.ensures in
     (m.0, ap (before c.args.shape) c.fewer-stream.ensures ∙ m.1)) in
     let a = c.args in
     let turn = c.loop-stream in

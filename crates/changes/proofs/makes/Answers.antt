@@ -37,10 +37,10 @@ returns-then-not-rows_fit c m =
     let j = c.loop-stream.stream - 1 in
     let all : before shape n ≡ c.args.letters = ap (before shape) c.fewer-stream.ensures ∙ m.1 in
     let most = later-most shape n j (omega arith) (omega (arith, all, m.0)) in
-    says_no (not-true c.rows_fit.result c.if-not-rows_fit.true) c.rows_fit.ensures (omega (arith, more, most, all))
+    says_no c.if-not-rows_fit.true c.rows_fit.ensures (omega (arith, more, most, all))
 
 pub overflow_mul-made : goal.overflow_mul-made
-overflow_mul-made c = omega (arith, says_yes (not-false c.rows_fit.result c.if-not-rows_fit.false) c.rows_fit.ensures)
+overflow_mul-made c = omega (arith, says_yes c.if-not-rows_fit.false c.rows_fit.ensures)
 
 pub loop-stream-smaller : goal.loop-stream-smaller
 loop-stream-smaller c = omega arith

@@ -28,11 +28,11 @@ returns-then-not-can_be_counted c =
     (λ h.
     let passed : IsWellFormed a.letters a.entries.now a.finals.now × (a.most < length clear.new.0) × (a.most < length final-clear.new.0) =
     (h.well_formed, omega (arith, h.fits, clear.auto.0), omega (arith, h.final_fits, final-clear.auto.0)) in
-    says_no (not-true c.can_be_counted.result c.if-not-can_be_counted.true) c.can_be_counted.ensures passed)
+    says_no c.if-not-can_be_counted.true c.can_be_counted.ensures passed)
     clear.ensures final-clear.ensures
 
 pub count_rows-requires : goal.count_rows-requires
-count_rows-requires c = says_yes (not-false c.can_be_counted.result c.if-not-can_be_counted.false) c.can_be_counted.ensures
+count_rows-requires c = says_yes c.if-not-can_be_counted.false c.can_be_counted.ensures
 
 pub are_bounded-requires : goal.are_bounded-requires
 are_bounded-requires c = tt
@@ -41,7 +41,7 @@ pub returns-then-are_bounded : goal.returns-then-are_bounded
 returns-then-are_bounded c =
     let formed : let a = c.args in IsWellFormed a.letters a.entries.now a.finals.now × (a.most < length a.figures.now) × (a.most < length a.final-figures.now) = (let a = c.args in
     let passed : IsWellFormed a.letters a.entries.now a.finals.now × (a.most < length c.clear_figures.new.list) × (a.most < length c.clear_figures-2.new.list) =
-    says_yes (not-false c.can_be_counted.result c.if-not-can_be_counted.false) c.can_be_counted.ensures in
+    says_yes c.if-not-can_be_counted.false c.can_be_counted.ensures in
     (passed.0, omega (arith, passed.1, c.clear_figures.auto.0), omega (arith, passed.2, c.clear_figures-2.auto.0))) in
     let a = c.args in
     let counted = c.count_rows.ensures in
@@ -58,7 +58,7 @@ pub returns : goal.returns
 returns c =
     let formed : let a = c.args in IsWellFormed a.letters a.entries.now a.finals.now × (a.most < length a.figures.now) × (a.most < length a.final-figures.now) = (let a = c.args in
     let passed : IsWellFormed a.letters a.entries.now a.finals.now × (a.most < length c.clear_figures.new.list) × (a.most < length c.clear_figures-2.new.list) =
-    says_yes (not-false c.can_be_counted.result c.if-not-can_be_counted.false) c.can_be_counted.ensures in
+    says_yes c.if-not-can_be_counted.false c.can_be_counted.ensures in
     (passed.0, omega (arith, passed.1, c.clear_figures.auto.0), omega (arith, passed.2, c.clear_figures-2.auto.0))) in
     let a = c.args in
     let rows = c.count_rows in

@@ -78,7 +78,7 @@ loop-letter-preserved c =
     let total : c.total_cost-total.result ≡ total_cost (first turn.letter) (behind t a.costs.now a.row turn.letter) =
     c.total_cost-total.ensures ∙ ap (total_cost (first turn.letter)) cost in
     let small : behind t a.costs.now a.row turn.letter ≢ no_course → total_cost (first turn.letter) (behind t a.costs.now a.row turn.letter) < 131072 =
-    λ ne. total-small (first turn.letter) (behind t a.costs.now a.row turn.letter) (omega (arith, c.type_inv.changes turn.letter)) (omega (arith, cost, up.cost_behind-cost.type-inv)) ne in (
+    λ ne. total-small (first turn.letter) (behind t a.costs.now a.row turn.letter) (omega (arith, c.type_inv.changes turn.letter)) (omega (arith, cost, up.cost_behind-cost.type_inv)) ne in (
       omega arith,
       ⊎_elim
           (λ w. subst (λ (n : ℕ). IsFirstLeast t a.costs.now first a.row (turn.letter + 1) n c.if-total-least.least) (sym w.1) (subst (λ (n : ℕ). IsFirstLeast t a.costs.now first a.row (turn.letter + 1) turn.letter n) (sym (w.2 ∙ total))

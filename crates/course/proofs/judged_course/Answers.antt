@@ -15,41 +15,41 @@ use Rattle.course.proofs.judged_course.Goals as goal
 pub returns-then-not-is_fit : goal.returns-then-not-is_fit
 returns-then-not-is_fit c =
     outcome-refused c.refused.ensures c.requires
-    (unfit (says_no (not-true c.is_fit.result c.if-not-is_fit.true) c.is_fit.ensures))
+    (unfit (says_no c.if-not-is_fit.true c.is_fit.ensures))
 
 pub overflow_cast-state : goal.overflow_cast-state
 overflow_cast-state c =
-    let fit : let a = c.args in IsFit a.letters a.entries.now a.finals.now a.streams a.state = says_yes (not-false c.is_fit.result c.if-not-is_fit.false) c.is_fit.ensures in
+    let fit : let a = c.args in IsFit a.letters a.entries.now a.finals.now a.streams a.state = says_yes c.if-not-is_fit.false c.is_fit.ensures in
     let few : length c.args.finals.now ≤ most_rows = (fit).state.well_formed.whole.few_rows in
     omega (arith, few, (fit).state.is_row)
 
 pub slice_bounds-layers-end : goal.slice_bounds-layers-end
 slice_bounds-layers-end c =
-    let fit : let a = c.args in IsFit a.letters a.entries.now a.finals.now a.streams a.state = says_yes (not-false c.is_fit.result c.if-not-is_fit.false) c.is_fit.ensures in
+    let fit : let a = c.args in IsFit a.letters a.entries.now a.finals.now a.streams a.state = says_yes c.if-not-is_fit.false c.is_fit.ensures in
     let few : length c.args.finals.now ≤ most_rows = (fit).state.well_formed.whole.few_rows in
     few
 
 pub slice_bounds-find_course-end : goal.slice_bounds-find_course-end
 slice_bounds-find_course-end c =
-    let fit : let a = c.args in IsFit a.letters a.entries.now a.finals.now a.streams a.state = says_yes (not-false c.is_fit.result c.if-not-is_fit.false) c.is_fit.ensures in
+    let fit : let a = c.args in IsFit a.letters a.entries.now a.finals.now a.streams a.state = says_yes c.if-not-is_fit.false c.is_fit.ensures in
     let few : length c.args.finals.now ≤ most_rows = (fit).state.well_formed.whole.few_rows in
     sym (filled-length (length c.args.finals.now) most_rows not_met (few))
 
 pub slice_bounds-queue-end : goal.slice_bounds-queue-end
 slice_bounds-queue-end c =
-    let fit : let a = c.args in IsFit a.letters a.entries.now a.finals.now a.streams a.state = says_yes (not-false c.is_fit.result c.if-not-is_fit.false) c.is_fit.ensures in
+    let fit : let a = c.args in IsFit a.letters a.entries.now a.finals.now a.streams a.state = says_yes c.if-not-is_fit.false c.is_fit.ensures in
     let few : length c.args.finals.now ≤ most_rows = (fit).state.well_formed.whole.few_rows in
     few
 
 pub slice_bounds-find_course-end-2 : goal.slice_bounds-find_course-end-2
 slice_bounds-find_course-end-2 c =
-    let fit : let a = c.args in IsFit a.letters a.entries.now a.finals.now a.streams a.state = says_yes (not-false c.is_fit.result c.if-not-is_fit.false) c.is_fit.ensures in
+    let fit : let a = c.args in IsFit a.letters a.entries.now a.finals.now a.streams a.state = says_yes c.if-not-is_fit.false c.is_fit.ensures in
     let few : length c.args.finals.now ≤ most_rows = (fit).state.well_formed.whole.few_rows in
     sym (filled-length (length c.args.finals.now) most_rows 0 (few))
 
 pub find_course-requires : goal.find_course-requires
 find_course-requires c =
-    let fit : let a = c.args in IsFit a.letters a.entries.now a.finals.now a.streams a.state = says_yes (not-false c.is_fit.result c.if-not-is_fit.false) c.is_fit.ensures in
+    let fit : let a = c.args in IsFit a.letters a.entries.now a.finals.now a.streams a.state = says_yes c.if-not-is_fit.false c.is_fit.ensures in
     let few : length c.args.finals.now ≤ most_rows = (fit).state.well_formed.whole.few_rows in
     let start = c in
     let up = c in
@@ -67,6 +67,6 @@ find_course-requires c =
 
 pub returns : goal.returns
 returns c =
-    let fit : let a = c.args in IsFit a.letters a.entries.now a.finals.now a.streams a.state = says_yes (not-false c.is_fit.result c.if-not-is_fit.false) c.is_fit.ensures in
+    let fit : let a = c.args in IsFit a.letters a.entries.now a.finals.now a.streams a.state = says_yes c.if-not-is_fit.false c.is_fit.ensures in
     let start = c in
     c.find_course.ensures start.args.streams c.shape_of.ensures (fit)

@@ -110,7 +110,7 @@ returns t c =
     let m = c.before.before.before.shifted.ensures in
     let d = c.before.before.before.shifted.result.end in
     let q = c.before.before.before.shifted.result.place in
-    held-result (record { sfits = c.leaf.type-inv })
+    held-result (record { sfits = c.leaf.type_inv })
     (c.leaf.ensures ∙ ap coded (leaf_before (nodes t s) (seen t s) q d (sym c.before.before.is_IsLeaf.ensures ∙ c.before.if1.true) ∙ m.moved.same_value (nodes t s) (seen t s) refl s.requires.1.count_places))
 
 sub-i : Each lts.Need-overflow-sub-i
@@ -376,7 +376,7 @@ returns-2 t c =
     let d = c.before.before.before.before.before.before.before.before.shifted.result.end in
     let q = c.before.before.before.before.before.before.before.before.shifted.result.place in
     let n = not_leaf s.args.kinds.now d (sym c.before.before.before.before.before.before.before.is_IsLeaf.ensures ∙ c.before.before.before.before.before.before.if1.false) in
-    held-result (record { sfits = c.leaf2.type-inv })
+    held-result (record { sfits = c.leaf2.type_inv })
     (c.leaf2.ensures ∙ ap coded (leaf_before (nodes t s) (seen t s) 0 (d - 1) (sym c.before.before.is-leaf2.ensures ∙ c.before.if3.true) ∙ first_arm (nodes t s) (seen t s) q d n.0 c.before.before.before.before.match.keys1 c.before.before.before.if2.true ∙ m.moved.same_value (nodes t s) (seen t s) refl s.requires.1.count_places))
 
 returns-3 : Each lts.Need-returns-3
@@ -386,7 +386,7 @@ returns-3 t c =
     let d = c.before.before.before.before.before.before.before.before.shifted.result.end in
     let q = c.before.before.before.before.before.before.before.before.shifted.result.place in
     let n = not_leaf s.args.kinds.now d (sym c.before.before.before.before.before.before.before.is_IsLeaf.ensures ∙ c.before.before.before.before.before.before.if1.false) in
-    held-result (record { sfits = c.value-before.type-inv })
+    held-result (record { sfits = c.value-before.type_inv })
     (c.value-before.ensures ∙ ap coded (first_arm (nodes t s) (seen t s) q d n.0 c.before.before.before.before.match.keys1 c.before.before.before.if2.true ∙ m.moved.same_value (nodes t s) (seen t s) refl s.requires.1.count_places))
 
 returns-4 : Each lts.Need-returns-4
@@ -396,7 +396,7 @@ returns-4 t c =
     let d = c.before.before.before.before.before.before.before.shifted.result.end in
     let q = c.before.before.before.before.before.before.before.shifted.result.place in
     let n = not_leaf s.args.kinds.now d (sym c.before.before.before.before.before.before.is_IsLeaf.ensures ∙ c.before.before.before.before.before.if1.false) in
-    held-result (record { sfits = c.numbered.type-inv })
+    held-result (record { sfits = c.numbered.type_inv })
     (c.numbered.ensures ∙ ap coded (stored_arm (nodes t s) (seen t s) q d n.0 (record { sfits = omega (arith, c.before.numbered-arg.given) }) c.before.before.before.match.keys1 c.before.before.if2.false ∙ m.moved.same_value (nodes t s) (seen t s) refl s.requires.1.count_places))
 
 returns-5 : Each lts.Need-returns-5
@@ -406,7 +406,7 @@ returns-5 t c =
     let d = c.before.before.before.before.before.shifted.result.end in
     let q = c.before.before.before.before.before.shifted.result.place in
     let n = not_leaf s.args.kinds.now d (sym c.before.before.before.before.is_IsLeaf.ensures ∙ c.before.before.before.if1.false) in
-    held-result (record { sfits = c.no-value-coded.type-inv })
+    held-result (record { sfits = c.no-value-coded.type_inv })
     (c.no-value-coded.ensures ∙ ap coded (next-none_arm (nodes t s) (seen t s) q d n.0 c.before.match.keys2 s.requires.1.count_places (m.next_last n.0 c.before.match.keys2) ∙ m.moved.same_value (nodes t s) (seen t s) refl s.requires.1.count_places))
 
 returns-6 : Each lts.Need-returns-6
@@ -417,10 +417,10 @@ returns-6 t c =
     let q = c.before.before.before.before.before.before.before.shifted.result.place in
     let n = not_leaf s.args.kinds.now d (sym c.before.before.before.before.before.before.is_IsLeaf.ensures ∙ c.before.before.before.before.before.if1.false) in
     let negations = c.before.before.negations in
-    held-result (record { sfits = c.negated-by.type-inv })
+    held-result (record { sfits = c.negated-by.type_inv })
     (c.negated-by.ensures
     ∙ ap coded
-    (ap (negated_by negations.result.again) (held-before (nodes t s) (seen t s) negations.result.end q (record { sfits = c.before.value-before2.type-inv }) c.before.value-before2.ensures)
+    (ap (negated_by negations.result.again) (held-before (nodes t s) (seen t s) negations.result.end q (record { sfits = c.before.value-before2.type_inv }) c.before.value-before2.ensures)
     ∙ negations.ensures.same_value (nodes t s) (seen t s) q refl
     ∙ negation_arm (nodes t s) (seen t s) q d n.0 c.before.before.before.match.keys3 refl
     ∙ m.moved.same_value (nodes t s) (seen t s) refl s.requires.1.count_places))
@@ -440,7 +440,7 @@ returns-7 t c =
     (λ w. ap (λ e. part_value (nodes t s) (seen t s) e q) w.1 ∙ then_arm (nodes t s) (seen t s) q d n.0 c.before.before.before.before.before.before.before.before.before.before.before.before.before.match.keys4 c.before.before.before.before.before.before.before.before.before.before.before.left_end.ensures c.before.before.before.before.before.before.before.before.before.left-end2.ensures (value_there (to_z w64 c.before.before.before.before.before.before.before.if4.test) test (sym c.before.before.before.before.before.before.in-bound.ensures ∙ c.before.before.before.before.before.if5.true)) refl (sym c.before.before.before.before.nonzero.ensures ∙ w.0.taken))
     (λ w. ap (λ e. part_value (nodes t s) (seen t s) e q) w.1 ∙ else_arm (nodes t s) (seen t s) q d n.0 c.before.before.before.before.before.before.before.before.before.before.before.before.before.match.keys4 c.before.before.before.before.before.before.before.before.before.before.before.left_end.ensures c.before.before.before.before.before.before.before.before.before.left-end2.ensures (value_there (to_z w64 c.before.before.before.before.before.before.before.if4.test) test (sym c.before.before.before.before.before.before.in-bound.ensures ∙ c.before.before.before.before.before.if5.true)) refl (sym c.before.before.before.before.nonzero.ensures ∙ w.0.left))
     c.before.before.before.if6.branch in
-    held-result (record { sfits = c.leaf4.type-inv })
+    held-result (record { sfits = c.leaf4.type_inv })
     (c.leaf4.ensures ∙ ap coded (leaf_before (nodes t s) (seen t s) q c.before.before.before.if6.branch (sym c.before.before.is-leaf4.ensures ∙ c.before.if7.true) ∙ branch ∙ m.moved.same_value (nodes t s) (seen t s) refl s.requires.1.count_places))
 
 returns-8 : Each lts.Need-returns-8
@@ -458,7 +458,7 @@ returns-8 t c =
     (λ w. ap (λ e. part_value (nodes t s) (seen t s) e q) w.1 ∙ then_arm (nodes t s) (seen t s) q d n.0 c.before.before.before.before.before.before.before.before.before.before.before.before.before.match.keys4 c.before.before.before.before.before.before.before.before.before.before.before.left_end.ensures c.before.before.before.before.before.before.before.before.before.left-end2.ensures (value_there (to_z w64 c.before.before.before.before.before.before.before.if4.test) test (sym c.before.before.before.before.before.before.in-bound.ensures ∙ c.before.before.before.before.before.if5.true)) refl (sym c.before.before.before.before.nonzero.ensures ∙ w.0.taken))
     (λ w. ap (λ e. part_value (nodes t s) (seen t s) e q) w.1 ∙ else_arm (nodes t s) (seen t s) q d n.0 c.before.before.before.before.before.before.before.before.before.before.before.before.before.match.keys4 c.before.before.before.before.before.before.before.before.before.before.before.left_end.ensures c.before.before.before.before.before.before.before.before.before.left-end2.ensures (value_there (to_z w64 c.before.before.before.before.before.before.before.if4.test) test (sym c.before.before.before.before.before.before.in-bound.ensures ∙ c.before.before.before.before.before.if5.true)) refl (sym c.before.before.before.before.nonzero.ensures ∙ w.0.left))
     c.before.before.before.if6.branch in
-    held-result (record { sfits = c.value-before4.type-inv })
+    held-result (record { sfits = c.value-before4.type_inv })
     (c.value-before4.ensures ∙ ap coded (branch ∙ m.moved.same_value (nodes t s) (seen t s) refl s.requires.1.count_places))
 
 returns-9 : Each lts.Need-returns-9
@@ -472,7 +472,7 @@ returns-9 t c =
     (⊎_elim
     (λ w. leaf_operand (nodes t s) (seen t s) q c.before.before.before.before.before.left-end2.result (record { sfits = w.1.ok }) w.2 c.before.before.before.before.is-leaf3.ensures w.0.taken w.1.ensures)
     (λ w. part_operand (nodes t s) (seen t s) q c.before.before.before.before.before.left-end2.result (record { sfits = w.1.ok }) w.2 w.1.ensures) c.before.before.before.if4.branch) in
-    held-result (record { sfits = c.no-value-coded2.type-inv })
+    held-result (record { sfits = c.no-value-coded2.type_inv })
     (c.no-value-coded2.ensures ∙ ap coded (untested_arm (nodes t s) (seen t s) q d n.0 c.before.before.before.before.before.before.before.before.before.match.keys4 c.before.before.before.before.before.before.before.left_end.ensures c.before.before.before.before.before.left-end2.ensures (value-missing (to_z w64 c.before.before.before.if4.test) test (sym c.before.before.in-bound.ensures ∙ c.before.if5.false)) refl ∙ m.moved.same_value (nodes t s) (seen t s) refl s.requires.1.count_places))
 
 returns-10 : Each lts.Need-returns-10
@@ -482,7 +482,7 @@ returns-10 t c =
     let d = c.before.before.before.before.before.before.before.before.shifted.result.end in
     let q = c.before.before.before.before.before.before.before.before.shifted.result.place in
     let n = not_leaf s.args.kinds.now d (sym c.before.before.before.before.before.before.before.is_IsLeaf.ensures ∙ c.before.before.before.before.before.before.if1.false) in
-    held-result (record { sfits = c.value-before5.type-inv })
+    held-result (record { sfits = c.value-before5.type_inv })
     (c.value-before5.ensures ∙ ap coded (fby-left_arm (nodes t s) (seen t s) q d n.0 c.before.before.before.before.match.keys5 (m.fby_first n.0 c.before.before.before.before.match.keys5) c.before.before.before.if8.true c.before.left-end3.ensures ∙ m.moved.same_value (nodes t s) (seen t s) refl s.requires.1.count_places))
 
 returns-11 : Each lts.Need-returns-11
@@ -502,7 +502,7 @@ returns-12 t c =
     let q = c.before.before.before.before.before.before.before.before.before.before.before.shifted.result.place in
     let n = not_leaf s.args.kinds.now d (sym c.before.before.before.before.before.before.before.before.before.before.is_IsLeaf.ensures ∙ c.before.before.before.before.before.before.before.before.before.if1.false) in
     let rest = c.before.before.before.before.before.before.before.match.rest in
-    held-result (record { sfits = c.apply-coded.type-inv })
+    held-result (record { sfits = c.apply-coded.type_inv })
     (c.apply-coded.ensures ∙ ap coded
     (operator_arm (nodes t s) (seen t s) q d n.0
     (later (later (later (later (later n.1 rest.0.0.0.0.1) rest.0.0.0.1) rest.0.0.1) rest.0.1) rest.1)

@@ -20,13 +20,13 @@ pub returns-then-root-ge1024 : goal.returns-then-root-ge1024
 returns-then-root-ge1024 c =
     let arrays : HasArrays (nodes c) = record { kinds = c.kind_list-1.given.0; values = c.value_list-1.given.0; starts = c.start_list-1.given.0 } in
     let s = c in
-    held-result (record { sfits = c.no_value_coded.type-inv }) (c.no_value_coded.ensures ∙ ap coded (no_node (arrays) (seen s) s.args.root s.args.place c.if-root-ge1024.true))
+    held-result (record { sfits = c.no_value_coded.type_inv }) (c.no_value_coded.ensures ∙ ap coded (no_node (arrays) (seen s) s.args.root s.args.place c.if-root-ge1024.true))
 
 pub returns-then-count-place : goal.returns-then-count-place
 returns-then-count-place c =
     let arrays : HasArrays (nodes c) = record { kinds = c.kind_list-1.given.0; values = c.value_list-1.given.0; starts = c.start_list-1.given.0 } in
     let s = c in
-    held-result (record { sfits = c.no_value_coded-then-count-place.type-inv })
+    held-result (record { sfits = c.no_value_coded-then-count-place.type_inv })
     (c.no_value_coded-then-count-place.ensures ∙ ap coded (no_place (arrays) (seen s) s.args.root s.args.place c.if-root-ge1024.false c.places-count.ensures c.if-count-place.true))
 
 pub returns-then-is_leaf : goal.returns-then-is_leaf
@@ -38,7 +38,7 @@ returns-then-is_leaf c =
     let q = c.shifted-inner.result.place in
     let root = m.moved.same_value (nodes s) (seen s) refl c.places-count.ensures
     ∙ root_value (arrays) (seen s) s.args.root s.args.place c.if-root-ge1024.false c.places-count.ensures c.if-count-place.false in
-    held-result (record { sfits = c.leaf.type-inv })
+    held-result (record { sfits = c.leaf.type_inv })
     (c.leaf.ensures ∙ ap coded (leaf_before (nodes s) (seen s) q d (sym c.is_IsLeaf.ensures ∙ c.if-is_leaf.true) ∙ root))
 
 pub overflow_sub-i : goal.overflow_sub-i
@@ -60,9 +60,9 @@ returns-then-not-whole c =
     let n = not_leaf s.args.kinds.now d (sym c.is_IsLeaf.ensures ∙ c.if-is_leaf.false) in
     let root = m.moved.same_value (nodes s) (seen s) refl c.places-count.ensures
     ∙ root_value (arrays) (seen s) s.args.root s.args.place c.if-root-ge1024.false c.places-count.ensures c.if-count-place.false in
-    held-result (record { sfits = c.numbered.type-inv })
+    held-result (record { sfits = c.numbered.type_inv })
     (c.numbered.ensures
-    ∙ ap coded (stored_arm (nodes s) (seen s) q d n.0 (record { sfits = omega (arith, c.numbered-arg-1.given) }) c.if-kinds-i-eq-FIRST_NODE.true (not-true s.args.whole c.if-not-whole.true) ∙ root))
+    ∙ ap coded (stored_arm (nodes s) (seen s) q d n.0 (record { sfits = omega (arith, c.numbered-arg-1.given) }) c.if-kinds-i-eq-FIRST_NODE.true c.if-not-whole.true ∙ root))
 
 pub returns : goal.returns
 returns c =
@@ -71,4 +71,4 @@ returns c =
     let m = c.shifted-inner.ensures in
     let root = m.moved.same_value (nodes s) (seen s) refl c.places-count.ensures
     ∙ root_value (arrays) (seen s) s.args.root s.args.place c.if-root-ge1024.false c.places-count.ensures c.if-count-place.false in
-    held-result (record { sfits = c.value_before.type-inv }) (c.value_before.ensures ∙ ap coded root)
+    held-result (record { sfits = c.value_before.type_inv }) (c.value_before.ensures ∙ ap coded root)

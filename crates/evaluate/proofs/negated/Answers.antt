@@ -8,11 +8,11 @@ use Rattle.evaluate.proofs.negated.Goals as goal
 pub returns-then-in_bound : goal.returns-then-in_bound
 returns-then-in_bound c =
     let s = c in
-    held-result (record { sfits = c.bit.type-inv })
+    held-result (record { sfits = c.bit.type_inv })
     (c.bit.ensures ∙ negated-there s.args.a s.ranges.a (held_test s.args.a s.ranges.a c.in_bound.ensures c.if-in_bound.true) c.nonzero.ensures)
 
 pub returns-else-in_bound : goal.returns-else-in_bound
 returns-else-in_bound c =
     let s = c in
-    held-result (record { sfits = c.no_value_coded.type-inv })
+    held-result (record { sfits = c.no_value_coded.type_inv })
     (c.no_value_coded.ensures ∙ negated-missing s.args.a s.ranges.a (held_test s.args.a s.ranges.a c.in_bound.ensures c.if-in_bound.false))

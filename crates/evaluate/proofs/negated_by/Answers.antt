@@ -15,13 +15,13 @@ pub returns-then-again : goal.returns-then-again
 returns-then-again c =
     let s = c in
     let a : ℤ = held s.args.a in
-    held-result (record { sfits = c.negated.type-inv })
+    held-result (record { sfits = c.negated.type_inv })
     (c.negated.ensures
-    ∙ ap (λ v. coded (negated_result v)) (held_decoded (negated_result (bounded a)) (record { sfits = c.negated-once.type-inv }) c.negated-once.ensures (decodes_negated (bounded a)))
+    ∙ ap (λ v. coded (negated_result v)) (held_decoded (negated_result (bounded a)) (record { sfits = c.negated-once.type_inv }) c.negated-once.ensures (decodes_negated (bounded a)))
     ∙ ap (λ z. coded (negated_result (negated_result (bounded z)))) (to_z-of_z w64 s.args.a s.ranges.a)
     ∙ sym (simp c.if-again.true))
 
 pub returns-else-again : goal.returns-else-again
 returns-else-again c =
     let s = c in
-    held-result (record { sfits = c.negated-once.type-inv }) (c.negated-once.ensures ∙ ap (λ z. coded (negated_result (bounded z))) (to_z-of_z w64 s.args.a s.ranges.a) ∙ sym (simp c.if-again.false))
+    held-result (record { sfits = c.negated-once.type_inv }) (c.negated-once.ensures ∙ ap (λ z. coded (negated_result (bounded z))) (to_z-of_z w64 s.args.a s.ranges.a) ∙ sym (simp c.if-again.false))

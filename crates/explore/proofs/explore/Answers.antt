@@ -12,23 +12,23 @@ use Rattle.explore.proofs.SizeLaws.{sizes-ready, sizes-lent-tables, not-ready, n
 use Rattle.explore.proofs.explore.Goals as goal
 
 pub returns-then-not-is_ready : goal.returns-then-not-is_ready
-returns-then-not-is_ready c = not-ready _ _ _ _ (says_no (not-true c.is_ready.result c.if-not-is_ready.true) c.is_ready.ensures)
+returns-then-not-is_ready c = not-ready _ _ _ _ (says_no c.if-not-is_ready.true c.is_ready.ensures)
 
 pub returns-then-not-is_lent : goal.returns-then-not-is_lent
-returns-then-not-is_lent c = not-lent _ _ _ _ (says_no (not-true c.is_lent.result c.if-not-is_lent.true) c.is_lent.ensures)
+returns-then-not-is_lent c = not-lent _ _ _ _ (says_no c.if-not-is_lent.true c.is_lent.ensures)
 
 pub every_mark-every-requires : goal.every_mark-every-requires
 every_mark-every-requires c =
     let store : Store = (let a = c.args in
     store_of a.kinds.now a.values.now a.starts.now a.relations.now a.lefts.now a.rights.now a.first_nodes.now a.letter_values.now a.streams a.ahead a.width) in
-    let keeps-bounds : IsReady (store) = sizes-ready (says_yes (not-false c.is_ready.result c.if-not-is_ready.false) c.is_ready.ensures) in
+    let keeps-bounds : IsReady (store) = sizes-ready (says_yes c.if-not-is_ready.false c.is_ready.ensures) in
     (keeps-bounds).few_constraints
 
 pub settle-requires : goal.settle-requires
 settle-requires c =
     let store : Store = (let a = c.args in
     store_of a.kinds.now a.values.now a.starts.now a.relations.now a.lefts.now a.rights.now a.first_nodes.now a.letter_values.now a.streams a.ahead a.width) in
-    let lent : let a = c.args in IsLent (store) a.letters a.limit a.keys.now a.heads.now a.links.now a.entries.now a.flags.now = sizes-lent-tables _ _ _ _ (says_yes (not-false c.is_lent.result c.if-not-is_lent.false) c.is_lent.ensures) in
+    let lent : let a = c.args in IsLent (store) a.letters a.limit a.keys.now a.heads.now a.links.now a.entries.now a.flags.now = sizes-lent-tables _ _ _ _ (says_yes c.if-not-is_lent.false c.is_lent.ensures) in
     let tested = c in
     let l = lent in
     (cleared-chained c.args.heads.now _ _ _ (omega (arith, l.some_row, l.heads_room)) c.fill.ensures, (refl, l.few_rows, l.links_room, l.keys_room, l.flags_room))
@@ -37,8 +37,8 @@ pub search-found-requires : goal.search-found-requires
 search-found-requires c =
     let store : Store = (let a = c.args in
     store_of a.kinds.now a.values.now a.starts.now a.relations.now a.lefts.now a.rights.now a.first_nodes.now a.letter_values.now a.streams a.ahead a.width) in
-    let keeps-bounds : IsReady (store) = sizes-ready (says_yes (not-false c.is_ready.result c.if-not-is_ready.false) c.is_ready.ensures) in
-    let lent : let a = c.args in IsLent (store) a.letters a.limit a.keys.now a.heads.now a.links.now a.entries.now a.flags.now = sizes-lent-tables _ _ _ _ (says_yes (not-false c.is_lent.result c.if-not-is_lent.false) c.is_lent.ensures) in
+    let keeps-bounds : IsReady (store) = sizes-ready (says_yes c.if-not-is_ready.false c.is_ready.ensures) in
+    let lent : let a = c.args in IsLent (store) a.letters a.limit a.keys.now a.heads.now a.links.now a.entries.now a.flags.now = sizes-lent-tables _ _ _ _ (says_yes c.if-not-is_lent.false c.is_lent.ensures) in
     let tested = c in
     let l = lent in
     let settle = c.settle in
@@ -54,7 +54,7 @@ pub returns : goal.returns
 returns c =
     let store : Store = (let a = c.args in
     store_of a.kinds.now a.values.now a.starts.now a.relations.now a.lefts.now a.rights.now a.first_nodes.now a.letter_values.now a.streams a.ahead a.width) in
-    let lent : let a = c.args in IsLent (store) a.letters a.limit a.keys.now a.heads.now a.links.now a.entries.now a.flags.now = sizes-lent-tables _ _ _ _ (says_yes (not-false c.is_lent.result c.if-not-is_lent.false) c.is_lent.ensures) in
+    let lent : let a = c.args in IsLent (store) a.letters a.limit a.keys.now a.heads.now a.links.now a.entries.now a.flags.now = sizes-lent-tables _ _ _ _ (says_yes c.if-not-is_lent.false c.is_lent.ensures) in
     let tested = c in
     let search = c.search-found in
     let settle = c.settle in

@@ -53,13 +53,13 @@ module _ (c : goal.After-add_letter) where
 pub returns-then-not-has_sizes : goal.returns-then-not-has_sizes
 returns-then-not-has_sizes c =
     record {
-      done = λ fit. absurd (says_no (not-true c.has_sizes.result c.if-not-has_sizes.true) c.has_sizes.ensures fit);
+      done = λ fit. absurd (says_no c.if-not-has_sizes.true c.has_sizes.ensures fit);
       refused = λ misfit. (refl, refl, refl);
     }
 
 pub bounds-key-0 : goal.bounds-key-0
 bounds-key-0 c =
-    let room : let a = c.args in SizesFit (length a.key.now) (length a.prepared.now) (length a.fresh.now) = says_yes (not-false c.has_sizes.result c.if-not-has_sizes.false) c.has_sizes.ensures in
+    let room : let a = c.args in SizesFit (length a.key.now) (length a.prepared.now) (length a.fresh.now) = says_yes c.if-not-has_sizes.false c.has_sizes.ensures in
     omega (arith, (room).0)
 
 pub overflow_cast-size : goal.overflow_cast-size
@@ -67,7 +67,7 @@ overflow_cast-size c = omega (arith, c.type_inv.key 0)
 
 pub overflow_mul-window_end : goal.overflow_mul-window_end
 overflow_mul-window_end c =
-    let room : let a = c.args in SizesFit (length a.key.now) (length a.prepared.now) (length a.fresh.now) = says_yes (not-false c.has_sizes.result c.if-not-has_sizes.false) c.has_sizes.ensures in
+    let room : let a = c.args in SizesFit (length a.key.now) (length a.prepared.now) (length a.fresh.now) = says_yes c.if-not-has_sizes.false c.has_sizes.ensures in
     let known-long : length c.add_letter.new.window ≡ prepared_size = c.add_letter.auto.0 ∙ (room).1 in
     let count : ℕ = c.fewer-count.result in
     let firsts_count : ℕ = c.fewer-firsts_count.result in
@@ -81,7 +81,7 @@ overflow_mul-window_end c =
 
 pub bounds-key-15 : goal.bounds-key-15
 bounds-key-15 c =
-    let room : let a = c.args in SizesFit (length a.key.now) (length a.prepared.now) (length a.fresh.now) = says_yes (not-false c.has_sizes.result c.if-not-has_sizes.false) c.has_sizes.ensures in
+    let room : let a = c.args in SizesFit (length a.key.now) (length a.prepared.now) (length a.fresh.now) = says_yes c.if-not-has_sizes.false c.has_sizes.ensures in
     omega (arith, (room).0)
 
 pub slice_bounds-finish-end : goal.slice_bounds-finish-end
@@ -113,32 +113,32 @@ slice_bounds-finish-end-5 c =
     store_of a.kinds.now a.values.now a.starts.now (take (count) a.relations.now) (take (count) a.lefts.now) (take (count) a.rights.now) (take (firsts_count) a.first_nodes.now) a.letter_values.now few.streams few.ahead few.width) in
     let held : ℕ = c.fewer-held.result in
     let few-held : held ≤ window_bound = omega (arith, c.fewer-held.ensures, (ready c).few_letters) in
-    let room : let a = c.args in SizesFit (length a.key.now) (length a.prepared.now) (length a.fresh.now) = says_yes (not-false c.has_sizes.result c.if-not-has_sizes.false) c.has_sizes.ensures in
+    let room : let a = c.args in SizesFit (length a.key.now) (length a.prepared.now) (length a.fresh.now) = says_yes c.if-not-has_sizes.false c.has_sizes.ensures in
     let known-long : length c.add_letter.new.window ≡ prepared_size = c.add_letter.auto.0 ∙ (room).1 in
     let window-fits : (held + 1) * (cut).streams ≤ length c.add_letter.new.window = omega (arith, one_more (held) (cut).streams, window-room {n = held} (ready c).few_streams (few-held), known-long) in
     let at = c in sym (length-take-le ((held + 1) * (cut).streams) at.add_letter.new.window (window-fits))
 
 pub slice_bounds-finish-end-6 : goal.slice_bounds-finish-end-6
 slice_bounds-finish-end-6 c =
-    let room : let a = c.args in SizesFit (length a.key.now) (length a.prepared.now) (length a.fresh.now) = says_yes (not-false c.has_sizes.result c.if-not-has_sizes.false) c.has_sizes.ensures in
+    let room : let a = c.args in SizesFit (length a.key.now) (length a.prepared.now) (length a.fresh.now) = says_yes c.if-not-has_sizes.false c.has_sizes.ensures in
     let known-long : length c.add_letter.new.window ≡ prepared_size = c.add_letter.auto.0 ∙ (room).1 in
     let at = c in omega (arith, known-long, (firsts-counted at).1)
 
 pub slice_bounds-finish-end-7 : goal.slice_bounds-finish-end-7
 slice_bounds-finish-end-7 c =
-    let room : let a = c.args in SizesFit (length a.key.now) (length a.prepared.now) (length a.fresh.now) = says_yes (not-false c.has_sizes.result c.if-not-has_sizes.false) c.has_sizes.ensures in
+    let room : let a = c.args in SizesFit (length a.key.now) (length a.prepared.now) (length a.fresh.now) = says_yes c.if-not-has_sizes.false c.has_sizes.ensures in
     let held : ℕ = c.fewer-held.result in
     let few-held : held ≤ window_bound = omega (arith, c.fewer-held.ensures, (ready c).few_letters) in
     let at = c in omega (arith, few-held, (room).0)
 
 pub slice_bounds-finish-end-8 : goal.slice_bounds-finish-end-8
 slice_bounds-finish-end-8 c =
-    let room : let a = c.args in SizesFit (length a.key.now) (length a.prepared.now) (length a.fresh.now) = says_yes (not-false c.has_sizes.result c.if-not-has_sizes.false) c.has_sizes.ensures in
+    let room : let a = c.args in SizesFit (length a.key.now) (length a.prepared.now) (length a.fresh.now) = says_yes c.if-not-has_sizes.false c.has_sizes.ensures in
     let at = c in omega (arith, (firsts-counted at).1, (room).0)
 
 pub finish-requires : goal.finish-requires
 finish-requires c =
-    let room : let a = c.args in SizesFit (length a.key.now) (length a.prepared.now) (length a.fresh.now) = says_yes (not-false c.has_sizes.result c.if-not-has_sizes.false) c.has_sizes.ensures in
+    let room : let a = c.args in SizesFit (length a.key.now) (length a.prepared.now) (length a.fresh.now) = says_yes c.if-not-has_sizes.false c.has_sizes.ensures in
     let firsts_count : ℕ = c.fewer-firsts_count.result in
     let count : ℕ = c.fewer-count.result in
     let cut : Store = (let a = c.args in
@@ -158,7 +158,7 @@ finish-requires c =
 
 pub returns : goal.returns
 returns c =
-    let room : let a = c.args in SizesFit (length a.key.now) (length a.prepared.now) (length a.fresh.now) = says_yes (not-false c.has_sizes.result c.if-not-has_sizes.false) c.has_sizes.ensures in
+    let room : let a = c.args in SizesFit (length a.key.now) (length a.prepared.now) (length a.fresh.now) = says_yes c.if-not-has_sizes.false c.has_sizes.ensures in
     let firsts_count : ℕ = c.fewer-firsts_count.result in
     let count : ℕ = c.fewer-count.result in
     let cut : Store = (let a = c.args in

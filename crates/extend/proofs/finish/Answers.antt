@@ -27,7 +27,7 @@ returns-then-not-judged c =
     c.judge_letter-judged.ensures ∙ ap (λ n. judged_in (store) (view a.window.now a.dimensions.streams a.firsts.now (leb a.size a.dimensions.width)) n a.marks) e) in
     let at = c in
     record {
-      answer = sym (not-true at.judge_letter-judged.result.ok c.if-not-judged.true) ∙ ap (λ j. j.ok) (judged-is);
+      answer = sym c.if-not-judged.true ∙ ap (λ j. j.ok) (judged-is);
       new = λ e. not-both e;
       kept = λ e. refl;
     }
@@ -80,7 +80,7 @@ returns c =
     let from = c.fewer-from in
     let letters = last-letters args.letters.now args.letter args.dimensions.width kept.result from.result start.pre.1.0 kept.ensures from.ensures in
     record {
-      answer = sym (not-false at.judge_letter-judged.result.ok c.if-not-judged.false) ∙ ap (λ j. j.ok) judged;
+      answer = sym c.if-not-judged.false ∙ ap (λ j. j.ok) judged;
       new = λ e. c.write_key.ensures ∙ (λ i. encoded_key (sym (all-long start) i) (letters i) (c.firsts_after-filled.ensures.0 i) (judged i).marks);
       kept = λ e. not-both (sym e);
     }

@@ -113,7 +113,7 @@ loop-i-preserved c =
       length-set loop.out i _ ∙ loop.invariant.1,
       written-again s.args.lows.now s.args.highs.now s.args.number s.args.out.now (some_letter s) i (stream-there)
           (room-there s) (loop.invariant.2 ∙ ap (written s.args.lows.now s.args.highs.now s.args.number s.args.out.now) n) rest size
-          (to_z-of_z w64 c.raised.result (record { sfits = c.raised.type-inv }) ∙ c.raised.ensures
+          (to_z-of_z w64 c.raised.result (record { sfits = c.raised.type_inv }) ∙ c.raised.ensures
           ∙ ap (λ z. z +ℤ pos (loop.rest % c.values-size.result)) (to_z-of_z w64 low (record { sfits = c.values-arg-1.given }))),
       rest-again s.args.lows.now s.args.highs.now s.args.number i (stream-there) rest size,
     )

@@ -10,23 +10,23 @@ returns-then-pending-live c = record { fits = λ z e. absurd (c.if-pending-live.
 
 pub returns-then-not-has_room : goal.returns-then-not-has_room
 returns-then-not-has_room c = record {
-  fits = λ z e. absurd (says_no (not-true c.has_room.result c.if-not-has_room.true) c.has_room.ensures (z.entries_fit, z.flags_fit));
+  fits = λ z e. absurd (says_no c.if-not-has_room.true c.has_room.ensures (z.entries_fit, z.flags_fit));
   unchanged = λ z. (refl, refl);
 }
 
 pub mark_pending-requires : goal.mark_pending-requires
-mark_pending-requires c = ((says_yes (not-false c.has_room.result c.if-not-has_room.false) c.has_room.ensures).1, c.if-pending-live.false)
+mark_pending-requires c = ((says_yes c.if-not-has_room.false c.has_room.ensures).1, c.if-pending-live.false)
 
 pub set_finals-requires : goal.set_finals-requires
 set_finals-requires c = (
   c.prune.auto.1.1.0 ∙ (c.mark_pending.auto.1.1.0 ∙ c.if-pending-live.false),
-  (says_yes (not-false c.has_room.result c.if-not-has_room.false) c.has_room.ensures).1,
+  (says_yes c.if-not-has_room.false c.has_room.ensures).1,
 )
 
 pub returns : goal.returns
 returns c =
     let args = c.args in
-    let room = says_yes (not-false c.has_room.result c.if-not-has_room.false) c.has_room.ensures in
+    let room = says_yes c.if-not-has_room.false c.has_room.ensures in
     let mark = c.mark_pending in
     let prune = c.prune in
     let final = c.set_finals in

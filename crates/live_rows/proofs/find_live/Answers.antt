@@ -7,14 +7,14 @@ use Rattle.live_rows.proofs.find_live.Goals as goal
 
 pub returns-then-not-has_room : goal.returns-then-not-has_room
 returns-then-not-has_room c = record {
-  fits = λ z. absurd (says_no (not-true c.has_room.result c.if-not-has_room.true) c.has_room.ensures (z.entries_fit, z.flags_fit));
+  fits = λ z. absurd (says_no c.if-not-has_room.true c.has_room.ensures (z.entries_fit, z.flags_fit));
   unchanged = λ z. refl;
 }
 
 pub returns : goal.returns
 returns c =
     let args = c.args in
-    let room = says_yes (not-false c.has_room.result c.if-not-has_room.false) c.has_room.ensures in
+    let room = says_yes c.if-not-has_room.false c.has_room.ensures in
     let fill = c.fill in
     let prune = c.prune in
     let keep = c.keep_flagged in

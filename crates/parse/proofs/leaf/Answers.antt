@@ -29,7 +29,7 @@ pub returns-then-is_reserved : goal.returns-then-is_reserved
 returns-then-is_reserved c = leaf_missing (tokens c.args.names.now) c.args.word.now c.args.next c.nothing.ensures (no_integer_lem c.args.word.now c.read_integer-integer.ensures c.if-integer.false) (reserved_no_name c.args.word.now (sym c.is_reserved.ensures ∙ c.if-is_reserved.true)) (below_refl _ _)
 
 pub returns-then-not-is_name : goal.returns-then-not-is_name
-returns-then-not-is_name c = leaf_missing (tokens c.args.names.now) c.args.word.now c.args.next c.nothing-then-not-is_name.ensures (no_integer_lem c.args.word.now c.read_integer-integer.ensures c.if-integer.false) (not-a-name c.args.word.now (sym c.is_name.ensures ∙ not-true c.is_name.result c.if-not-is_name.true)) (below_refl _ _)
+returns-then-not-is_name c = leaf_missing (tokens c.args.names.now) c.args.word.now c.args.next c.nothing-then-not-is_name.ensures (no_integer_lem c.args.word.now c.read_integer-integer.ensures c.if-integer.false) (not-a-name c.args.word.now (sym c.is_name.ensures ∙ c.if-not-is_name.true)) (below_refl _ _)
 
 pub value_of-place-requires : goal.value_of-place-requires
 value_of-place-requires c = let few = place-length c.args.names.now c.args.word.now in omega (arith, c.place_of.ensures, c.well_formed)
@@ -38,6 +38,6 @@ pub returns : goal.returns
 returns c =
     let before : Nodes = stored c.args.kinds.now c.args.values.now c.args.starts.now in
     let word = c.args.word.now in
-    let is : T (is_name word) = subst T c.is_name.ensures (subst T (sym (not-false c.is_name.result c.if-not-is_name.false)) tt) in
+    let is : T (is_name word) = subst T c.is_name.ensures (subst T (sym c.if-not-is_name.false) tt) in
     let other : T (not (is_reserved word)) = subst (λ b. T (not b)) (sym (sym c.is_reserved.ensures ∙ c.if-is_reserved.false)) tt in
-    leaf_name (tokens c.args.names.now) word c.args.next is other (c.put-2.ensures ∙ ap (λ z. store (before) c.args.nodes (node 1 z c.args.nodes ∷ [])) (to_z-of_z w64 c.value_of-place.result (record { sfits = c.value_of-place.type-inv }) ∙ c.value_of-place.ensures ∙ ap pos c.place_of.ensures))
+    leaf_name (tokens c.args.names.now) word c.args.next is other (c.put-2.ensures ∙ ap (λ z. store (before) c.args.nodes (node 1 z c.args.nodes ∷ [])) (to_z-of_z w64 c.value_of-place.result (record { sfits = c.value_of-place.type_inv }) ∙ c.value_of-place.ensures ∙ ap pos c.place_of.ensures))

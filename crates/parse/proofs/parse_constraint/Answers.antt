@@ -33,12 +33,12 @@ returns-then-firsts-gt1024 c = too_long (λ w. omega (arith, c.if-firsts-gt1024.
 pub returns-then-not-tokens_fit : goal.returns-then-not-tokens_fit
 returns-then-not-tokens_fit c =
     let a = c.args in
-    too_long (no_room a.line.now a.from a.firsts c.tokens_fit.ensures (not-true c.tokens_fit.result c.if-not-tokens_fit.true)) c.unread-then-not-tokens_fit.ensures
+    too_long (no_room a.line.now a.from a.firsts c.tokens_fit.ensures c.if-not-tokens_fit.true) c.unread-then-not-tokens_fit.ensures
 
 pub store_token_starts-last-requires : goal.store_token_starts-last-requires
 store_token_starts-last-requires c =
     let a = c.args in
-    room a.line.now a.from a.firsts c.tokens_fit.ensures (not-false c.tokens_fit.result c.if-not-tokens_fit.false) c.if-from-gt1024.false
+    room a.line.now a.from a.firsts c.tokens_fit.ensures c.if-not-tokens_fit.false c.if-from-gt1024.false
 
 pub sides-requires : goal.sides-requires
 sides-requires c =

@@ -49,7 +49,7 @@ loop-number-preserved c =
     let loop = c in
     let taken = c.loop-number-test.true in
     let before = before_is l c.prefix_code-kind.result kind c.firsts_before-inside.ensures in
-    let value = to_z-of_z w64 c.prefix_value-value.result (record { sfits = c.prefix_value-value.type-inv }) ∙ c.prefix_value-value.ensures in (
+    let value = to_z-of_z w64 c.prefix_value-value.result (record { sfits = c.prefix_value-value.type_inv }) ∙ c.prefix_value-value.ensures in (
       rw before l.passes,
       rw before (leads-more loop.loop-number.invariant.1 l (omega (arith, taken)) kind (value ∙ ap (prefix_value c.prefix_code-kind.result) before) c.put.ensures),
       omega (arith, loop.loop-number.invariant.2),

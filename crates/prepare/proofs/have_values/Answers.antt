@@ -18,14 +18,14 @@ returns-then-not-has_values c =
     let loop = c.loop-p in
     let start = c in
     λ every.
-    says_no (not-true c.has_values.result c.if-not-has_values.true) c.has_values.ensures
+    says_no c.if-not-has_values.true c.has_values.ensures
     (subst (λ n. get_or start.args.letters.now loop.p 0 * n + stream_bound ≤ start.args.values) (sym (all-streams start.requires)) (every loop.p c.loop-p-test.true))
 
 pub loop-p-preserved : goal.loop-p-preserved
 loop-p-preserved c =
     let loop = c.loop-p in
     let start = c in
-    let here = subst (λ n. get_or start.args.letters.now loop.p 0 * n + stream_bound ≤ start.args.values) (all-streams start.requires) (says_yes (not-false c.has_values.result c.if-not-has_values.false) c.has_values.ensures) in
+    let here = subst (λ n. get_or start.args.letters.now loop.p 0 * n + stream_bound ≤ start.args.values) (all-streams start.requires) (says_yes c.if-not-has_values.false c.has_values.ensures) in
     (omega (arith, c.loop-p-test.true), below_more _ loop.p loop.invariant.1 here)
 
 pub returns : goal.returns

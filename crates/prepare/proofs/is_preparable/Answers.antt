@@ -10,11 +10,11 @@ use Rattle.prepare.proofs.PreparedLaws.{part-values, key-values}
 use Rattle.prepare.proofs.is_preparable.Goals as goal
 
 pub returns-then-not-are_preparable : goal.returns-then-not-are_preparable
-returns-then-not-are_preparable c = λ p. says_no (not-true c.are_preparable.result c.if-not-are_preparable.true) c.are_preparable.ensures p.sizes
+returns-then-not-are_preparable c = λ p. says_no c.if-not-are_preparable.true c.are_preparable.ensures p.sizes
 
 pub bounds-key-0 : goal.bounds-key-0
 bounds-key-0 c =
-    let sizes : let a = c.args in PreparableSizes a.dimensions.streams a.dimensions.width a.count (length a.key.now) a.room = says_yes (not-false c.are_preparable.result c.if-not-are_preparable.false) c.are_preparable.ensures in
+    let sizes : let a = c.args in PreparableSizes a.dimensions.streams a.dimensions.width a.count (length a.key.now) a.room = says_yes c.if-not-are_preparable.false c.are_preparable.ensures in
     omega (arith, (sizes).3)
 
 pub overflow_cast-key : goal.overflow_cast-key
@@ -22,24 +22,24 @@ overflow_cast-key c = omega (arith, c.type_inv.key 0)
 
 pub overflow_add-end : goal.overflow_add-end
 overflow_add-end c =
-    let sizes : let a = c.args in PreparableSizes a.dimensions.streams a.dimensions.width a.count (length a.key.now) a.room = says_yes (not-false c.are_preparable.result c.if-not-are_preparable.false) c.are_preparable.ensures in
+    let sizes : let a = c.args in PreparableSizes a.dimensions.streams a.dimensions.width a.count (length a.key.now) a.room = says_yes c.if-not-are_preparable.false c.are_preparable.ensures in
     let few : c.fewer-held.result ≤ window_bound = omega (arith, c.fewer-held.ensures, (sizes).0) in
     omega (arith, few)
 
 pub slice_bounds-have_values-end : goal.slice_bounds-have_values-end
 slice_bounds-have_values-end c =
-    let sizes : let a = c.args in PreparableSizes a.dimensions.streams a.dimensions.width a.count (length a.key.now) a.room = says_yes (not-false c.are_preparable.result c.if-not-are_preparable.false) c.are_preparable.ensures in
+    let sizes : let a = c.args in PreparableSizes a.dimensions.streams a.dimensions.width a.count (length a.key.now) a.room = says_yes c.if-not-are_preparable.false c.are_preparable.ensures in
     let few : c.fewer-held.result ≤ window_bound = omega (arith, c.fewer-held.ensures, (sizes).0) in
     omega (arith, few, (sizes).3)
 
 pub have_values-requires : goal.have_values-requires
 have_values-requires c =
-    let sizes : let a = c.args in PreparableSizes a.dimensions.streams a.dimensions.width a.count (length a.key.now) a.room = says_yes (not-false c.are_preparable.result c.if-not-are_preparable.false) c.are_preparable.ensures in
+    let sizes : let a = c.args in PreparableSizes a.dimensions.streams a.dimensions.width a.count (length a.key.now) a.room = says_yes c.if-not-are_preparable.false c.are_preparable.ensures in
     (sizes).1
 
 pub returns : goal.returns
 returns c =
-    let sizes : let a = c.args in PreparableSizes a.dimensions.streams a.dimensions.width a.count (length a.key.now) a.room = says_yes (not-false c.are_preparable.result c.if-not-are_preparable.false) c.are_preparable.ensures in
+    let sizes : let a = c.args in PreparableSizes a.dimensions.streams a.dimensions.width a.count (length a.key.now) a.room = says_yes c.if-not-are_preparable.false c.are_preparable.ensures in
     let after = c in
     let at = after in
     let a = (start_of at).args in

@@ -21,7 +21,7 @@ loop-i-preserved c =
     let start = c in
     let list = start.args.prepared.now in
     let numbers = start.args.numbers.now in
-    let is = to_z-of_z w64 c.lowered.result (record { sfits = c.lowered.type-inv }) ∙ c.lowered.ensures ∙ sym (get_or-map lowered numbers loop.i 0) in (
+    let is = to_z-of_z w64 c.lowered.result (record { sfits = c.lowered.type_inv }) ∙ c.lowered.ensures ∙ sym (get_or-map lowered numbers loop.i 0) in (
       omega arith,
       ap (set loop.prepared (56 + loop.i)) is ∙ ap (λ l. set l (56 + loop.i) (get_or (map lowered numbers) loop.i (lowered 0))) loop.invariant.1
           ∙ paste-suc list window_room (map lowered numbers) loop.i (lowered 0) (omega (arith, start.requires)) (omega (arith, length-map numbers lowered))

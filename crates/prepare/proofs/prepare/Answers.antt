@@ -13,13 +13,13 @@ use Rattle.prepare.proofs.prepare.Goals as goal
 pub returns-then-not-is_preparable : goal.returns-then-not-is_preparable
 returns-then-not-is_preparable c =
     record {
-      done = λ p. absurd (says_no (not-true c.is_preparable.result c.if-not-is_preparable.true) c.is_preparable.ensures p);
+      done = λ p. absurd (says_no c.if-not-is_preparable.true c.is_preparable.ensures p);
       refused = λ p. refl;
     }
 
 pub bounds-key-0 : goal.bounds-key-0
 bounds-key-0 c =
-    let fits : let a = c.args in IsPreparable (length a.letter_values.now) a.dimensions.streams a.dimensions.width a.count a.key.now (length a.prepared.now) = says_yes (not-false c.is_preparable.result c.if-not-is_preparable.false) c.is_preparable.ensures in
+    let fits : let a = c.args in IsPreparable (length a.letter_values.now) a.dimensions.streams a.dimensions.width a.count a.key.now (length a.prepared.now) = says_yes c.if-not-is_preparable.false c.is_preparable.ensures in
     omega (arith, (fits).sizes.3)
 
 pub overflow_cast-key : goal.overflow_cast-key
@@ -27,19 +27,19 @@ overflow_cast-key c = omega (arith, c.type_inv.key 0)
 
 pub overflow_add-letters_end : goal.overflow_add-letters_end
 overflow_add-letters_end c =
-    let fits : let a = c.args in IsPreparable (length a.letter_values.now) a.dimensions.streams a.dimensions.width a.count a.key.now (length a.prepared.now) = says_yes (not-false c.is_preparable.result c.if-not-is_preparable.false) c.is_preparable.ensures in
+    let fits : let a = c.args in IsPreparable (length a.letter_values.now) a.dimensions.streams a.dimensions.width a.count a.key.now (length a.prepared.now) = says_yes c.if-not-is_preparable.false c.is_preparable.ensures in
     let few : c.fewer-held.result ≤ window_bound = omega (arith, c.fewer-held.ensures, (fits).sizes.0) in
     omega (arith, few)
 
 pub slice_bounds-fill_window-end : goal.slice_bounds-fill_window-end
 slice_bounds-fill_window-end c =
-    let fits : let a = c.args in IsPreparable (length a.letter_values.now) a.dimensions.streams a.dimensions.width a.count a.key.now (length a.prepared.now) = says_yes (not-false c.is_preparable.result c.if-not-is_preparable.false) c.is_preparable.ensures in
+    let fits : let a = c.args in IsPreparable (length a.letter_values.now) a.dimensions.streams a.dimensions.width a.count a.key.now (length a.prepared.now) = says_yes c.if-not-is_preparable.false c.is_preparable.ensures in
     let few : c.fewer-held.result ≤ window_bound = omega (arith, c.fewer-held.ensures, (fits).sizes.0) in
     let after = c in omega (arith, few, (fits after).sizes.3)
 
 pub fill_window-requires : goal.fill_window-requires
 fill_window-requires c =
-    let fits : let a = c.args in IsPreparable (length a.letter_values.now) a.dimensions.streams a.dimensions.width a.count a.key.now (length a.prepared.now) = says_yes (not-false c.is_preparable.result c.if-not-is_preparable.false) c.is_preparable.ensures in
+    let fits : let a = c.args in IsPreparable (length a.letter_values.now) a.dimensions.streams a.dimensions.width a.count a.key.now (length a.prepared.now) = says_yes c.if-not-is_preparable.false c.is_preparable.ensures in
     let few : c.fewer-held.result ≤ window_bound = omega (arith, c.fewer-held.ensures, (fits).sizes.0) in
     let after = c in
     let at = after in
@@ -52,17 +52,17 @@ fill_window-requires c =
 
 pub overflow_add-firsts_end : goal.overflow_add-firsts_end
 overflow_add-firsts_end c =
-    let fits : let a = c.args in IsPreparable (length a.letter_values.now) a.dimensions.streams a.dimensions.width a.count a.key.now (length a.prepared.now) = says_yes (not-false c.is_preparable.result c.if-not-is_preparable.false) c.is_preparable.ensures in
+    let fits : let a = c.args in IsPreparable (length a.letter_values.now) a.dimensions.streams a.dimensions.width a.count a.key.now (length a.prepared.now) = says_yes c.if-not-is_preparable.false c.is_preparable.ensures in
     omega (arith, (fits).sizes.2)
 
 pub slice_bounds-lower_all-end : goal.slice_bounds-lower_all-end
 slice_bounds-lower_all-end c =
-    let fits : let a = c.args in IsPreparable (length a.letter_values.now) a.dimensions.streams a.dimensions.width a.count a.key.now (length a.prepared.now) = says_yes (not-false c.is_preparable.result c.if-not-is_preparable.false) c.is_preparable.ensures in
+    let fits : let a = c.args in IsPreparable (length a.letter_values.now) a.dimensions.streams a.dimensions.width a.count a.key.now (length a.prepared.now) = says_yes c.if-not-is_preparable.false c.is_preparable.ensures in
     let sizes = (fits).sizes in omega (arith, sizes.2, sizes.3)
 
 pub lower_all-requires : goal.lower_all-requires
 lower_all-requires c =
-    let fits : let a = c.args in IsPreparable (length a.letter_values.now) a.dimensions.streams a.dimensions.width a.count a.key.now (length a.prepared.now) = says_yes (not-false c.is_preparable.result c.if-not-is_preparable.false) c.is_preparable.ensures in
+    let fits : let a = c.args in IsPreparable (length a.letter_values.now) a.dimensions.streams a.dimensions.width a.count a.key.now (length a.prepared.now) = says_yes c.if-not-is_preparable.false c.is_preparable.ensures in
     let at = c in
     let a = c.args in
     let sizes = (fits).sizes in
@@ -70,7 +70,7 @@ lower_all-requires c =
 
 pub returns : goal.returns
 returns c =
-    let fits : let a = c.args in IsPreparable (length a.letter_values.now) a.dimensions.streams a.dimensions.width a.count a.key.now (length a.prepared.now) = says_yes (not-false c.is_preparable.result c.if-not-is_preparable.false) c.is_preparable.ensures in
+    let fits : let a = c.args in IsPreparable (length a.letter_values.now) a.dimensions.streams a.dimensions.width a.count a.key.now (length a.prepared.now) = says_yes c.if-not-is_preparable.false c.is_preparable.ensures in
     let after = c in
     let at = after in
     let a = (start_of at).args in

@@ -10,7 +10,7 @@ use Rattle.reader.proofs.Floored.{floored_up_to, up_to-none, up_to-more, up_to-a
 use Rattle.reader.proofs.restate.Goals as goal
 
 pub returns-then-not-floors : goal.returns-then-not-floors
-returns-then-not-floors c = let kinds = c.args.kinds.now in ap (λ b. meant_kinds b kinds) (sym (not-true c.args.floors c.if-not-floors.true))
+returns-then-not-floors c = let kinds = c.args.kinds.now in ap (λ b. meant_kinds b kinds) (sym c.if-not-floors.true)
 
 pub loop-i-init : goal.loop-i-init
 loop-i-init c = (omega arith, up_to-none c.args.kinds.now)
@@ -40,4 +40,4 @@ pub returns : goal.returns
 returns c =
     let start = c in
     let kinds = start.args.kinds.now in
-    c.loop-i.invariant.1 ∙ up_to-all c.loop-i.i kinds (omega (arith, start.requires, c.loop-i-test.false)) ∙ ap (λ b. meant_kinds b kinds) (sym (not-false start.args.floors c.if-not-floors.false))
+    c.loop-i.invariant.1 ∙ up_to-all c.loop-i.i kinds (omega (arith, start.requires, c.loop-i-test.false)) ∙ ap (λ b. meant_kinds b kinds) (sym c.if-not-floors.false)

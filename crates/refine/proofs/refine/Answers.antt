@@ -22,11 +22,11 @@ pub returns-then-live-gt65535 : goal.returns-then-live-gt65535
 returns-then-live-gt65535 c = no-sizes (λ z. omega (arith, z.few, c.if-live-gt65535.true))
 
 pub returns-then-not-rows_fit : goal.returns-then-not-rows_fit
-returns-then-not-rows_fit c = no-sizes (λ z. says_no (not-true c.rows_fit.result c.if-not-rows_fit.true) c.rows_fit.ensures z.entries_fit)
+returns-then-not-rows_fit c = no-sizes (λ z. says_no c.if-not-rows_fit.true c.rows_fit.ensures z.entries_fit)
 
 pub returns-then-not-sizes_agree : goal.returns-then-not-sizes_agree
 returns-then-not-sizes_agree c =
-    no-sizes (λ z. says_no (not-true c.sizes_agree.result c.if-not-sizes_agree.true) c.sizes_agree.ensures (z.finals_fit, z.class_fits, z.next_fits, z.heads_fit, z.links_fit, z.envelopes_fit))
+    no-sizes (λ z. says_no c.if-not-sizes_agree.true c.sizes_agree.ensures (z.finals_fit, z.class_fits, z.next_fits, z.heads_fit, z.links_fit, z.envelopes_fit))
 
 pub rounds-requires : goal.rounds-requires
 rounds-requires c =
@@ -34,7 +34,7 @@ rounds-requires c =
     → Sizes c.args.letters c.args.entries.now c.args.live.now c.args.finals.now c.args.class.now c.args.next.now c.args.heads.now c.args.links.now c.args.envelopes.now = λ e. (let h = says_yes e c.sizes_agree.ensures in
     record {
       few = omega (arith, c.if-live-gt65535.false);
-      entries_fit = says_yes (not-false c.rows_fit.result c.if-not-rows_fit.false) c.rows_fit.ensures;
+      entries_fit = says_yes c.if-not-rows_fit.false c.rows_fit.ensures;
       finals_fit = h.0;
       class_fits = h.1;
       next_fits = h.2;
@@ -63,7 +63,7 @@ returns c =
     → Sizes c.args.letters c.args.entries.now c.args.live.now c.args.finals.now c.args.class.now c.args.next.now c.args.heads.now c.args.links.now c.args.envelopes.now = λ e. (let h = says_yes e c.sizes_agree.ensures in
     record {
       few = omega (arith, c.if-live-gt65535.false);
-      entries_fit = says_yes (not-false c.rows_fit.result c.if-not-rows_fit.false) c.rows_fit.ensures;
+      entries_fit = says_yes c.if-not-rows_fit.false c.rows_fit.ensures;
       finals_fit = h.0;
       class_fits = h.1;
       next_fits = h.2;

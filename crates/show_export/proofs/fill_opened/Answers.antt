@@ -47,4 +47,4 @@ returns c =
     let used = c.used_entries-used.ensures in
     let rows = c.used_rows-rows.ensures in
     let checksum = c.checksum-checksum in
-    header_filled s.requires.1 s.requires.0 c.if-table-ne0.false checksum.ensures (omega (arith, checksum.type-inv)) (λ i. omega (arith, c.type_inv.finals i)) (appends_same c.fill.ensures (λ i. export_text (described_export (streams i) a.table.sheet.letters checksum.result (take (used i) a.entries.now) (take (rows i) a.finals.now))))
+    header_filled s.requires.1 s.requires.0 c.if-table-ne0.false checksum.ensures (omega (arith, checksum.type_inv)) (λ i. omega (arith, c.type_inv.finals i)) (appends_same c.fill.ensures (λ i. export_text (described_export (streams i) a.table.sheet.letters checksum.result (take (used i) a.entries.now) (take (rows i) a.finals.now))))

@@ -15,5 +15,5 @@ returns c =
     let value = c.evaluate-awaited in
     let a = c.args in
     c.truth.ensures
-    ∙ ap truth (value-given (stored a.kinds.now a.values.now a.starts.now) (view a.window.now a.streams a.firsts.now a.whole) a.right a.place (record { sfits = value.type-inv }) value.ensures)
+    ∙ ap truth (value-given (stored a.kinds.now a.values.now a.starts.now) (view a.window.now a.streams a.firsts.now a.whole) a.right a.place (record { sfits = value.type_inv }) value.ensures)
     ∙ sym (simp (ne_eqb (a.marks % 2) 1 c.if-marks-eq1.false))

@@ -10,5 +10,5 @@ returns c =
     let value = c.evaluate in
     let a = c.args in
     c.truth.ensures
-    ∙ ap truth (value-given (stored a.kinds.now a.values.now a.starts.now) (view a.window.now a.streams a.firsts.now a.whole) a.left a.place (record { sfits = value.type-inv }) value.ensures)
+    ∙ ap truth (value-given (stored a.kinds.now a.values.now a.starts.now) (view a.window.now a.streams a.firsts.now a.whole) a.left a.place (record { sfits = value.type_inv }) value.ensures)
     ∙ sym (simp c.if-done.false)

@@ -18,5 +18,5 @@ returns c =
     let a = c.evaluate-a in
     let b = c.evaluate-b in
     c.sign_holds.ensures
-    ∙ ap₂ (holds (sign_at s.args.relation)) (value-given (nodes s) (seen s) s.args.left s.args.place (record { sfits = a.type-inv }) a.ensures)
-    (value-given (nodes s) (seen s) s.args.right s.args.place (record { sfits = b.type-inv }) b.ensures)
+    ∙ ap₂ (holds (sign_at s.args.relation)) (value-given (nodes s) (seen s) s.args.left s.args.place (record { sfits = a.type_inv }) a.ensures)
+    (value-given (nodes s) (seen s) s.args.right s.args.place (record { sfits = b.type_inv }) b.ensures)

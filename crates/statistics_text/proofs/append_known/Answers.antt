@@ -9,7 +9,7 @@ use Rattle.statistics_text.proofs.Lines.{unknown_line, known-line}
 use Rattle.statistics_text.proofs.append_known.Goals as goal
 
 pub returns-then-not-known : goal.returns-then-not-known
-returns-then-not-known c = appends_same (appends_nothing c.requires) (unknown_line c.args.word.now c.args.number (not-true c.args.known c.if-not-known.true))
+returns-then-not-known c = appends_same (appends_nothing c.requires) (unknown_line c.args.word.now c.args.number c.if-not-known.true)
 
 pub returns-then-out-at : goal.returns-then-out-at
 returns-then-out-at c = no_place c.args.out.now c.if-out-at.true c.requires
@@ -25,4 +25,4 @@ overflow_add-result c =
 pub returns : goal.returns
 returns c =
     let a = c.args in
-    placed-line a.out.now a.at c.if-out-at.false (appends_same c.named_line.ensures (known-line a.word.now a.number (not-false a.known c.if-not-known.false)))
+    placed-line a.out.now a.at c.if-out-at.false (appends_same c.named_line.ensures (known-line a.word.now a.number c.if-not-known.false))

@@ -17,18 +17,18 @@ use Rattle.winning_rows.proofs.find_play.Goals as goal
 pub returns-then-not-can_play : goal.returns-then-not-can_play
 returns-then-not-can_play c =
     let args = c.args in
-    (unfit-cleared args.entries.now args.finals.now args.choice.now args.choices (length args.ranks.now) (length args.play.now) (says_no (not-true c.can_play.result c.if-not-can_play.true) c.can_play.ensures) refl c.clear_entries.ensures, c.fill.ensures)
+    (unfit-cleared args.entries.now args.finals.now args.choice.now args.choices (length args.ranks.now) (length args.play.now) (says_no c.if-not-can_play.true c.can_play.ensures) refl c.clear_entries.ensures, c.fill.ensures)
 
 pub slice_bounds-rank_rows-end : goal.slice_bounds-rank_rows-end
 slice_bounds-rank_rows-end c =
-    let fits : PlayFits c.args.entries.now c.args.choice.now c.args.choices (length c.args.ranks.now) (length c.args.play.now) = says_yes (not-false c.can_play.result c.if-not-can_play.false) c.can_play.ensures in
+    let fits : PlayFits c.args.entries.now c.args.choice.now c.args.choices (length c.args.ranks.now) (length c.args.play.now) = says_yes c.if-not-can_play.false c.can_play.ensures in
     let one-row : c.args.choices ≤ length c.args.play.now = (let args = c.args in
     omega (arith, row_fits 0 (length args.ranks.now) args.choices (length args.play.now) (fits).some_row (fits).play_fits)) in
     one-row
 
 pub slice_bounds-rank_rows-end-2 : goal.slice_bounds-rank_rows-end-2
 slice_bounds-rank_rows-end-2 c =
-    let fits : PlayFits c.args.entries.now c.args.choice.now c.args.choices (length c.args.ranks.now) (length c.args.play.now) = says_yes (not-false c.can_play.result c.if-not-can_play.false) c.can_play.ensures in
+    let fits : PlayFits c.args.entries.now c.args.choice.now c.args.choices (length c.args.ranks.now) (length c.args.play.now) = says_yes c.if-not-can_play.false c.can_play.ensures in
     let one-row : c.args.choices ≤ length c.args.play.now = (let args = c.args in
     omega (arith, row_fits 0 (length args.ranks.now) args.choices (length args.play.now) (fits).some_row (fits).play_fits)) in
     let row-choices : length (take c.args.choices c.args.play.now) ≡ c.args.choices = length-take-le _ _ (one-row) in
@@ -36,7 +36,7 @@ slice_bounds-rank_rows-end-2 c =
 
 pub rank_rows-requires : goal.rank_rows-requires
 rank_rows-requires c =
-    let fits : PlayFits c.args.entries.now c.args.choice.now c.args.choices (length c.args.ranks.now) (length c.args.play.now) = says_yes (not-false c.can_play.result c.if-not-can_play.false) c.can_play.ensures in
+    let fits : PlayFits c.args.entries.now c.args.choice.now c.args.choices (length c.args.ranks.now) (length c.args.play.now) = says_yes c.if-not-can_play.false c.can_play.ensures in
     let one-row : c.args.choices ≤ length c.args.play.now = (let args = c.args in
     omega (arith, row_fits 0 (length args.ranks.now) args.choices (length args.play.now) (fits).some_row (fits).play_fits)) in
     let row-choices : length (take c.args.choices c.args.play.now) ≡ c.args.choices = length-take-le _ _ (one-row) in
@@ -44,12 +44,12 @@ rank_rows-requires c =
 
 pub bounds-ranks-0 : goal.bounds-ranks-0
 bounds-ranks-0 c =
-    let fits : PlayFits c.args.entries.now c.args.choice.now c.args.choices (length c.args.ranks.now) (length c.args.play.now) = says_yes (not-false c.can_play.result c.if-not-can_play.false) c.can_play.ensures in
+    let fits : PlayFits c.args.entries.now c.args.choice.now c.args.choices (length c.args.ranks.now) (length c.args.play.now) = says_yes c.if-not-can_play.false c.can_play.ensures in
     omega (arith, c.rank_rows.auto.1.1.1.0, (fits).some_row)
 
 pub fill_play-requires : goal.fill_play-requires
 fill_play-requires c =
-    let fits : PlayFits c.args.entries.now c.args.choice.now c.args.choices (length c.args.ranks.now) (length c.args.play.now) = says_yes (not-false c.can_play.result c.if-not-can_play.false) c.can_play.ensures in
+    let fits : PlayFits c.args.entries.now c.args.choice.now c.args.choices (length c.args.ranks.now) (length c.args.play.now) = says_yes c.if-not-can_play.false c.can_play.ensures in
     let one-row : c.args.choices ≤ length c.args.play.now = (let args = c.args in
     omega (arith, row_fits 0 (length args.ranks.now) args.choices (length args.play.now) (fits).some_row (fits).play_fits)) in
     let row-choices : length (take c.args.choices c.args.play.now) ≡ c.args.choices = length-take-le _ _ (one-row) in
@@ -61,7 +61,7 @@ fill_play-requires c =
 
 pub numbers_kept-kept-requires : goal.numbers_kept-kept-requires
 numbers_kept-kept-requires c =
-    let fits : PlayFits c.args.entries.now c.args.choice.now c.args.choices (length c.args.ranks.now) (length c.args.play.now) = says_yes (not-false c.can_play.result c.if-not-can_play.false) c.can_play.ensures in
+    let fits : PlayFits c.args.entries.now c.args.choice.now c.args.choices (length c.args.ranks.now) (length c.args.play.now) = says_yes c.if-not-can_play.false c.can_play.ensures in
     let one-row : c.args.choices ≤ length c.args.play.now = (let args = c.args in
     omega (arith, row_fits 0 (length args.ranks.now) args.choices (length args.play.now) (fits).some_row (fits).play_fits)) in
     let row-choices : length (take c.args.choices c.args.play.now) ≡ c.args.choices = length-take-le _ _ (one-row) in
@@ -72,7 +72,7 @@ numbers_kept-kept-requires c =
 
 pub returns : goal.returns
 returns c =
-    let fits : PlayFits c.args.entries.now c.args.choice.now c.args.choices (length c.args.ranks.now) (length c.args.play.now) = says_yes (not-false c.can_play.result c.if-not-can_play.false) c.can_play.ensures in
+    let fits : PlayFits c.args.entries.now c.args.choice.now c.args.choices (length c.args.ranks.now) (length c.args.play.now) = says_yes c.if-not-can_play.false c.can_play.ensures in
     let one-row : c.args.choices ≤ length c.args.play.now = (let args = c.args in
     omega (arith, row_fits 0 (length args.ranks.now) args.choices (length args.play.now) (fits).some_row (fits).play_fits)) in
     let row-choices : length (take c.args.choices c.args.play.now) ≡ c.args.choices = length-take-le _ _ (one-row) in

@@ -220,7 +220,7 @@ write-before-write-known-requires t c κs =
 write-before-returns : (t : ℕ) → write-before-lts.Need-returns (write-before-claims t) (write-before-at t) write-before.Post
 write-before-returns t c =
     let s = c.before.before.before.before.before.before in
-    wrote-known c.write_known.ensures (held-result (record { sfits = c.before.no-value-coded.type-inv }) c.before.no-value-coded.ensures) (none_arm (stored s.args.kinds.now s.args.values.now s.args.starts.now) (view s.args.window.now s.args.older.streams s.args.firsts.now s.args.older.whole) s.args.older.letters s.args.part.place c.before.before.before.before.before.if1.true)
+    wrote-known c.write_known.ensures (held-result (record { sfits = c.before.no-value-coded.type_inv }) c.before.no-value-coded.ensures) (none_arm (stored s.args.kinds.now s.args.values.now s.args.starts.now) (view s.args.window.now s.args.older.streams s.args.firsts.now s.args.older.whole) s.args.older.letters s.args.part.place c.before.before.before.before.before.if1.true)
 
 write-before-sub-kind : (t : ℕ) → write-before-lts.Need-overflow-sub-kind (write-before-claims t) (write-before-at t) write-before.Post
 write-before-sub-kind t c =

@@ -46,7 +46,7 @@ moved_known-requires c = tt
 pub returns-then-kind-eq-FIRST_NODE : goal.returns-then-kind-eq-FIRST_NODE
 returns-then-kind-eq-FIRST_NODE c =
     let s = c in
-    moves-known (held-result (record { sfits = c.stored_first.type-inv }) (c.stored_first.ensures ∙ ap (λ z. coded (numbered s.args.firsts.now z)) (to_z-of_z w64 (get_or s.args.values.now (s.args.end - 1) (pos 0)) (record { sfits = omega (arith, c.stored_first-arg-1.given) })))) c.moved_known.ensures (decodes_lookup (length s.args.firsts.now) (λ k. get_or s.args.firsts.now k (pos 0)) (get_or s.args.values.now (s.args.end - 1) (pos 0)))
+    moves-known (held-result (record { sfits = c.stored_first.type_inv }) (c.stored_first.ensures ∙ ap (λ z. coded (numbered s.args.firsts.now z)) (to_z-of_z w64 (get_or s.args.values.now (s.args.end - 1) (pos 0)) (record { sfits = omega (arith, c.stored_first-arg-1.given) })))) c.moved_known.ensures (decodes_lookup (length s.args.firsts.now) (λ k. get_or s.args.firsts.now k (pos 0)) (get_or s.args.values.now (s.args.end - 1) (pos 0)))
     (λ window. sym (stored_arm (nodes s) (seen s window) s.args.older.letters s.args.place s.args.end (some s) c.if-kind-eq-FIRST_NODE.true c.if-older.false))
 
 pub moved_to-requires-then-place-older : goal.moved_to-requires-then-place-older
@@ -66,7 +66,7 @@ moved_known-requires-then-kind-eq-NEXT_NODE c = tt
 pub returns-then-kind-eq-NEXT_NODE : goal.returns-then-kind-eq-NEXT_NODE
 returns-then-kind-eq-NEXT_NODE c =
     let s = c in
-    moves-known (held-result (record { sfits = c.no_value_coded.type-inv }) c.no_value_coded.ensures) c.moved_known-then-kind-eq-NEXT_NODE.ensures refl
+    moves-known (held-result (record { sfits = c.no_value_coded.type_inv }) c.no_value_coded.ensures) c.moved_known-then-kind-eq-NEXT_NODE.ensures refl
     (λ window. sym (next-none_arm (nodes s) (seen s window) s.args.older.letters s.args.place s.args.end (some s) c.if-kind-eq-NEXT_NODE.true c.if-place-older.false))
 
 pub moved_to-requires-then-place-ne0 : goal.moved_to-requires-then-place-ne0

@@ -23,7 +23,7 @@ write_known-requires c = tt
 pub returns-then-inner : goal.returns-then-inner
 returns-then-inner c =
     record {
-      wrote = λ old r d w. negate_known w c.if-inner.true d (held-result (record { sfits = c.negated-value.type-inv }) (c.negated-value.ensures ∙ ap (λ z. coded (negated_result (bounded z))) (to_z-of_z w64 c.args.inner.value (record { sfits = omega (arith, c.type_inv.inner) })))) c.write_known.ensures;
+      wrote = λ old r d w. negate_known w c.if-inner.true d (held-result (record { sfits = c.negated-value.type_inv }) (c.negated-value.ensures ∙ ap (λ z. coded (negated_result (bounded z))) (to_z-of_z w64 c.args.inner.value (record { sfits = omega (arith, c.type_inv.inner) })))) c.write_known.ensures;
     }
 
 pub varying-requires : goal.varying-requires

@@ -12,4 +12,4 @@ no_value_coded-requires c = tt
 pub returns : goal.returns
 returns c =
     let answer : ℤ → WrittenResidue = λ z. record { known = false; value = z; end = c.args.end } in
-    ap answer (held-result (record { sfits = c.no_value_coded.type-inv }) c.no_value_coded.ensures)
+    ap answer (held-result (record { sfits = c.no_value_coded.type_inv }) c.no_value_coded.ensures)

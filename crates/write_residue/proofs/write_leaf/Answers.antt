@@ -45,7 +45,7 @@ write_known-requires c = tt
 pub returns-then-kinds-i-eq-INTEGER_NODE : goal.returns-then-kinds-i-eq-INTEGER_NODE
 returns-then-kinds-i-eq-INTEGER_NODE c =
     let s = c in
-    wrote-known c.write_known.ensures (held-result (record { sfits = c.bounded_coded.type-inv }) (c.bounded_coded.ensures ∙ ap (λ z. coded (bounded z)) (to_z-of_z w64 (number s) (record { sfits = omega (arith, c.number-1.given) })))) (integer_arm (nodes s) (seen s) s.args.older.letters s.args.part.place s.args.part.end (some s) c.if-kinds-i-eq-INTEGER_NODE.true)
+    wrote-known c.write_known.ensures (held-result (record { sfits = c.bounded_coded.type_inv }) (c.bounded_coded.ensures ∙ ap (λ z. coded (bounded z)) (to_z-of_z w64 (number s) (record { sfits = omega (arith, c.number-1.given) })))) (integer_arm (nodes s) (seen s) s.args.older.letters s.args.part.place s.args.part.end (some s) c.if-kinds-i-eq-INTEGER_NODE.true)
 
 pub evaluate-value-requires : goal.evaluate-value-requires
 evaluate-value-requires c = tt
@@ -58,7 +58,7 @@ returns-then-part-older c =
     let s = c in
     let a : HasArrays (nodes s) = record { kinds = c.kind_list-1.given.0; values = c.value_list-1.given.0; starts = c.start_list-1.given.0 } in
     let v = name-value (nodes s) (seen s) (s.args.part.end - 1) s.args.part.place a (omega (arith, s.requires.0.end_within, s.requires.1.0)) (omega (arith, s.requires.0.letters_places, c.if-part-older.true)) (is_name s c.if-kinds-i-eq-INTEGER_NODE.false) in
-    wrote-known c.write_known-then-part-older.ensures (held-result (record { sfits = c.evaluate-value.type-inv }) (c.evaluate-value.ensures ∙ ap coded v)) (older_arm (nodes s) (seen s) s.args.older.letters s.args.part.place s.args.part.end (some s) (is_name s c.if-kinds-i-eq-INTEGER_NODE.false) c.if-part-older.true)
+    wrote-known c.write_known-then-part-older.ensures (held-result (record { sfits = c.evaluate-value.type_inv }) (c.evaluate-value.ensures ∙ ap coded v)) (older_arm (nodes s) (seen s) s.args.older.letters s.args.part.place s.args.part.end (some s) (is_name s c.if-kinds-i-eq-INTEGER_NODE.false) c.if-part-older.true)
 
 pub varying-requires : goal.varying-requires
 varying-requires c = tt

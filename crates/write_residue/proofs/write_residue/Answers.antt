@@ -44,7 +44,7 @@ returns-then-root-ge1024 c =
     let s = c in
     let l = c.letter_count-letters.ensures in
     wrote-cut c.fewer-from.ensures (new-arrays s c.new_kind_list-2-1.given.0 c.new_value_list-2-1.given.0 c.new_start_list-2-1.given.0)
-    (wrote-known c.write_known.ensures (held-result (record { sfits = c.no_value_coded.type-inv }) c.no_value_coded.ensures)
+    (wrote-known c.write_known.ensures (held-result (record { sfits = c.no_value_coded.type_inv }) c.no_value_coded.ensures)
     (no_node (arrays s c.kind_list-1.given.0 c.value_list-1.given.0 c.start_list-1.given.0) (seen s) _ s.args.root s.args.place c.if-root-ge1024.true))
 
 pub write_before-requires : goal.write_before-requires

@@ -56,7 +56,7 @@ loop-again c =
     let value = c.before.evaluate in (
       omega arith,
       mapped_more _ start.args.first-nodes.now at-loop.loop.numbers at-loop.loop.i 0 _ c.before.before.before.loop-test.true (omega arith)
-          (c.raised.ensures ∙ ap raised (value-given _ _ _ 0 (record { sfits = value.type-inv }) value.ensures)) at-loop.loop.invariant.1,
+          (c.raised.ensures ∙ ap raised (value-given _ _ _ 0 (record { sfits = value.type_inv }) value.ensures)) at-loop.loop.invariant.1,
       simp length-set at-loop.loop.invariant.2,
     )
 
