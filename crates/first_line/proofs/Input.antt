@@ -1,6 +1,6 @@
 -- What is kept of an input, whatever the chunks in which it comes: the line before its first byte 10, and of the bytes behind it the first, as many as there is
 -- room for. By induction over the bytes, from the laws of chunks (text, Lines).
-use Prim.Native.Nat.{ℕ, suc, ◌+◌, ◌≤◌, ◌<◌}
+use Prim.Native.Nat.{ℕ, ◌+◌, ◌≤◌, ◌<◌}
 use native.Mathlib.Omega.{arith}
 use native.Mathlib.Numerals.{add-one}
 use mathlib.Core.Path.{◌≡◌, refl, sym, ◌∙◌, ap, ap₂, subst}

@@ -3,7 +3,7 @@
 use Prim.Native.Nat.{ℕ, ◌+◌, ◌-◌, ◌*◌}
 use native.Mathlib.Omega.{arith}
 use mathlib.Core.Path.{◌≡◌, refl, sym, ◌∙◌, ap, ap₂}
-use mathlib.Core.Bool.{Bool, true, false, not, cond, ◌&&◌, ◌||◌, and-true, and_false}
+use mathlib.Core.Bool.{Bool, true, false, not, cond, ◌&&◌, ◌||◌, and-false}
 use mathlib.Core.List.{List, [], ◌∷◌}
 use mathlib.Core.Option.{none, some}
 use lib.Dec.{eqb}
@@ -44,7 +44,7 @@ digits-after (b ∷ l) = by (is_digit b) (digits-after l)
 zero-after : (l : List ℕ) → phase_end (phases Zero l) ≡ cond (is_natural (48 ∷ l)) Ended NoNumber
 unfolding phases is_natural
 zero-after [] = refl
-zero-after (b ∷ l) = ap phase_end (none_after l) ∙ sym (ap (λ t. cond t Ended NoNumber) (and_false (is_digit b && all_bytes is_digit l)))
+zero-after (b ∷ l) = ap phase_end (none_after l) ∙ sym (ap (λ t. cond t Ended NoNumber) (and-false (is_digit b && all_bytes is_digit l)))
 
 natural-after : (t : List ℕ) → phase_end (phases Start t) ≡ cond (is_natural t) Ended NoNumber
 unfolding phases is_natural

@@ -1,5 +1,5 @@
 -- An input with a line before a sheet (document 02, S-13: "the one given on a line before the sheet"), and the number that the line holds.
-use Rattle.std.specs.Prelude.{ℕ, cond, ◌&&◌, List, [], ◌∷◌, eqb}
+use Rattle.std.specs.Prelude.{ℕ, cond, List, [], ◌∷◌, eqb}
 use Rattle.std.proofs.Math.Option.{Option, none, some}
 use Rattle.text.specs.Bytes.{Token, tokens}
 use Rattle.text.specs.Token.{all_bytes, is_natural, natural_from}

@@ -3,7 +3,7 @@
 use Prim.Native.Nat.{ℕ, ◌+◌, ◌-◌, ◌*◌}
 use native.Mathlib.Omega.{arith}
 use mathlib.Core.Path.{◌≡◌, refl, sym, ◌∙◌, ap, subst}
-use mathlib.Core.Bool.{Bool, true, false, not, cond, ◌&&◌, ◌||◌, and-true, and_false}
+use mathlib.Core.Bool.{Bool, true, false, not, cond, ◌&&◌, ◌||◌, and-true, and-false}
 use mathlib.Core.List.{List, [], ◌∷◌}
 use lib.Dec.{eqb}
 use borrow.Author.Tests.{eqb-true}
@@ -66,7 +66,7 @@ tells-same e f h = record { ends = ap ends_integer e ∙ h.ends ∙ sym f; sign 
 minus-zero : (l : List ℕ) → (is_natural (48 ∷ l) && not (same_bytes (48 ∷ l) (bytes_of "0"))) ≡ false
 unfolding is_natural
 minus-zero [] = refl
-minus-zero (b ∷ l) = ap (λ t. t && true) (and_false (is_digit b && all_bytes is_digit l))
+minus-zero (b ∷ l) = ap (λ t. t && true) (and-false (is_digit b && all_bytes is_digit l))
 
 after_minus : (l : List ℕ) → Tells true (is_natural l && not (same_bytes l (bytes_of "0"))) (phase_after Minus l)
 unfolding is_natural
@@ -80,7 +80,7 @@ after_minus (b ∷ l) = by (eqb b 48) refl
 after-zero : (l : List ℕ) → Tells false (is_natural (48 ∷ l)) (phase_after Zero l)
 unfolding is_natural
 after-zero [] = record { ends = refl; sign = λ e. refl }
-after-zero (b ∷ l) = tells_none (and_false (is_digit b && all_bytes is_digit l)) (none_after l)
+after-zero (b ∷ l) = tells_none (and-false (is_digit b && all_bytes is_digit l)) (none_after l)
 
 after_first : (b : ℕ) (l : List ℕ) → Tells false (is_natural (b ∷ l)) (phase_after (cond (eqb b 48) Zero (digit_phase b Digits)) l)
 after_first b l = by (eqb b 48) refl

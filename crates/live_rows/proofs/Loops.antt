@@ -1,12 +1,12 @@
 -- What a turn of the small loops does: setting a number for each row, and keeping flagged marks;
 -- and how the passes that find a set follow each other.
-use mathlib.Core.Path.{◌≡◌, refl, sym, ap, subst, ◌∙◌}
+use mathlib.Core.Path.{◌≡◌, sym, ap, subst, ◌∙◌}
 use mathlib.Core.Logic.{◌↔◌}
 use mathlib.Core.List.{List}
 use Prim.Native.Nat.{ℕ, ◌+◌, ◌*◌, ◌<◌, ◌≤◌}
 use native.Mathlib.Omega.{arith}
-use native.Mathlib.Decide.{ℕ_discrete, dec_lt}
-use lib.ListN.{get_or, length, set, replicate, length-set, get_or-eq_default}
+use native.Mathlib.Decide.{ℕ_discrete}
+use lib.ListN.{get_or, length, set, replicate}
 use Rattle.automaton.specs.Table.{IsFlag}
 use Rattle.marks.specs.Marks.{Marked, Pruned, Grown, IsFlagged, IfFits}
 use Rattle.basics.proofs.Lists.{below_set, set_other}

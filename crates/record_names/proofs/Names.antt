@@ -1,16 +1,15 @@
 -- A line of names that is read byte by byte passes exactly if its tokens are the sheet's names and no byte is barred: from the laws of tokens
 -- read byte by byte (`text` `Fold`), by induction over the bytes of a token and over the tokens. And the names as the reader stores them.
-use Prim.Native.Nat.{ℕ, zero, suc, ◌+◌, ◌*◌, ◌≤◌, ◌<◌, min}
+use Prim.Native.Nat.{ℕ, suc, ◌*◌, ◌≤◌, ◌<◌, min}
 use native.Mathlib.Omega.{arith}
 use native.Mathlib.Decide.{dec_lt}
 use mathlib.Core.Path.{◌≡◌, refl, sym, ◌∙◌, ap, ap₂}
-use mathlib.Core.Bool.{Bool, true, false, not, cond, ◌&&◌, and-true, and_false, and_assoc, not-not}
+use mathlib.Core.Bool.{Bool, true, false, not, ◌&&◌, and-true, and-false, and_assoc, not-not}
 use mathlib.Core.List.{List, [], ◌∷◌, ◌++◌, map, append-nil}
-use lib.Dec.{ltb, eqb}
+use lib.Dec.{eqb}
 use lib.ListN.{length, take, drop, get_or, drop_of_length-le, length-map, get_or-eq_default}
 use lib.Seq.{drop-cons}
 use borrow.Author.Tests.{lt-ltb, le-ltb, eq-eqb, ne_eqb}
-use Rattle.basics.proofs.Reflects.{ltb_reflects, reflects_same}
 use Rattle.text.specs.Bytes.{Token, tokens}
 use Rattle.text.specs.Token.{all_bytes, same_bytes}
 use Rattle.text.specs.Fold.{run_bytes, tokens_read, line_read}
@@ -62,8 +61,8 @@ module _ (name : ℕ → Token) where
             ap₂ (λ x q. ended (m && (x && eqb b (get_or n p 0))) q t) (lt-ltb p (length n) l) c ∙ ih (m && eqb b (get_or n p 0)) (suc p) l
             ∙ ap (λ x. name_from (next_count k) x 0) (and_assoc m (eqb b (get_or n p 0)) (same_bytes t (drop (suc p) n)) ∙ ap (λ r. m && same_bytes (b ∷ t) r) (sym (drop-cons n p 0 l)))
         by (no l) ih =
-            ap (λ x. ended x (next_count p) t) (ap (λ x. m && (x && eqb b (get_or n p 0))) (le-ltb p (length n) (omega arith)) ∙ and_false m) ∙ differs t k (next_count p)
-            ∙ sym (ap (λ x. name_from (next_count k) x 0) (ap (λ r. m && same_bytes (b ∷ t) r) (drop_of_length-le n {i = p} (omega arith)) ∙ and_false m))
+            ap (λ x. ended x (next_count p) t) (ap (λ x. m && (x && eqb b (get_or n p 0))) (le-ltb p (length n) (omega arith)) ∙ and-false m) ∙ differs t k (next_count p)
+            ∙ sym (ap (λ x. name_from (next_count k) x 0) (ap (λ r. m && same_bytes (b ∷ t) r) (drop_of_length-le n {i = p} (omega arith)) ∙ and-false m))
 
   -- ---- the tokens
 
@@ -96,7 +95,7 @@ module _ (name : ℕ → Token) where
           by (no l) ih =
               let c = count-after ts (next_count k) (omega arith) in
               ap (λ x. same_bytes t (name k) && same_from (next_count k) ts && x) (ne_eqb (count_after (next_count k) ts) (length ns) (λ e. omega arith))
-              ∙ and_false (same_bytes t (name k) && same_from (next_count k) ts) ∙ sym (ap (same_tokens (t ∷ ts)) (drop_of_length-le ns {i = k} (omega arith)))
+              ∙ and-false (same_bytes t (name k) && same_from (next_count k) ts) ∙ sym (ap (same_tokens (t ∷ ts)) (drop_of_length-le ns {i = k} (omega arith)))
 
       -- "13, names that differ [..] (a byte refusal 1 bars makes either so)"
       pub names_read : (l : List ℕ) → names_end name (length ns) (run_bytes (names_byte name) names_start l) ≡ is_names_line ns l

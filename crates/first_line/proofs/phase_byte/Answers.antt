@@ -4,7 +4,7 @@ use Rattle.first_line.specs.Machine.{phase_byte}
 use Rattle.first_line.proofs.phase_byte.Goals as goal
 
 pub returns-in-Start : goal.returns-in-Start
-returns-in-Start c = c.first_digit.ensures ∙ sym (ap (λ p. phase_byte p c.args.byte) c.enum_told-1.given.1)
+returns-in-Start c = c.first_digit.ensures ∙ sym (ap (λ p. phase_byte p c.args.byte) c.in-Start.is)
 
 pub returns-in-Digits : goal.returns-in-Digits
-returns-in-Digits c = c.digit_phase.ensures ∙ sym (ap (λ p. phase_byte p c.args.byte) c.enum_told-in-Digits-1.given.1)
+returns-in-Digits c = c.digit_phase.ensures ∙ sym (ap (λ p. phase_byte p c.args.byte) c.in-Digits.is)

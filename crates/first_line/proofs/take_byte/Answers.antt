@@ -20,4 +20,4 @@ line_byte-requires c = tt
 pub returns : goal.returns
 returns c =
     let a = c.args in
-    ap (λ l. keeping (taken_at l false a.true.size) a.sheet.now) c.line_byte.ensures ∙ sym (simp (c.if-taken.false, ne_eqb _ _ c.if-byte-eq10.false))
+    ap (λ l. keeping (taken_at l false a.taken.size) a.sheet.now) c.line_byte.ensures ∙ sym (simp (c.if-taken.false, ne_eqb _ _ c.if-byte-eq10.false))

@@ -1,8 +1,7 @@
 -- `first_line::take_chunk` meets its contract: before each turn the bytes of the chunk before `i` are taken.
-use Prim.Native.Nat.{◌-◌}
 use native.Mathlib.Omega.{arith}
 use mathlib.Core.Path.{refl, ◌∙◌, ap}
-use lib.ListN.{get_or, take}
+use lib.ListN.{get_or}
 use lib.Seq.{take_all}
 use Rattle.text.specs.Fold.{run_bytes}
 use Rattle.first_line.specs.Machine.{keeping, keep_byte}
@@ -28,12 +27,12 @@ loop-i-preserved c =
     let call = c.take_byte-kept in
     let byte = get_or a.chunk.now loop.i 0 in (
       omega arith,
-      call.auto.1.1.0 ∙ loop.invariant.1,
-      chunk_more (keeping a.true a.sheet.now) a.chunk.now loop.i (omega arith) (call.ensures ∙ ap (λ s. keep_byte s byte) loop.invariant.2),
+      call.auto.sheet ∙ loop.invariant.1,
+      chunk_more (keeping a.taken a.sheet.now) a.chunk.now loop.i (omega arith) (call.ensures ∙ ap (λ s. keep_byte s byte) loop.invariant.2),
     )
 
 pub returns : goal.returns
 returns c =
     let a = c.args in
     let loop = c.loop-i in
-    loop.invariant.2 ∙ ap (run_bytes keep_byte (keeping a.true a.sheet.now)) (take_all loop.i a.chunk.now (omega arith))
+    loop.invariant.2 ∙ ap (run_bytes keep_byte (keeping a.taken a.sheet.now)) (take_all loop.i a.chunk.now (omega arith))

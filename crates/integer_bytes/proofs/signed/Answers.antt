@@ -24,7 +24,7 @@ pub returns-then-negative : goal.returns-then-negative
 returns-then-negative c =
     let magnitude : to_z w64 c.args.magnitude ≡ pos c.args.magnitude = to_z_pos w64 c.args.magnitude (omega arith) in
     let taken-away : pos 0 -ℤ to_z w64 c.args.magnitude ≡ neg_ℤ (pos c.args.magnitude) = ap (λ z. pos 0 -ℤ z) (magnitude) ∙ zero-less c.args.magnitude in
-    to_z-of_z w64 _ (sub-result c) ∙ taken-away ∙ ap (λ b. with_sign b c.args.magnitude) (sym c.if-negative.true)
+    to_z-of_z w64 _ (subst (SFits w64) (sym (taken-away)) (negative_fits c.args.magnitude (omega arith))) ∙ taken-away ∙ ap (λ b. with_sign b c.args.magnitude) (sym c.if-negative.true)
 
 pub returns-else-negative : goal.returns-else-negative
 returns-else-negative c =

@@ -1,6 +1,5 @@
 -- `live_rows::find_finals` meets its contract: each pass starts from what the pass before left.
 use mathlib.Core.Path.{refl, ◌∙◌}
-use borrow.Author.Tests.{not-true, not-false}
 use Rattle.basics.proofs.Answers.{says_yes, says_no}
 use Rattle.live_rows.proofs.Loops.{finds_finals}
 use Rattle.live_rows.proofs.find_finals.Goals as goal
@@ -19,7 +18,7 @@ mark_pending-requires c = ((says_yes c.if-not-has_room.false c.has_room.ensures)
 
 pub set_finals-requires : goal.set_finals-requires
 set_finals-requires c = (
-  c.prune.auto.1.1.0 ∙ (c.mark_pending.auto.1.1.0 ∙ c.if-pending-live.false),
+  c.prune.auto.marks ∙ (c.mark_pending.auto.pending ∙ c.if-pending-live.false),
   (says_yes c.if-not-has_room.false c.has_room.ensures).1,
 )
 
@@ -31,7 +30,7 @@ returns c =
     let prune = c.prune in
     let final = c.set_finals in
     record {
-      fits = λ z e. finds_finals args.letters args.entries.now args.live.now args.flags.now args.pending.now mark.new.1.1.0 prune.new.1.1.0 final.new.1.1.0
-          z.entries_fit e mark.auto.1.1.0 prune.auto.1.1.0 mark.ensures prune.ensures final.ensures.0 final.ensures.1;
+      fits = λ z e. finds_finals args.letters args.entries.now args.live.now args.flags.now args.pending.now mark.new.pending prune.new.marks final.new.finals
+          z.entries_fit e mark.auto.pending prune.auto.marks mark.ensures prune.ensures final.ensures.0 final.ensures.1;
       unchanged = λ n. absurd (n (record { entries_fit = room.0; flags_fit = room.1 }, c.if-pending-live.false));
     }

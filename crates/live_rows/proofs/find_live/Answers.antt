@@ -1,6 +1,5 @@
 -- `live_rows::find_live` meets its contract: each pass starts from what the pass before left.
 use mathlib.Core.Path.{refl}
-use borrow.Author.Tests.{not-true, not-false}
 use Rattle.basics.proofs.Answers.{says_yes, says_no}
 use Rattle.live_rows.proofs.Loops.{finds_live}
 use Rattle.live_rows.proofs.find_live.Goals as goal
@@ -20,7 +19,7 @@ returns c =
     let keep = c.keep_flagged in
     let grow = c.grow in
     record {
-      fits = λ z. finds_live args.letters args.entries.now args.flags.now args.live.now fill.new.0 prune.new.1.1.0 keep.new.1.0 grow.new.1.1.0
-          z.entries_fit fill.ensures fill.auto.0 prune.auto.1.1.0 keep.auto.1.0 grow.auto.1.1.0 prune.ensures keep.ensures grow.ensures;
+      fits = λ z. finds_live args.letters args.entries.now args.flags.now args.live.now fill.new.list prune.new.marks keep.new.marks grow.new.marks
+          z.entries_fit fill.ensures fill.auto.list prune.auto.marks keep.auto.marks grow.auto.marks prune.ensures keep.ensures grow.ensures;
       unchanged = λ n. absurd (n (record { entries_fit = room.0; flags_fit = room.1 }));
     }

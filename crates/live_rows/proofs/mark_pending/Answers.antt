@@ -1,9 +1,8 @@
 -- `live_rows::mark_pending` meets its contract: the numbers before `row` are set.
-use Prim.Native.Nat.{◌-◌}
 use mathlib.Core.Path.{refl}
 use mathlib.Core.Logic.{inl, inr}
 use native.Mathlib.Omega.{arith}
-use lib.ListN.{length, length-set}
+use lib.ListN.{length-set}
 use Rattle.live_rows.proofs.Loops.{set_next, set-none}
 use borrow.Author.Rules.{rules}
 use Rattle.live_rows.proofs.mark_pending.Goals as goal

@@ -1,9 +1,8 @@
 -- `live_rows::set_finals` meets its contract: the bytes before `row` are set.
-use Prim.Native.Nat.{◌-◌}
 use mathlib.Core.Path.{refl}
 use mathlib.Core.Logic.{inl, inr}
 use native.Mathlib.Omega.{arith}
-use lib.ListN.{length, length-set}
+use lib.ListN.{length-set}
 use Rattle.live_rows.proofs.Loops.{set_next, set-none, beyond-next}
 use borrow.Author.Rules.{rules}
 use Rattle.live_rows.proofs.set_finals.Goals as goal

@@ -13,5 +13,5 @@ pub returns : goal.returns
 returns c =
     let run = c.run-answer in
     let clear = c.clear_tables.ensures in
-    ran_outcome run.ensures run.auto.0 run.auto.1.0 clear.entries_beyond clear.flags_beyond
-    (ap₂ ◌∷◌ (zeroed clear.live_zero run.auto.1.1.1.1.0) (ap₂ ◌∷◌ (zeroed clear.class_zero run.auto.1.1.1.1.1.0) (ap₂ ◌∷◌ (zeroed clear.next_zero run.auto.1.1.1.1.1.1.0) (ap₂ ◌∷◌ (zeroed clear.heads_zero run.auto.1.1.1.1.1.1.1.0) (ap₂ ◌∷◌ (zeroed clear.links_zero run.auto.1.1.1.1.1.1.1.1.0) (ap₂ ◌∷◌ (zeroed clear.envelopes_zero run.auto.1.1.1.1.1.1.1.1.1.0) refl))))))
+    ran_outcome run.ensures run.auto.entries run.auto.flags clear.entries_beyond clear.flags_beyond
+    (ap₂ ◌∷◌ (zeroed clear.live_zero run.auto.live) (ap₂ ◌∷◌ (zeroed clear.class_zero run.auto.class) (ap₂ ◌∷◌ (zeroed clear.next_zero run.auto.next) (ap₂ ◌∷◌ (zeroed clear.heads_zero run.auto.heads) (ap₂ ◌∷◌ (zeroed clear.links_zero run.auto.links) (ap₂ ◌∷◌ (zeroed clear.envelopes_zero run.auto.envelopes) refl))))))

@@ -1,5 +1,5 @@
 -- `minimise::move_rows` meets its contract: the rows of the states before `state` are moved.
-use Prim.Native.Nat.{◌≤◌, ◌-◌, ◌+◌, ◌*◌}
+use Prim.Native.Nat.{◌≤◌, ◌+◌, ◌*◌}
 use native.Mathlib.Nat.{mul-le-mul_right}
 use native.Mathlib.Omega.{arith}
 use lib.ListN.{length, get_or}
@@ -21,8 +21,8 @@ overflow_mul-row c =
     (row * start.args.letters + start.args.letters ≤ length start.args.entries.now) × (c.loop-state.state * start.args.letters ≤ row * start.args.letters) = (let start = c in
     let state = c.loop-state.state in
     let row = get_or start.args.first.now state 0 in (
-      row_fits row (length start.args.class.now) start.args.letters (length start.args.entries.now) (start.requires.0.inside state c.loop-state-test.true) start.requires.1.1.0,
-      mul-le-mul_right start.args.letters (first-least start.requires.0 state c.loop-state-test.true),
+      row_fits row (length start.args.class.now) start.args.letters (length start.args.entries.now) (start.requires.numbered.inside state c.loop-state-test.true) start.requires.letters_in_bounds.0,
+      mul-le-mul_right start.args.letters (first-least start.requires.numbered state c.loop-state-test.true),
     )) in
     omega (arith, (fits).0, c.well_formed)
 
@@ -32,8 +32,8 @@ overflow_mul-state c =
     (row * start.args.letters + start.args.letters ≤ length start.args.entries.now) × (c.loop-state.state * start.args.letters ≤ row * start.args.letters) = (let start = c in
     let state = c.loop-state.state in
     let row = get_or start.args.first.now state 0 in (
-      row_fits row (length start.args.class.now) start.args.letters (length start.args.entries.now) (start.requires.0.inside state c.loop-state-test.true) start.requires.1.1.0,
-      mul-le-mul_right start.args.letters (first-least start.requires.0 state c.loop-state-test.true),
+      row_fits row (length start.args.class.now) start.args.letters (length start.args.entries.now) (start.requires.numbered.inside state c.loop-state-test.true) start.requires.letters_in_bounds.0,
+      mul-le-mul_right start.args.letters (first-least start.requires.numbered state c.loop-state-test.true),
     )) in
     omega (arith, (fits).0, (fits).1, c.well_formed)
 
@@ -43,20 +43,20 @@ move_row-requires c =
     (row * start.args.letters + start.args.letters ≤ length start.args.entries.now) × (c.loop-state.state * start.args.letters ≤ row * start.args.letters) = (let start = c in
     let state = c.loop-state.state in
     let row = get_or start.args.first.now state 0 in (
-      row_fits row (length start.args.class.now) start.args.letters (length start.args.entries.now) (start.requires.0.inside state c.loop-state-test.true) start.requires.1.1.0,
-      mul-le-mul_right start.args.letters (first-least start.requires.0 state c.loop-state-test.true),
+      row_fits row (length start.args.class.now) start.args.letters (length start.args.entries.now) (start.requires.numbered.inside state c.loop-state-test.true) start.requires.letters_in_bounds.0,
+      mul-le-mul_right start.args.letters (first-least start.requires.numbered state c.loop-state-test.true),
     )) in
-    (((fits).1, rw c.loop-state.invariant.1.entries_length (fits).0), c.requires.1.0)
+    record { to_le_from = ((fits).1, rw c.loop-state.invariant.1.entries_length (fits).0); nameable = c.requires.nameable }
 
 pub bounds-finals-row : goal.bounds-finals-row
-bounds-finals-row c = omega (arith, c.requires.0.inside c.loop-state.state c.loop-state-test.true, c.requires.1.1.1, c.loop-state.invariant.1.finals_length)
+bounds-finals-row c = omega (arith, c.requires.numbered.inside c.loop-state.state c.loop-state-test.true, c.requires.letters_in_bounds.1, c.loop-state.invariant.1.finals_length)
 
 pub loop-state-preserved : goal.loop-state-preserved
 loop-state-preserved c =
     let loop = c.loop-state in
     let start = c in (
       omega arith,
-      compacting_next c.move_row.new.entries start.requires.0 c.loop-state-test.true (omega (arith, start.requires.0.most, start.requires.1.1.1, loop.invariant.1.finals_length)) c.move_row.auto.0 c.move_row.ensures loop.invariant.1,
+      compacting_next c.move_row.new.entries start.requires.numbered c.loop-state-test.true (omega (arith, start.requires.numbered.most, start.requires.letters_in_bounds.1, loop.invariant.1.finals_length)) c.move_row.auto.entries c.move_row.ensures loop.invariant.1,
     )
 
 pub returns : goal.returns

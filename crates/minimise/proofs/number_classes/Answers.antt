@@ -1,5 +1,4 @@
 -- `minimise::number_classes` meets its contract: the classes that begin before `row` are numbered.
-use Prim.Native.Nat.{◌-◌}
 use mathlib.Core.Path.{◌≡◌, refl, sym, ◌∙◌}
 use native.Mathlib.Numerals.{add-one}
 use native.Mathlib.Omega.{arith}

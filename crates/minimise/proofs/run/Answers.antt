@@ -8,7 +8,6 @@ use native.Mathlib.Omega.{arith}
 use lib.ListN.{length, take, drop}
 use lib.Seq.{length-take-le, take_at}
 use borrow.Table.Elements.{same_len}
-use borrow.Author.Tests.{not-true, not-false}
 use Rattle.basics.proofs.Answers.{says_yes, says_no}
 use Rattle.minimise.specs.Outcome.{WorkHasRoom}
 use Rattle.minimise.proofs.Reducing.{judged-word, word_rows, judged_ran, tabled_ran}
@@ -43,15 +42,15 @@ pub slice_bounds-build_table-end : goal.slice_bounds-build_table-end
 slice_bounds-build_table-end c =
     let room : let args = c.args in WorkHasRoom args.rows (args.live.now ∷ (args.class.now ∷ (args.next.now ∷ (args.heads.now ∷ (args.links.now ∷ (args.envelopes.now ∷ [])))))) = (let h = says_yes c.if-not-have_room.false c.have_room.ensures in
     (h.0, (h.1, (h.2, (h.3, (h.4, (h.5, tt))))))) in
-    let args = c.args in omega (arith, (room).0, same_len args.rows args.live.now c.find_refusal-refusal.new.live c.find_refusal-refusal.auto.1.1.1.0)
+    let args = c.args in omega (arith, (room).0, same_len args.rows args.live.now c.find_refusal-refusal.new.live c.find_refusal-refusal.auto.live)
 
 pub slice_bounds-build_table-end-2 : goal.slice_bounds-build_table-end-2
 slice_bounds-build_table-end-2 c =
     let room : let args = c.args in WorkHasRoom args.rows (args.live.now ∷ (args.class.now ∷ (args.next.now ∷ (args.heads.now ∷ (args.links.now ∷ (args.envelopes.now ∷ [])))))) = (let h = says_yes c.if-not-have_room.false c.have_room.ensures in
     (h.0, (h.1, (h.2, (h.3, (h.4, (h.5, tt))))))) in
     let again : let args = c.args in take args.rows (c.find_refusal-refusal.new.live ++ drop args.rows args.live.now) ≡ c.find_refusal-refusal.new.live = (let args = c.args in
-    take_at c.find_refusal-refusal.new.live (drop args.rows args.live.now) args.rows (c.find_refusal-refusal.auto.1.1.1.0 ∙ sym (cut args.rows args.live.now (room).0))) in
-    rw (again) (cut c.args.rows c.args.live.now (room).0 ∙ sym c.find_refusal-refusal.auto.1.1.1.0)
+    take_at c.find_refusal-refusal.new.live (drop args.rows args.live.now) args.rows (c.find_refusal-refusal.auto.live ∙ sym (cut args.rows args.live.now (room).0))) in
+    rw (again) (cut c.args.rows c.args.live.now (room).0 ∙ sym c.find_refusal-refusal.auto.live)
 
 pub slice_bounds-build_table-end-3 : goal.slice_bounds-build_table-end-3
 slice_bounds-build_table-end-3 c =
@@ -118,21 +117,21 @@ build_table-states-requires c =
     let room : let args = c.args in WorkHasRoom args.rows (args.live.now ∷ (args.class.now ∷ (args.next.now ∷ (args.heads.now ∷ (args.links.now ∷ (args.envelopes.now ∷ [])))))) = (let h = says_yes c.if-not-have_room.false c.have_room.ensures in
     (h.0, (h.1, (h.2, (h.3, (h.4, (h.5, tt))))))) in
     let again : let args = c.args in take args.rows (c.find_refusal-refusal.new.live ++ drop args.rows args.live.now) ≡ c.find_refusal-refusal.new.live = (let args = c.args in
-    take_at c.find_refusal-refusal.new.live (drop args.rows args.live.now) args.rows (c.find_refusal-refusal.auto.1.1.1.0 ∙ sym (cut args.rows args.live.now (room).0))) in
+    take_at c.find_refusal-refusal.new.live (drop args.rows args.live.now) args.rows (c.find_refusal-refusal.auto.live ∙ sym (cut args.rows args.live.now (room).0))) in
     let args = c.args in
     let h = room in
     let find = c.find_refusal-refusal in
-    let same : args.rows ≡ length find.new.1.1.1.0 = cut args.rows args.live.now h.0 ∙ sym find.auto.1.1.1.0 in
-    rw (again) (
-      word_rows (judged-word c.if-refusal-ne0.false find.ensures),
-      (
+    let same : args.rows ≡ length find.new.live = cut args.rows args.live.now h.0 ∙ sym find.auto.live in
+    rw (again) (record {
+      has_word = word_rows (judged-word c.if-refusal-ne0.false find.ensures);
+      class_len = (
         sym (cut args.rows args.class.now h.1.0) ∙ same,
         sym (cut args.rows args.next.now h.1.1.0) ∙ same,
         sym (cut args.rows args.heads.now h.1.1.1.0) ∙ same,
         sym (cut args.rows args.links.now h.1.1.1.1.0) ∙ same,
         sym (cut args.rows args.envelopes.now h.1.1.1.1.1.0) ∙ same,
-      ),
-    )
+      );
+    })
 
 pub overflow_cast-result : goal.overflow_cast-result
 overflow_cast-result c = omega (arith, c.build_table-states.ensures.few_states, c.build_table-states.ensures.graph.few_rows)
@@ -142,8 +141,8 @@ returns c =
     let room : let args = c.args in WorkHasRoom args.rows (args.live.now ∷ (args.class.now ∷ (args.next.now ∷ (args.heads.now ∷ (args.links.now ∷ (args.envelopes.now ∷ [])))))) = (let h = says_yes c.if-not-have_room.false c.have_room.ensures in
     (h.0, (h.1, (h.2, (h.3, (h.4, (h.5, tt))))))) in
     let again : let args = c.args in take args.rows (c.find_refusal-refusal.new.live ++ drop args.rows args.live.now) ≡ c.find_refusal-refusal.new.live = (let args = c.args in
-    take_at c.find_refusal-refusal.new.live (drop args.rows args.live.now) args.rows (c.find_refusal-refusal.auto.1.1.1.0 ∙ sym (cut args.rows args.live.now (room).0))) in
+    take_at c.find_refusal-refusal.new.live (drop args.rows args.live.now) args.rows (c.find_refusal-refusal.auto.live ∙ sym (cut args.rows args.live.now (room).0))) in
     let args = c.args in
     let h = room in
     let find = c.find_refusal-refusal in
-    tabled_ran (rw (again) (find.auto.1.1.1.0 ∙ sym (cut args.rows args.live.now h.0))) h c.build_table-states.ensures
+    tabled_ran (rw (again) (find.auto.live ∙ sym (cut args.rows args.live.now h.0))) h c.build_table-states.ensures

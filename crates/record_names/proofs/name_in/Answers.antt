@@ -1,5 +1,5 @@
 -- `record_names::name_in` meets its contract: as many of the eight bytes as the length says, of those that there are, and none where there is no length.
-use Prim.Native.Nat.{◌-◌, ◌*◌, min}
+use Prim.Native.Nat.{◌*◌, min}
 use mathlib.Core.Path.{◌≡◌, sym, ap, ◌∙◌}
 use native.Mathlib.Omega.{arith}
 use lib.ListN.{length, take, drop, get_or, drop_of_length-le, get_or-eq_default}

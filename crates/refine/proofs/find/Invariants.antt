@@ -1,5 +1,4 @@
 -- `refine::find` meets its contract: the rows of the chain with the signature of `row` are on what is left of it.
-use Prim.Native.Nat.{◌-◌}
 use Rattle.refine.specs.Signatures.{SameSignature}
 use Rattle.refine.proofs.Chains.{Searching}
 use Rattle.refine.proofs.find.Given as goal

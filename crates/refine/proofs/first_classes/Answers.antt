@@ -1,5 +1,4 @@
 -- `refine::first_classes` meets its contract. What a turn does to the two classes is in `FirstClasses`.
-use Prim.Native.Nat.{◌-◌}
 use mathlib.Core.Path.{◌≡◌}
 use native.Mathlib.Omega.{arith}
 use lib.ListN.{length}

@@ -1,9 +1,8 @@
 -- `refine::hash_part` meets its contract: `h` is the hash of the first `a` classes.
-use Prim.Native.Nat.{◌-◌}
 use mathlib.Core.Path.{◌≡◌, sym, ap₂, ◌∙◌}
 use native.Mathlib.Omega.{arith}
 use native.Mathlib.Numerals.{add-one}
-use Rattle.refine.specs.Signatures.{class_after, mixed, hash}
+use Rattle.refine.specs.Signatures.{class_after, mixed}
 use Rattle.refine.proofs.Signatures.{hash-step, hash-start}
 use borrow.Author.Rules.{rules}
 use Rattle.refine.proofs.hash_part.Goals as goal

@@ -5,7 +5,6 @@ use native.Mathlib.Omega.{arith}
 use lib.ListN.{length, get_or}
 use Rattle.row_envelopes.specs.Envelopes.{envelope_begin, envelope_end}
 use Rattle.row_envelopes.proofs.Laws.{envelope_ordered, envelope_fits}
-use Rattle.refine.specs.Signatures.{hash}
 use Rattle.refine.proofs.hash_row.Goals as goal
 
 pub overflow_mul-start : goal.overflow_mul-start

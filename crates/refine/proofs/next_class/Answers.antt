@@ -1,7 +1,8 @@
 -- `refine::next_class` meets its contract: a row without a class, or alone in it, keeps it; any other is split.
 use mathlib.Core.Path.{refl, sym}
-use mathlib.Core.Logic.{inl, inr, ⊎_elim}
+use mathlib.Core.Logic.{inl, inr}
 use native.Mathlib.Omega.{arith}
+use Rattle.refine.proofs.next_class.Goals.{then-old-row+else-mark-ne1, else-old-row}
 use Rattle.refine.proofs.next_class.Goals as goal
 
 pub returns-then-old-eq0 : goal.returns-then-old-eq0
@@ -12,4 +13,4 @@ returns-then-mark-ne1 c = inl (record { kept = refl; alone = λ h. (omega (arith
 
 pub returns : goal.returns
 returns c =
-    inr (record { some = omega (arith, c.if-old-eq0.false); shares = λ e. ⊎_elim (λ w. w.1.left) (λ w. absurd (w.left (omega (arith, e)))) c.if-old-row.branch; way = c.split_row.ensures })
+    inr (record { some = omega (arith, c.if-old-eq0.false); shares = λ e. elim c.if-old-row.branch [ then-old-row+else-mark-ne1 w ↦ w.if-mark-ne1.false | else-old-row w ↦ absurd (w.if-old-row.false (omega (arith, e))) ]; way = c.split_row.ensures })

@@ -4,11 +4,9 @@ use mathlib.Core.Path.{◌≡◌, refl, ◌∙◌}
 use mathlib.Core.Bool.{true, false}
 use mathlib.Core.List.{List}
 use Prim.Native.Nat.{ℕ}
-use borrow.Author.Tests.{not-true, not-false}
 use native.Mathlib.Omega.{arith}
 use Rattle.basics.proofs.Answers.{says_yes, says_no}
 use Rattle.basics.proofs.Clearing.{zeroed}
-use lib.ListN.{length}
 use Rattle.refine.specs.Classes.{Sizes}
 use Rattle.refine.specs.Steps.{RefineOutcome}
 use Rattle.refine.proofs.refine.Goals as goal
@@ -52,7 +50,7 @@ rounds-requires c =
         next_fits = fit.next_fits;
         heads_fit = fit.heads_fit;
         links_fit = fit.links_fit;
-        envelopes_fit = c.find_envelopes.auto.1.1.1.0 ∙ fit.envelopes_fit;
+        envelopes_fit = c.find_envelopes.auto.envelopes ∙ fit.envelopes_fit;
       };
       enveloped = c.find_envelopes.ensures.fits (fit.entries_fit, fit.envelopes_fit);
     }
@@ -76,12 +74,12 @@ returns c =
     record {
       says = fit;
       fits = λ z. record {
-        class_length = rounds.auto.1.1.1.1.1.0;
+        class_length = rounds.auto.class;
         refined = rounds.ensures;
-        next_zero = zeroed c.fill.ensures rounds.auto.1.1.1.1.1.1.0;
-        heads_zero = zeroed c.fill-2.ensures rounds.auto.1.1.1.1.1.1.1.0;
-        links_zero = zeroed c.fill-3.ensures rounds.auto.1.1.1.1.1.1.1.1.0;
-        envelopes_zero = zeroed c.fill-4.ensures c.find_envelopes.auto.1.1.1.0;
+        next_zero = zeroed c.fill.ensures rounds.auto.next;
+        heads_zero = zeroed c.fill-2.ensures rounds.auto.heads;
+        links_zero = zeroed c.fill-3.ensures rounds.auto.links;
+        envelopes_zero = zeroed c.fill-4.ensures c.find_envelopes.auto.envelopes;
       };
       unchanged = λ n. absurd (n fit);
     }

@@ -13,7 +13,7 @@ class-most : (class : List ℕ) → ((s : ℕ) → get_or class s 0 ≤ suc s) �
 class-most class low s = elim (dec_lt s (length class)) [ yes h ↦ omega (arith, low s) | no h ↦ let q : get_or class s 0 ≡ 0 = get_or-eq_default class 0 (omega arith) in omega arith ]
 
 pub mark_shared-requires : goal.mark_shared-requires
-mark_shared-requires c = (c.fill.auto.0 ∙ c.requires.next_fits, class-most c.args.class.now c.requires.low)
+mark_shared-requires c = (c.fill.auto.list ∙ c.requires.next_fits, class-most c.args.class.now c.requires.low)
 
 pub split_round-requires : goal.split_round-requires
 split_round-requires c =
@@ -23,8 +23,8 @@ split_round-requires c =
       entries_fit = pre.entries_fit;
       envelopes_fit = pre.envelopes_fit;
       enveloped = pre.enveloped;
-      next_fits = c.mark_shared.auto.1.0 ∙ (c.fill.auto.0 ∙ pre.next_fits);
-      heads_fit = c.fill-2.auto.0 ∙ pre.heads_fit;
+      next_fits = c.mark_shared.auto.shared ∙ (c.fill.auto.list ∙ pre.next_fits);
+      heads_fit = c.fill-2.auto.list ∙ pre.heads_fit;
       links_fit = pre.links_fit;
       low = pre.low;
       sharing = c.mark_shared.ensures;

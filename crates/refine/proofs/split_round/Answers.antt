@@ -1,5 +1,4 @@
 -- `refine::split_round` meets its contract. What a turn does to the classes and chains is in `Splitting`.
-use Prim.Native.Nat.{◌-◌}
 use mathlib.Core.Bool.{true}
 use native.Mathlib.Omega.{arith}
 use Rattle.refine.proofs.Splitting.{splitting_start, splitting_splittable, moved_same, moved_new, splitting_next, splitting_round}
@@ -19,14 +18,14 @@ loop-row-preserved-then-c-old c =
     let call = c.next_class-c in
     let loop = c.loop-row in
     let lt = c.loop-row-test.true in
-    splitting_next loop.invariant lt c.requires call.result call.new.1.1.1.1.1.1.0 call.new.1.1.1.1.1.1.1.0 true call.ensures (moved_new loop.invariant lt call.result c.if-c-old.true)
+    splitting_next loop.invariant lt c.requires call.result call.new.heads call.new.links true call.ensures (moved_new loop.invariant lt call.result c.if-c-old.true)
 
 pub loop-row-preserved : goal.loop-row-preserved
 loop-row-preserved c =
     let call = c.next_class-c in
     let loop = c.loop-row in
     let lt = c.loop-row-test.true in
-    splitting_next loop.invariant lt c.requires call.result call.new.1.1.1.1.1.1.0 call.new.1.1.1.1.1.1.1.0 loop.changed call.ensures (moved_same loop.invariant lt call.result c.if-c-old.false)
+    splitting_next loop.invariant lt c.requires call.result call.new.heads call.new.links loop.changed call.ensures (moved_same loop.invariant lt call.result c.if-c-old.false)
 
 pub returns : goal.returns
 returns c = (splitting_round (omega (arith, c.loop-row.invariant.within)) c.loop-row.invariant, c.loop-row.invariant.falling)

@@ -1,5 +1,5 @@
 -- `stored_graph::are_bits` meets its contract: the flags before `index` are 1 or 0.
-use Prim.Native.Nat.{◌≤◌, ◌-◌}
+use Prim.Native.Nat.{◌≤◌}
 use native.Mathlib.Omega.{arith}
 use borrow.Author.Count.{below_more}
 use lib.ListN.{get_or}

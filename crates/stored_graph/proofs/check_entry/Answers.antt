@@ -19,22 +19,22 @@ no_target n l (inr q) = omega arith
 
 pub overflow_mul-entry : goal.overflow_mul-entry
 overflow_mul-entry c =
-    let fits : c.args.row * c.args.letters + c.args.letters ≤ length c.args.entries.now = row_fits c.args.row c.args.rows c.args.letters (length c.args.entries.now) c.requires.1.1.0.0 c.requires.0.entries_fit in
+    let fits : c.args.row * c.args.letters + c.args.letters ≤ length c.args.entries.now = row_fits c.args.row c.args.rows c.args.letters (length c.args.entries.now) c.requires.row_lt_rows.0 c.requires.has_graph_sizes.entries_fit in
     omega (arith, fits, c.well_formed)
 
 pub overflow_add-entry : goal.overflow_add-entry
 overflow_add-entry c =
-    let fits : c.args.row * c.args.letters + c.args.letters ≤ length c.args.entries.now = row_fits c.args.row c.args.rows c.args.letters (length c.args.entries.now) c.requires.1.1.0.0 c.requires.0.entries_fit in
+    let fits : c.args.row * c.args.letters + c.args.letters ≤ length c.args.entries.now = row_fits c.args.row c.args.rows c.args.letters (length c.args.entries.now) c.requires.row_lt_rows.0 c.requires.has_graph_sizes.entries_fit in
     omega (arith, fits, c.well_formed)
 
 pub offset_bounds-entries-row : goal.offset_bounds-entries-row
 offset_bounds-entries-row c =
-    let fits : c.args.row * c.args.letters + c.args.letters ≤ length c.args.entries.now = row_fits c.args.row c.args.rows c.args.letters (length c.args.entries.now) c.requires.1.1.0.0 c.requires.0.entries_fit in
+    let fits : c.args.row * c.args.letters + c.args.letters ≤ length c.args.entries.now = row_fits c.args.row c.args.rows c.args.letters (length c.args.entries.now) c.requires.row_lt_rows.0 c.requires.has_graph_sizes.entries_fit in
     omega (arith, fits, c.well_formed)
 
 pub bounds-entries-row : goal.bounds-entries-row
 bounds-entries-row c =
-    let fits : c.args.row * c.args.letters + c.args.letters ≤ length c.args.entries.now = row_fits c.args.row c.args.rows c.args.letters (length c.args.entries.now) c.requires.1.1.0.0 c.requires.0.entries_fit in
+    let fits : c.args.row * c.args.letters + c.args.letters ≤ length c.args.entries.now = row_fits c.args.row c.args.rows c.args.letters (length c.args.entries.now) c.requires.row_lt_rows.0 c.requires.has_graph_sizes.entries_fit in
     omega (arith, fits)
 
 -- the entry names no row
@@ -43,8 +43,8 @@ returns-then-entry c =
     let start = c in
     let e = c.if-entry.true in
     record {
-      broken = λ z. absurd (omega (arith, start.requires.1.1.1.some));
-      passed = λ h. (start.requires.1.1.0.2, checked_old start.requires.1.1.1 (inl e) (λ h. absurd (omega (arith, e, h, start.requires.0.few_rows))));
+      broken = λ z. absurd (omega (arith, start.requires.checked.some));
+      passed = λ h. (start.requires.row_lt_rows.2, checked_old start.requires.checked (inl e) (λ h. absurd (omega (arith, e, h, start.requires.has_graph_sizes.few_rows))));
     }
 
 pub overflow_cast-target : goal.overflow_cast-target
@@ -53,13 +53,13 @@ overflow_cast-target c = omega (arith, c.type_inv.entries (c.args.row * c.args.l
 pub returns-then-target-known : goal.returns-then-target-known
 returns-then-target-known c =
     let pre = c.requires in
-    record { broken = λ e G. order-broken G pre.1.1.1 pre.1.1.0.0 pre.1.1.0.1 c.if-entry.false c.if-target-known.true; passed = λ h. absurd (omega arith) }
+    record { broken = λ e G. order-broken G pre.checked pre.row_lt_rows.0 pre.row_lt_rows.1 c.if-entry.false c.if-target-known.true; passed = λ h. absurd (omega arith) }
 
 pub returns-then-target-rows : goal.returns-then-target-rows
 returns-then-target-rows c =
     let start = c in
     record {
-      broken = λ e G. no_target c.if-entry.false c.if-target-rows.true (G.targets start.args.row start.args.letter start.requires.1.1.0.0 start.requires.1.1.0.1);
+      broken = λ e G. no_target c.if-entry.false c.if-target-rows.true (G.targets start.args.row start.args.letter start.requires.row_lt_rows.0 start.requires.row_lt_rows.1);
       passed = λ h. absurd (omega arith);
     }
 
@@ -72,8 +72,8 @@ returns-then-flags-target c =
     let u = entry_at args.letters args.entries.now args.row args.letter in
     record {
       broken = λ e G.
-          let is_set : get_or flags args.row 0 ≡ 1 = omega (arith, start.requires.1.0 args.row start.requires.1.1.0.0, c.if-flags-target.true) in
-          let kept : get_or flags u 0 ≡ 1 = test-marked flags u (G.stays args.row args.letter start.requires.1.1.0.0 start.requires.1.1.0.1 c.if-target-rows.false (marked-test flags args.row is_set)) in
+          let is_set : get_or flags args.row 0 ≡ 1 = omega (arith, start.requires.are_bits args.row start.requires.row_lt_rows.0, c.if-flags-target.true) in
+          let kept : get_or flags u 0 ≡ 1 = test-marked flags u (G.stays args.row args.letter start.requires.row_lt_rows.0 start.requires.row_lt_rows.1 c.if-target-rows.false (marked-test flags args.row is_set)) in
           omega (arith, c.if-flags-target.true);
       passed = λ h. absurd (omega arith);
     }
@@ -85,9 +85,9 @@ returns-then-target-known-2 c =
     record {
       broken = λ e. absurd (omega arith);
       passed = λ h. (
-        omega (arith, start.requires.1.1.0.2),
-        rw add-one (checked_new start.requires.1.1.1 start.requires.1.1.0.2 start.requires.1.1.0.1 (omega (arith, c.if-target-known-2.true, c.if-target-rows.false)) c.if-target-known-2.true
-            (λ h. flag-stays start.args.flags.now start.args.rows start.args.row _ start.requires.1.0 h c.if-flags-target.false)),
+        omega (arith, start.requires.row_lt_rows.2),
+        rw add-one (checked_new start.requires.checked start.requires.row_lt_rows.2 start.requires.row_lt_rows.1 (omega (arith, c.if-target-known-2.true, c.if-target-rows.false)) c.if-target-known-2.true
+            (λ h. flag-stays start.args.flags.now start.args.rows start.args.row _ start.requires.are_bits h c.if-flags-target.false)),
       );
     }
 
@@ -96,10 +96,10 @@ pub returns-else-target-known-2 : goal.returns-else-target-known-2
 returns-else-target-known-2 c =
     let start = c in
     record {
-      broken = λ e. absurd (omega (arith, start.requires.1.1.1.some));
+      broken = λ e. absurd (omega (arith, start.requires.checked.some));
       passed = λ h. (
-        start.requires.1.1.0.2,
-        checked_old start.requires.1.1.1 (inr (omega (arith, c.if-target-known-2.false, c.if-target-known.false)))
-            (λ h. flag-stays start.args.flags.now start.args.rows start.args.row _ start.requires.1.0 h c.if-flags-target.false),
+        start.requires.row_lt_rows.2,
+        checked_old start.requires.checked (inr (omega (arith, c.if-target-known-2.false, c.if-target-known.false)))
+            (λ h. flag-stays start.args.flags.now start.args.rows start.args.row _ start.requires.are_bits h c.if-flags-target.false),
       );
     }

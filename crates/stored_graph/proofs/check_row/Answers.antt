@@ -1,5 +1,4 @@
 -- `stored_graph::check_row` meets its contract: the places of the row before letter `letter` are as in a graph.
-use Prim.Native.Nat.{◌-◌}
 use mathlib.Core.Path.{◌≡◌}
 use native.Mathlib.Numerals.{add-one}
 use native.Mathlib.Omega.{arith}
@@ -7,13 +6,13 @@ use Rattle.stored_graph.proofs.Checking.{checked_at}
 use Rattle.stored_graph.proofs.check_row.Goals as goal
 
 pub loop-letter-init : goal.loop-letter-init
-loop-letter-init c = (omega arith, c.requires.1.1.0.1, c.requires.1.1.1)
+loop-letter-init c = (omega arith, c.requires.row_lt_rows.1, c.requires.checked)
 
 pub check_entry-met-requires : goal.check_entry-met-requires
 check_entry-met-requires c =
     let pre = c.requires in
     let loop = c.loop-letter in
-    (pre.0, (pre.1.0, ((pre.1.1.0.0, c.loop-letter-test.true, loop.invariant.1), loop.invariant.2)))
+    record { has_graph_sizes = pre.has_graph_sizes; are_bits = pre.are_bits; row_lt_rows = (pre.row_lt_rows.0, c.loop-letter-test.true, loop.invariant.1); checked = loop.invariant.2 }
 
 pub returns-then-met-eq0 : goal.returns-then-met-eq0
 returns-then-met-eq0 c = record { broken = λ e. c.check_entry-met.ensures.broken c.if-met-eq0.true; passed = λ h. absurd (omega arith) }

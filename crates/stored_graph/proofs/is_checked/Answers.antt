@@ -1,5 +1,4 @@
 -- `stored_graph::is_checked` meets its contract: the rows before `row` are checked, and `met` rows were met.
-use Prim.Native.Nat.{◌-◌}
 use native.Mathlib.Numerals.{add-one}
 use native.Mathlib.Omega.{arith}
 use lib.Dec.{eqb}
@@ -9,7 +8,7 @@ use Rattle.stored_graph.proofs.Checking.{checked_start, checked_row, row_unmet, 
 use Rattle.stored_graph.proofs.is_checked.Goals as goal
 
 pub loop-row-init : goal.loop-row-init
-loop-row-init c = (omega arith, checked_start c.requires.0)
+loop-row-init c = (omega arith, checked_start c.requires.has_graph_sizes)
 
 pub returns-then-row-met : goal.returns-then-row-met
 returns-then-row-met c = λ G. row_unmet G c.loop-row.invariant.1 c.loop-row.row c.if-row-met.true c.loop-row-test.true (omega arith)
@@ -17,7 +16,7 @@ returns-then-row-met c = λ G. row_unmet G c.loop-row.invariant.1 c.loop-row.row
 pub check_row-met-requires : goal.check_row-met-requires
 check_row-met-requires c =
     let pre = c.requires in
-    (pre.0, (pre.1, ((c.loop-row-test.true, c.if-row-met.false), c.loop-row.invariant.1)))
+    record { has_graph_sizes = pre.has_graph_sizes; are_bits = pre.are_bits; row_lt_rows = (c.loop-row-test.true, c.if-row-met.false); checked = c.loop-row.invariant.1 }
 
 pub returns-then-met-eq0 : goal.returns-then-met-eq0
 returns-then-met-eq0 c = c.check_row-met.ensures.broken c.if-met-eq0.true
@@ -30,5 +29,5 @@ returns c =
     let start = c in
     let loop = c.loop-row in
     says_either (eqb loop.met start.args.rows)
-    (λ e. checked_graph (omega (arith, loop.invariant.0, c.loop-row-test.false)) (eqb-true loop.met start.args.rows e) start.requires.0 start.requires.1 loop.invariant.1)
+    (λ e. checked_graph (omega (arith, loop.invariant.0, c.loop-row-test.false)) (eqb-true loop.met start.args.rows e) start.requires.has_graph_sizes start.requires.are_bits loop.invariant.1)
     (λ e G. row_unmet G loop.invariant.1 loop.met (omega arith) (omega (arith, loop.invariant.1.most, eqb-false loop.met start.args.rows e)) (omega (arith, loop.invariant.1.most, c.loop-row-test.false)))

@@ -1,5 +1,4 @@
 -- `stored_graph::is_graph` meets its contract: a graph has the sizes, and its flags are 1 or 0.
-use borrow.Author.Tests.{not-true, not-false}
 use Rattle.basics.proofs.Answers.{says_yes, says_no}
 use Rattle.stored_graph.proofs.Checking.{graph-sizes}
 use Rattle.stored_graph.proofs.is_graph.Goals as goal
@@ -14,7 +13,7 @@ pub returns-then-not-are_bits : goal.returns-then-not-are_bits
 returns-then-not-are_bits c = λ G. says_no c.if-not-are_bits.true c.are_bits.ensures G.bits
 
 pub is_checked-requires : goal.is_checked-requires
-is_checked-requires c = (says_yes c.if-not-has_sizes.false c.has_sizes.ensures, says_yes c.if-not-are_bits.false c.are_bits.ensures)
+is_checked-requires c = record { has_graph_sizes = says_yes c.if-not-has_sizes.false c.has_sizes.ensures; are_bits = says_yes c.if-not-are_bits.false c.are_bits.ensures }
 
 pub returns : goal.returns
 returns c = c.is_checked.ensures
