@@ -19,16 +19,3 @@ overflow_sub-low c =
     minus-fits c.remainder_bound-bound.result (bound-in_bound s.args.a s.args.b s.requires.0 s.requires.1 c.remainder_bound-bound.ensures)
 
 -- src/lib.rt:183:1
-pub returns : goal.returns
-returns c =
-    let s = c in
-    let e = c.remainder_bound-bound.ensures in
-    let low = ⊎_elim
-    (λ w. ap (to_z w64) w.1 ∙ low-zero s.args.a s.args.b s.requires.0 s.requires.1 e c.at_most.ensures w.0.true)
-    (λ w. ap (to_z w64) w.1 ∙ low-bound s.args.a s.args.b s.requires.0 s.requires.1 e c.at_most.ensures w.0.left)
-    c.if-at_most.branch in
-    let high = ⊎_elim
-    (λ w. ap (to_z w64) w.1 ∙ high_zero s.args.a s.args.b s.requires.0 s.requires.1 e c.at_most-2.ensures w.0.true)
-    (λ w. ap (to_z w64) w.1 ∙ high-bound s.args.a s.args.b s.requires.0 s.requires.1 e c.at_most-2.ensures w.0.left)
-    c.if-at_most-2.branch in
-    c.range_within.ensures ∙ ap₂ (λ x y. range_within (record { low = x; high = y })) low high

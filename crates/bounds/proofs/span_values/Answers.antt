@@ -4,11 +4,6 @@ use native.Mathlib.Omega.{arith}
 use Rattle.bounds.proofs.Ranges.{span-there, span_no_fourth, span_no_third, span_no_second}
 use Rattle.bounds.proofs.span_values.Goals as goal
 
-pub returns-then-s : goal.returns-then-s
-returns-then-s c =
-    c.span_of_four.ensures
-    ∙ span-there c.args.p c.args.q c.args.r c.args.s c.if-p.true c.if-q.true c.if-r.true c.if-s.true (record { sfits = omega (arith, c.type_inv.p) }) (record { sfits = omega (arith, c.type_inv.q) }) (record { sfits = omega (arith, c.type_inv.r) }) (record { sfits = omega (arith, c.type_inv.s) })
-
 pub returns-else-s : goal.returns-else-s
 returns-else-s c = c.no_range.ensures ∙ span_no_fourth c.args.p c.args.q c.args.r c.args.s c.if-p.true c.if-q.true c.if-r.true c.if-s.false
 

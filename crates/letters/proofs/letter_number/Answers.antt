@@ -18,7 +18,7 @@ use Rattle.letters.proofs.Widths.{count_fits}
 use Rattle.letters.proofs.letter_number.Goals as goal
 
 -- In a turn whose value is in its range: the two tests, and what `values` answers.
-record Turn (c : goal.After-values-size) : Type 0 where
+record Turn (c : goal.After-distance-digit) : Type 0 where
   below : c.loop-i.i < min (length c.args.lows.now) (length c.args.highs.now)
   long : length c.args.letter.now ≡ min (length c.args.lows.now) (length c.args.highs.now)
   positive : 0 < count_from c.args.lows.now c.args.highs.now 0
