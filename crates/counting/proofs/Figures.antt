@@ -1,17 +1,17 @@
 -- The counts that the code keeps: cut sums, a pass over the rows, and the figures of the start. All by induction over the letters and from the definitions.
 use mathlib.Core.Path.{◌≡◌, refl, sym, ◌∙◌, ap, subst}
 use mathlib.Core.Bool.{Bool, true, false, cond}
-use mathlib.Core.List.{List, [], ◌∷◌}
+use mathlib.Core.List.{List}
 use Prim.Native.Nat.{ℕ, zero, suc, ◌+◌, ◌*◌, ◌-◌, ◌≤◌, ◌<◌, min}
 use native.Mathlib.Omega.{arith}
 use native.Mathlib.Numerals.{add-one}
 use native.Mathlib.Decide.{ℕ_discrete, dec_le}
 use native.Mathlib.Nat.{suc-mul}
-use lib.Dec.{T, ltb, eqb, ltb→lt}
+use lib.Dec.{ltb}
 use lib.ListN.{length, get_or, take, drop, set, replicate, length-drop, length-set, length-replicate, get_or-eq_default}
 use lib.Seq.{length-take-le, get_or-take, get_or-drop, get_or-set_same, get_or-set_other}
 use borrow.Author.Tests.{ltb-true, ltb-false}
-use Rattle.automaton.specs.Stored.{entry_at, final_at}
+use Rattle.automaton.specs.Stored.{entry_at}
 use Rattle.basics.specs.Count.{CountOf}
 use Rattle.basics.proofs.Count.{more_iff, count_excludes_more}
 use Rattle.basics.proofs.Tests.{not-both}

@@ -1,10 +1,10 @@
 -- Every value of a part or a node can be read back from its number, since what each node answers is no value or within the bound.
-use Prim.Native.Nat.{ℕ, zero, suc}
+use Prim.Native.Nat.{ℕ, zero, suc, ◌+◌, ◌*◌}
 use mathlib.Core.Path.{◌≡◌, refl, sym, ◌∙◌, ap}
 use mathlib.Core.Bool.{Bool, true, false, cond, not, ◌&&◌}
 use lib.Dec.{leb, ltb, eqb}
 use lib.IntN.{ℤ, pos, negsuc}
-use lib.ListN.{get_or}
+use lib.ListN.{get_or, length}
 use mir.Syntax.{w64}
 use mir.Val.{SFits}
 use Rattle.meaning.specs.Value.{nonzero}
@@ -24,8 +24,8 @@ decodes_lookup n get (negsuc k) = decodes_none
 module _ (N : Nodes) (W : View) where
   decodes_kind : (before : ℕ → ℕ → Evaluated) → ((e p : ℕ) → Decodes (before e p)) → (k : Kind) (i p : ℕ) → Decodes (value_by_kind N W k before i p)
   decodes_kind before d integer_node i p = decodes_bounded (get_or N.values i (pos 0))
-  decodes_kind before d name_node i p = decodes_lookup _ _ (get_or N.values i (pos 0))
-  decodes_kind before d first_node i p = decodes_cond W.whole (d i 0) (decodes_lookup _ _ (get_or N.values i (pos 0)))
+  decodes_kind before d name_node i p = decodes_lookup W.streams (λ k. get_or W.window (p * W.streams + k) (pos 0)) (get_or N.values i (pos 0))
+  decodes_kind before d first_node i p = decodes_cond W.whole (d i 0) (decodes_lookup (length W.firsts) (λ k. get_or W.firsts k (pos 0)) (get_or N.values i (pos 0)))
   decodes_kind before d next_node i p = decodes_cond (ltb (suc p) (places W)) (d i (suc p)) decodes_none
   decodes_kind before d negation_node i p = decodes_cond (before i p).ok (decodes_bit (not (nonzero (before i p).value))) decodes_none
   decodes_kind before d conditional_node i p =

@@ -9,7 +9,7 @@ use lib.IntN.{ℤ, pos}
 use lib.ListN.{length, get_or}
 use borrow.Author.Tests.{leb-true, lt-ltb, le-ltb, eq-eqb, ne_eqb}
 use mir.Syntax.{w64}
-use mir.Val.{SFits, to_z, of_z}
+use mir.Val.{SFits}
 use mir.ValLaws.{to_z-of_z}
 use Rattle.meaning.specs.Value.{nonzero}
 use Rattle.nodes.proofs.ByKind.{part-by-kind}
@@ -117,12 +117,12 @@ module _ (N : Nodes) (W : View) (p : ℕ) where
           let k : get_or N.kinds (e - 1) 0 ≡ 1 = omega arith in
           by_number e h 1 k (simp (ne_eqb e 0 h, ne_eqb (get_or N.kinds (e - 1) 0) 0 q))
 
-  -- The number r of an operand, as each branch of the test for a leaf leaves it.
-  module _ (e : ℕ) {r : ℕ} {z : ℤ} (f : SFits w64 z) (g : r ≡ of_z w64 z) where
-    pub part_operand : z ≡ coded (before e p) → to_z w64 r ≡ coded (before e p)
-    part_operand q = ap (to_z w64) g ∙ held-result f q
+  -- The number y of an operand, as each branch of the test for a leaf leaves it.
+  module _ (e : ℕ) {y z : ℤ} (f : SFits w64 z) (g : y ≡ held z) where
+    pub part_operand : z ≡ coded (before e p) → y ≡ coded (before e p)
+    part_operand q = g ∙ held-result f q
 
-    pub leaf_operand : {b : Bool} → b ≡ is_leaf N.kinds e → b ≡ true → z ≡ coded (leaf_value N.kinds N.values W.window W.streams e p) → to_z w64 r ≡ coded (before e p)
+    pub leaf_operand : {b : Bool} → b ≡ is_leaf N.kinds e → b ≡ true → z ≡ coded (leaf_value N.kinds N.values W.window W.streams e p) → y ≡ coded (before e p)
     leaf_operand s t q = part_operand (q ∙ ap coded (leaf_before e (sym s ∙ t)))
 
 -- ---- the value of a node

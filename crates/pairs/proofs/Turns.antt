@@ -4,27 +4,27 @@ use native.Mathlib.Omega.{arith}
 use native.Mathlib.Nat.{not-suc-le-zero, le_trans, mul-le-mul_right, zero-mul}
 use native.Mathlib.Decide.{dec_lt}
 use mathlib.Core.Path.{◌≡◌, refl, sym, ◌∙◌, ap, subst}
-use mathlib.Core.Bool.{Bool, true, false}
+use mathlib.Core.Bool.{true, false}
 use mathlib.Core.Logic.{inl, inr, ◌≢◌}
 use mathlib.Core.List.{List}
-use lib.ListN.{length, get_or, set}
+use lib.ListN.{length, set}
 use lib.Seq.{get_or-set_same, get_or-set_other}
 use Rattle.basics.specs.Lists.{at}
 use Rattle.basics.specs.Clearing.{ClearedFrom}
 use Rattle.basics.proofs.Clearing.{all-zero}
 use Rattle.basics.proofs.Lists.{row_fits}
 use Rattle.automaton.specs.Table.{no_state, Before, FirstMet}
-use Rattle.automaton.specs.Stored.{entry_at, final_at}
+use Rattle.automaton.specs.Stored.{entry_at}
 use Rattle.automaton.specs.WellFormed.{most_rows}
 use Rattle.automaton.specs.Numbering.{IsPut}
-use Rattle.automaton.specs.Reachable.{System, Reach, Reach.start, Reach.step, byte_of, IsRow, IsRow.no_row, IsRow.row, IsAdded, SearchTurn, SearchedKeys, Over}
+use Rattle.automaton.specs.Reachable.{System, Reach, Reach.start, Reach.step, byte_of, IsRow, IsRow.no_row, IsRow.row, IsAdded, SearchTurn, SearchedKeys}
 use Rattle.automaton.specs.Join.{TwoTables}
-use Rattle.automaton.specs.PairSearch.{pair_system, left_next, right_next}
+use Rattle.automaton.specs.PairSearch.{pair_system}
 use Rattle.automaton.proofs.Places.{put-set}
 use Rattle.automaton.proofs.Reachable as Laws
 use Rattle.automaton.proofs.Reachable.{known_start, turn_start, turn_old, turn_new, turn-full}
 use Rattle.pairs.specs.Rows.{no_pair_key, key_of_entries, ChainedKeys, KeySettled, KeyFollowed, no_pair, pair, tables_over, entries_over, MorePairs, search_over, bytes_of, PairTurn, RowSearched, row_done, row_full, RowsSearched, rows_done, rows_full, RowsExplored, explored, overfull, HasFlags}
-use Rattle.pairs.specs.Found.{PairTables, HoldsPairs, PairWorkZero, RowsFilled, filled, unfilled, PairsOutcome, found, none}
+use Rattle.pairs.specs.Found.{PairTables, PairWorkZero, RowsFilled, filled, unfilled, PairsOutcome, found, none}
 use Rattle.pairs.proofs.Keys.{key-none, key-some}
 
 module _ (left_entries right_entries left_cuts right_cuts : List ℕ) (left_letters right_letters letters limit : ℕ) where

@@ -1,5 +1,5 @@
 -- What the search of the pairs gives and leaves, for all tables, cuts, sizes and lent tables.
-use Rattle.std.specs.Prelude.{ℕ, ◌*◌, ◌≤◌, ◌<◌, ◌≡◌, false, List, length, replicate}
+use Rattle.std.specs.Prelude.{ℕ, ◌*◌, ◌≤◌, ◌≡◌, false, List, length, replicate}
 use Rattle.basics.specs.Lists.{at}
 use Rattle.automaton.specs.Stored.{entry_at, final_at}
 use Rattle.automaton.specs.WellFormed.{most_rows}

@@ -5,7 +5,7 @@ use native.Mathlib.Omega.{arith}
 use native.Mathlib.Decide.{dec_le}
 use native.Mathlib.Nat.{le_trans, mul-le-mul_left, mul-le-mul_right, mul-pos, mul_assoc, mul-one, one-mul, add-mul, add_assoc}
 use mathlib.Core.Path.{◌≡◌, refl, sym, ◌∙◌, ap, ap₂, subst}
-use mathlib.Core.Bool.{Bool, true, false, cond, ◌&&◌, and-true, and_false}
+use mathlib.Core.Bool.{Bool, true, false, cond, ◌&&◌, and-true, and-false}
 use mathlib.Core.List.{List, [], ◌∷◌, Memᴰ}
 use lib.Arith.{digits_lt}
 use lib.Dec.{leb, ltb}
@@ -32,7 +32,7 @@ use Rattle.records.specs.Machine.{next_number}
 
 not-letter : (ss : List Stream) (l : Letter) → is_letter ss l ≡ false → number_of ss l ≡ letter_bound
 unfolding number_of
-not-letter ss l e = ap (λ t. cond t (letter_number ss l) letter_bound) (ap (λ t. leb (letter_count ss) letter_bound && t) e ∙ and_false (leb (letter_count ss) letter_bound))
+not-letter ss l e = ap (λ t. cond t (letter_number ss l) letter_bound) (ap (λ t. leb (letter_count ss) letter_bound && t) e ∙ and-false (leb (letter_count ss) letter_bound))
 
 module _ (s : Stream) (b : InBounds s.range) where
   no_letter : (m : Bool) (n : ℕ) → magnitude_bound < n → IsLetter (s ∷ []) (with_sign m n ∷ []) → ⊥
@@ -117,7 +117,7 @@ module _ (s : Stream) (v : ℤ) (n c : ℕ) (o : s.range.low ≤ℤ s.range.high
       let x : is_letter (s ∷ []) (v ∷ []) ≡ false = ap (λ t. le_z s.range.low v && t) (and-true (le_z v s.range.high)) ∙ e in
       let y = not-letter (s ∷ []) (v ∷ []) x in
       ap (λ m. cond (ltb n letter_bound && ltb m letter_bound) (n * cut_count (letter_count (s ∷ [])) + m) letter_bound) y
-      ∙ ap (λ t. cond t (n * cut_count (letter_count (s ∷ [])) + letter_bound) letter_bound) (and_false (ltb n letter_bound))
+      ∙ ap (λ t. cond t (n * cut_count (letter_count (s ∷ [])) + letter_bound) letter_bound) (and-false (ltb n letter_bound))
 
 pub letter-after : (ss : List Stream) (n : ℕ) (l : Letter) → length l ≡ length ss → ((x : Stream) → Memᴰ x ss → x.range.low ≤ℤ x.range.high)
     → suc n * letter_count ss ≤ letter_bound → number_after ss n l ≡ cond (is_letter ss l) (n * letter_count ss + letter_number ss l) letter_bound

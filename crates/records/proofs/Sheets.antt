@@ -28,6 +28,7 @@ use Rattle.record_names.proofs.Names.{names_read, names-found}
 
 -- Each of them has the range of a stream of the sheet.
 unnamed-member : (ss : List Stream) (x : Stream) → Memᴰ x (unnamed ss) → (y : Stream) × Memᴰ y ss × (y.range ≡ x.range)
+unnamed-member [] x x3 = elim x3 [ ]
 unnamed-member (s ∷ ss) x (Memᴰ.head e) = (s, Memᴰ.head refl, sym (ap (λ z. z.range) e))
 unnamed-member (s ∷ ss) x (Memᴰ.tail m) = let h = unnamed-member ss x m in (h.0, Memᴰ.tail h.1, h.2)
 

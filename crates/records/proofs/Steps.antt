@@ -2,17 +2,15 @@
 use Prim.Native.Nat.{ℕ, zero, suc, ◌+◌, ◌*◌, ◌^◌, ◌≤◌, ◌<◌}
 use native.Mathlib.Omega.{arith}
 use mathlib.Core.Path.{◌≡◌, refl, sym, ◌∙◌, ap, ap₂}
-use mathlib.Core.Bool.{Bool, true, false, ◌&&◌}
+use mathlib.Core.Bool.{true, ◌&&◌}
 use mathlib.Core.List.{List, [], ◌∷◌}
 use lib.Dec.{leb, leb→le}
 use lib.IntN.{ℤ}
 use lib.ListN.{take, drop}
 use borrow.Author.Tests.{lt-ltb, le-ltb, le-leb, ne_eqb}
-use Rattle.basics.proofs.Tests.{not-both, T-of_true, and_left, and_right}
-use Rattle.text.specs.Bytes.{inside, class_of, class_from, is_bracket, is_inside}
-use Rattle.text.specs.Fold.{TokenReading, class_byte, end_token}
+use Rattle.basics.proofs.Tests.{T-of_true, and_left, and_right}
+use Rattle.text.specs.Bytes.{is_inside}
 use Rattle.text.specs.Token.{is_digit}
-use Rattle.text.proofs.Bytes.{bracket_not_inside}
 use Rattle.meaning.specs.Expression.{Stream}
 use Rattle.meaning.specs.Letter.{letter_count}
 use Rattle.sheet.specs.Refusal.{letter_bound}

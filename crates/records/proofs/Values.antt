@@ -14,7 +14,7 @@ use lib.Signed.{◌≤ℤ◌}
 use borrow.Author.Tests.{lt-ltb, eqb-true}
 use Rattle.text.specs.Bytes.{Token, tokens}
 use Rattle.text.specs.Token.{all_bytes, is_integer, integer_value, natural_from}
-use Rattle.text.specs.Fold.{run_bytes, tokens_read, line_read}
+use Rattle.text.specs.Fold.{run_bytes, tokens_read, line_read as line_folded}
 use Rattle.text.proofs.Fold.{line-tokens}
 use Rattle.meaning.specs.Expression.{Stream, absent_stream}
 use Rattle.meaning.specs.Letter.{Letter, letter_count, letter_number}
@@ -129,7 +129,7 @@ module _ (ss : List Stream) where
 
     -- "13 [..] a line that is not one integer per stream (a byte refusal 1 bars makes either so); 14, a value outside its range", or the letter.
     pub line_read : (l : List ℕ) → line_end ss (run_bytes (line_byte ss) line_start l) ≡ end_of (value_line ss l)
-    unfolding line_byte line_end line_read value_line
+    unfolding line_byte line_end line_folded value_line
     line_read l =
         ap (line_end ss) (plain_run line_from value_byte (value_end ss) (line_byte ss) (λ m r b. refl) l false (reading false (ended_from 0 true 0)))
         ∙ ap (λ s. end_of (values_end (length ss) (not (all_bytes is_plain l)) s)) (line-tokens value_byte (value_end ss) l (ended_from 0 true 0) ∙ tokens-ended (tokens l) 0 true 0)

@@ -1,5 +1,4 @@
 -- `counting::clear_figures` meets its contract: the numbers before `i` are cleared.
-use Prim.Native.Nat.{◌-◌}
 use Rattle.basics.proofs.Clearing.{clearing_start, clearing_next, clearing_end, cleared-all}
 use Rattle.counting.proofs.clear_figures.Goals as goal
 

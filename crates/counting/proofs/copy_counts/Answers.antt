@@ -1,8 +1,7 @@
 -- `counting::copy_counts` meets its contract: the numbers before `i` are copied.
-use Prim.Native.Nat.{◌-◌}
 use native.Mathlib.Omega.{arith}
 use mathlib.Core.Path.{◌≡◌, refl}
-use lib.ListN.{length, get_or, length-set}
+use lib.ListN.{get_or, length-set}
 use borrow.Author.Rules.{rules}
 use Rattle.basics.proofs.Lists.{below_set}
 use Rattle.counting.proofs.copy_counts.Goals as goal

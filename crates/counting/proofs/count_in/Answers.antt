@@ -11,12 +11,12 @@ pub fill_figures-requires : goal.fill_figures-requires
 fill_figures-requires c =
     let s = c in
     let whole = s.requires.0.whole in
-    let rows = c.first_counts.auto.1.0 ∙ s.requires.1 in (
+    let rows = c.first_counts.auto.counts ∙ s.requires.1 in (
       record {
         some_row = omega (arith, rows, whole.some_row);
         few_rows = omega (arith, rows, whole.few_rows);
         whole_rows = whole.whole_rows ∙ ap (λ n. n * s.args.letters) (sym rows);
-        same_rows = c.first_counts.auto.1.1.0 ∙ s.requires.2 ∙ sym rows;
+        same_rows = c.first_counts.auto.final_counts ∙ s.requires.2 ∙ sym rows;
       },
       s.requires.3,
       s.requires.4,

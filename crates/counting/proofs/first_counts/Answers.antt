@@ -1,9 +1,8 @@
 -- `counting::first_counts` meets its contract: the rows passed have their counts for no letter (Figures).
-use Prim.Native.Nat.{◌-◌}
 use native.Mathlib.Omega.{arith}
 use mathlib.Core.Path.{◌≡◌, refl}
 use mathlib.Core.Bool.{cond}
-use lib.ListN.{length, length-set}
+use lib.ListN.{length-set}
 use Rattle.basics.proofs.Lists.{below_set}
 use Rattle.counting.specs.Counting.{any_state, has_final_byte}
 use Rattle.counting.proofs.Figures.{first-held}

@@ -1,5 +1,5 @@
 -- `counting::next_counts` meets its contract: before each row those before it have their counts for one letter more (Figures).
-use Prim.Native.Nat.{ℕ, ◌*◌, ◌+◌, ◌≤◌, ◌-◌, min}
+use Prim.Native.Nat.{ℕ, ◌*◌, ◌+◌, ◌≤◌, min}
 use native.Mathlib.Omega.{arith}
 use mathlib.Core.Path.{◌≡◌, refl}
 use mathlib.Core.List.{List}

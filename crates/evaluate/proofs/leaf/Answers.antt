@@ -16,10 +16,10 @@ pub returns-then-kinds-i-eq-INTEGER_NODE : goal.returns-then-kinds-i-eq-INTEGER_
 returns-then-kinds-i-eq-INTEGER_NODE c =
     let a = c.args in
     held-result (record { sfits = c.bounded_coded.type_inv })
-    (c.bounded_coded.ensures ∙ ap coded (leaf_integer a.kinds.now a.end a.values.now a.window.now a.streams a.place c.if-end-eq0.false (record { sfits = omega (arith, c.bounded_coded-arg-1.given) }) c.if-kinds-i-eq-INTEGER_NODE.true))
+    (c.bounded_coded.ensures ∙ ap coded (leaf_integer a.kinds.now a.end a.values.now a.window.now a.streams a.place c.if-end-eq0.false (record { sfits = omega arith }) c.if-kinds-i-eq-INTEGER_NODE.true))
 
 pub returns-else-kinds-i-eq-INTEGER_NODE : goal.returns-else-kinds-i-eq-INTEGER_NODE
 returns-else-kinds-i-eq-INTEGER_NODE c =
     let a = c.args in
     held-result (record { sfits = c.stream_at.type_inv })
-    (c.stream_at.ensures ∙ ap coded (leaf_name a.kinds.now a.end a.values.now a.window.now a.streams a.place c.if-end-eq0.false (record { sfits = omega (arith, c.stream_at-arg-1.given) }) c.if-kinds-i-eq-INTEGER_NODE.false))
+    (c.stream_at.ensures ∙ ap coded (leaf_name a.kinds.now a.end a.values.now a.window.now a.streams a.place c.if-end-eq0.false (record { sfits = omega arith }) c.if-kinds-i-eq-INTEGER_NODE.false))

@@ -16,7 +16,7 @@ pub overflow_cast-k : goal.overflow_cast-k
 overflow_cast-k c = number_cast c.args.number c.ranges.number c.if-number-lt0.false
 
 pub returns-then-k-list : goal.returns-then-k-list
-returns-then-k-list c = held-result (record { sfits = c.bounded_coded.type_inv }) (c.bounded_coded.ensures ∙ ap coded (lookup-there c.args.number c.ranges.number (length c.args.list.now) (λ k. get_or c.args.list.now k (pos 0)) c.if-number-lt0.false c.if-k-list.true (record { sfits = omega (arith, c.bounded_coded-arg-1.given) })))
+returns-then-k-list c = held-result (record { sfits = c.bounded_coded.type_inv }) (c.bounded_coded.ensures ∙ ap coded (lookup-there c.args.number c.ranges.number (length c.args.list.now) (λ k. get_or c.args.list.now k (pos 0)) c.if-number-lt0.false c.if-k-list.true (record { sfits = omega arith })))
 
 pub returns : goal.returns
 returns c = held-result (record { sfits = c.no_value_coded-2.type_inv }) (c.no_value_coded-2.ensures ∙ ap coded (lookup-beyond c.args.number c.ranges.number (length c.args.list.now) (λ k. get_or c.args.list.now k (pos 0)) c.if-number-lt0.false c.if-k-list.false))

@@ -3,9 +3,9 @@
 use Prim.Native.Nat.{ℕ}
 use native.Mathlib.Omega.{arith}
 use mathlib.Core.Path.{◌≡◌, sym, ◌∙◌}
-use mathlib.Core.Logic.{⊎_elim}
 use Rattle.evaluate.proofs.Shifting.{moved_none, moved-next, moved-fby}
 use Rattle.evaluate.proofs.shifted.Goals as goal
+use Rattle.evaluate.proofs.shifted.Goals.{then-kind-eq-NEXT_NODE+else-count-at, else-kind-eq-NEXT_NODE+else-kind-ne-FBY_NODE+else-at-eq0}
 
 pub loop-inner-init : goal.loop-inner-init
 loop-inner-init c = moved_none c.requires.1
@@ -36,10 +36,10 @@ returns-then-at-eq0 c =
 
 pub loop-inner-preserved : goal.loop-inner-preserved
 loop-inner-preserved c =
-    ⊎_elim
-    (λ w. rw w.2 (moved-next c.loop-inner.invariant c.loop-inner-test.true w.0.true w.1.left))
-    (λ w. rw w.3 (moved-fby c.loop-inner.invariant c.loop-inner-test.true w.1.left w.2.left))
-    c.if-kind-eq-NEXT_NODE.branch
+    elim c.if-kind-eq-NEXT_NODE.branch [
+      | then-kind-eq-NEXT_NODE+else-count-at w ↦ rw w.at-is (moved-next c.loop-inner.invariant c.loop-inner-test.true w.if-kind-eq-NEXT_NODE.true w.if-count-at.false)
+      | else-kind-eq-NEXT_NODE+else-kind-ne-FBY_NODE+else-at-eq0 w ↦ rw w.at-is (moved-fby c.loop-inner.invariant c.loop-inner-test.true w.if-kind-ne-FBY_NODE.false w.if-at-eq0.false)
+    ]
 
 pub returns : goal.returns
 returns c =

@@ -29,7 +29,7 @@ pub bounds-window-at : goal.bounds-window-at
 bounds-window-at c = index_within (length c.args.window.now) c.args.streams c.args.place (nat_abs (held c.args.number)) c.requires c.if-k-streams.true
 
 pub returns-then-k-streams : goal.returns-then-k-streams
-returns-then-k-streams c = held-result (record { sfits = c.bounded_coded.type_inv }) (c.bounded_coded.ensures ∙ ap coded (lookup-there c.args.number c.ranges.number c.args.streams (λ k. get_or c.args.window.now (c.args.place * c.args.streams + k) (pos 0)) c.if-number-lt0.false c.if-k-streams.true (record { sfits = omega (arith, c.bounded_coded-arg-1.given) })))
+returns-then-k-streams c = held-result (record { sfits = c.bounded_coded.type_inv }) (c.bounded_coded.ensures ∙ ap coded (lookup-there c.args.number c.ranges.number c.args.streams (λ k. get_or c.args.window.now (c.args.place * c.args.streams + k) (pos 0)) c.if-number-lt0.false c.if-k-streams.true (record { sfits = omega arith })))
 
 pub returns : goal.returns
 returns c = held-result (record { sfits = c.no_value_coded-2.type_inv }) (c.no_value_coded-2.ensures ∙ ap coded (lookup-beyond c.args.number c.ranges.number c.args.streams (λ k. get_or c.args.window.now (c.args.place * c.args.streams + k) (pos 0)) c.if-number-lt0.false c.if-k-streams.false))

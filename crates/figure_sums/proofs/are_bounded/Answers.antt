@@ -1,5 +1,5 @@
 -- `figure_sums::are_bounded` meets its contract: the figures before `i` are not above the highest.
-use Prim.Native.Nat.{◌≤◌, ◌-◌}
+use Prim.Native.Nat.{◌≤◌}
 use native.Mathlib.Omega.{arith}
 use borrow.Author.Count.{below_more}
 use lib.ListN.{get_or}

@@ -1,5 +1,4 @@
 -- `figure_sums::row_sums` meets its contract: before each letter both sums are those of the letters before it (Sums).
-use Prim.Native.Nat.{◌-◌}
 use native.Mathlib.Omega.{arith}
 use mathlib.Core.Path.{◌≡◌, refl, ◌∙◌, ap}
 use lib.ListN.{length}

@@ -2,7 +2,6 @@
 use Prim.Native.Nat.{◌-◌}
 use native.Mathlib.Omega.{arith}
 use native.Mathlib.Nat.{not-suc-le-zero}
-use Rattle.basics.specs.Lists.{at}
 use Rattle.key_chains.proofs.Chains.{chain_first, chain_next}
 use Rattle.pairs.proofs.find.Goals as goal
 

@@ -1,5 +1,4 @@
 -- `find` meets its contract. The loop goes along one chain: every row that holds the key is below the row that the loop has come to.
-use Prim.Native.Nat.{◌-◌}
 use lib.ListN.{length}
 use Rattle.basics.specs.Lists.{at}
 use Rattle.key_chains.specs.Chains.{ChainLeft}

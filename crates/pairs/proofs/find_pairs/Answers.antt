@@ -6,3 +6,13 @@ use Rattle.pairs.proofs.find_pairs.Goals as goal
 
 pub overflow_mul-count : goal.overflow_mul-count
 overflow_mul-count c = omega (arith, filled-small c.fill_rows-count.ensures, c.well_formed.1.1.1.1.1.1.1.0)
+
+pub returns : goal.returns
+returns c =
+    let rows = c.fill_rows-count in
+    filled-outcome rows.auto.entries rows.auto.flags rows.ensures c.clear_entries.ensures c.clear_bytes.ensures
+    (record {
+      keys_zero = zeroed c.fill.ensures rows.auto.keys;
+      heads_zero = zeroed c.fill-2.ensures rows.auto.heads;
+      links_zero = zeroed c.fill-3.ensures rows.auto.links;
+    })

@@ -1,11 +1,8 @@
 -- `search` meets its contract: before each row the search stands at it (Turns), and the tables have the lengths that they had.
-use Prim.Native.Nat.{◌-◌}
-use mathlib.Core.Path.{refl, ◌∙◌}
 use native.Mathlib.Omega.{arith}
 use Rattle.pairs.specs.Rows.{rows_done}
 use Rattle.pairs.proofs.Keys.{none-chained}
 use Rattle.pairs.proofs.Turns.{turn-begin, turn_end, row-turn, row-over, SameLengths, lengths_refl, lengths_trans}
-use lib.ListN.{length}
 use Rattle.pairs.proofs.search.Goals as goal
 
 pub settle-start-requires : goal.settle-start-requires
@@ -33,3 +30,8 @@ returns-after-loop-s c = rows_done c.loop-s.invariant.0.turn.within (turn_end _ 
 
 pub returns-then-limit-n : goal.returns-then-limit-n
 returns-then-limit-n c = row-over _ _ _ _ _ _ _ _ c.search_row-n.ensures c.if-limit-n.true
+
+pub loop-s-preserved : goal.loop-s-preserved
+loop-s-preserved c =
+    let row-lengths : let l = c.loop-s in SameLengths l.keys l.heads l.links l.entries c.search_row-n.new.keys c.search_row-n.new.heads c.search_row-n.new.links c.search_row-n.new.entries = record { keys_long = c.search_row-n.auto.keys; heads_long = c.search_row-n.auto.heads; links_long = c.search_row-n.auto.links; entries_long = c.search_row-n.auto.entries } in
+    (row-turn _ _ _ _ _ _ _ _ c.search_row-n.ensures c.if-limit-n.false, lengths_trans c.loop-s.invariant.1 (row-lengths))

@@ -22,15 +22,5 @@ overflow_add-count c = let room = begins-room c.loop-i.invariant c.loop-i-test.t
 pub loop-i-smaller : goal.loop-i-smaller
 loop-i-smaller c = let more = c.loop-i-test.true in omega arith
 
-pub loop-i-preserved : goal.loop-i-preserved
-loop-i-preserved c =
-    let filled = c.loop-i.invariant in
-    let more = c.loop-i-test.true in
-    let tested = c.begins_token.ensures in
-    ⊎_elim
-    (λ w. rw (w.1, w.2, c.is_inside-inside.ensures) (filled-begins filled more (sym tested ∙ w.0.true)))
-    (λ w. rw (w.1, w.2, c.is_inside-inside.ensures) (filled-passes filled more (sym tested ∙ w.0.left)))
-    c.if-begins_token.branch
-
 pub returns : goal.returns
 returns c = (filled-count c.loop-i.invariant c.loop-i-test.false, filled-end c.loop-i.invariant c.loop-i-test.false)

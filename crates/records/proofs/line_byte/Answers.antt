@@ -1,6 +1,6 @@
 -- `records::line_byte` meets its contract: its tests tell the class of the byte, and a digit is a plain byte inside a run.
 use mathlib.Core.Path.{sym, ap, ◌∙◌}
-use mathlib.Core.Bool.{not, ◌||◌, or_false}
+use mathlib.Core.Bool.{not, ◌||◌, or-false}
 use Rattle.letters.specs.Described.{described}
 use Rattle.records.specs.Machine.{value_byte, value_end, value_reading, line_from, line_byte}
 use Rattle.records.proofs.Steps.{digit_plain, digit-inside}
@@ -12,7 +12,7 @@ unfolding line_byte
 returns-then-is_digit c =
     let s = c in
     let d = sym c.is_digit.ensures ∙ c.if-is_digit.true in
-    let same = sym (or_false s.args.line.barred) ∙ ap (λ t. s.args.line.barred || not t) (sym (digit_plain s.args.byte d)) in
+    let same = sym (or-false s.args.line.barred) ∙ ap (λ t. s.args.line.barred || not t) (sym (digit_plain s.args.byte d)) in
     at-inside line_from value_byte (value_end (described s.args.lows.now s.args.highs.now)) (value_reading s.args.line) s.args.byte same (digit-inside s.args.byte d) c.value_byte.ensures
 
 pub returns-then-is_inside : goal.returns-then-is_inside

@@ -1,6 +1,6 @@
 -- `records::values_end` meets its contract: its tests are those of the definition, in their order.
 use mathlib.Core.Path.{sym, ◌∙◌}
-use borrow.Author.Tests.{not-true, not-false, eq-eqb, ne_eqb, lt-ltb, le-ltb}
+use borrow.Author.Tests.{eq-eqb, ne_eqb, lt-ltb, le-ltb}
 use Rattle.records.proofs.values_end.Goals as goal
 
 pub returns-then-barred : goal.returns-then-barred

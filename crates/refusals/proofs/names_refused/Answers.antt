@@ -48,16 +48,6 @@ slice_bounds-stands_in-start c = let w = token-within c.next_token-token.ensures
 pub slice_bounds-stands_in-end : goal.slice_bounds-stands_in-end
 slice_bounds-stands_in-end c = let w = token-within c.next_token-token.ensures in let a = w.0 in let b = w.1 in omega arith
 
-pub returns-then-stands_in : goal.returns-then-stands_in
-returns-then-stands_in c =
-    let line_of : List ℕ = c.args.line.now in
-    let name_of : List ℕ = between (line_of) c.next_token-token.result.start c.next_token-token.result.end in
-    let later_of : List (List ℕ) = tokens (drop c.next_token-token.result.end (line_of)) in
-    let stands-again : is_one_of (later_of) (name_of) ≡ c.stands_in.result = (let token = c in
-    sym (c.stands_in.ensures ∙ ap (λ l. is_one_of (tokens l) (name_of token)) (between-all (line_of token) token.next_token-token.result.end (token-within token.next_token-token.ensures).1))) in
-    let token = c in
-    names_twice (name_of token) (later_of token) (token-tokens token.next_token-token.ensures c.if-start-end.false) (stands-again ∙ c.if-stands_in.true) ∙ sym token.loop-at.inv.1
-
 pub loop-at-smaller : goal.loop-at-smaller
 loop-at-smaller c =
     let token = c in
@@ -65,15 +55,3 @@ loop-at-smaller c =
     let w = token-within token.next_token-token.ensures in
     let b = w.1 in
     omega arith
-
-pub loop-at-preserved : goal.loop-at-preserved
-loop-at-preserved c =
-    let line_of : List ℕ = c.args.line.now in
-    let name_of : List ℕ = between (line_of) c.next_token-token.result.start c.next_token-token.result.end in
-    let later_of : List (List ℕ) = tokens (drop c.next_token-token.result.end (line_of)) in
-    let stands-again : is_one_of (later_of) (name_of) ≡ c.stands_in.result = (let token = c in
-    sym (c.stands_in.ensures ∙ ap (λ l. is_one_of (tokens l) (name_of token)) (between-all (line_of token) token.next_token-token.result.end (token-within token.next_token-token.ensures).1))) in
-    let token = c in (
-      (token-within token.next_token-token.ensures).1,
-      token.loop-at.inv.1 ∙ names-later (name_of token) (later_of token) (token-tokens token.next_token-token.ensures c.if-start-end.false) (sym c.is_reserved.ensures ∙ c.if-is_reserved.false) (stands-again ∙ c.if-stands_in.false),
-    )
