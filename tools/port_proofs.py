@@ -85,6 +85,42 @@ def args_of(text):
 
 
 WORDS = {}
+CLAUSES = {}
+
+
+def clauses_of(crate):
+    """The names of the clauses of each function of the repository, by crate::function."""
+    top = os.path.dirname(crate)
+    if top not in CLAUSES:
+        found = {}
+        for folder, dirs, fs in os.walk(top):
+            dirs[:] = [d for d in dirs if d not in ("out", "proofs", "specs")]
+            for f in fs:
+                if f.endswith(".rt"):
+                    c = os.path.relpath(folder, top).split(os.sep)[0]
+                    text = open(os.path.join(folder, f)).read()
+                    for m in re.finditer(r"\bfn (\w+)[^{]*?\)[^{]*?((?:\n\s*(?:requires|ensures)\*? [^\n]*)+)", text):
+                        req = re.findall(r"\brequires\*? (\w+) \{", m[2])
+                        ens = re.findall(r"\bensures\*? (\w+) \{", m[2])
+                        found.setdefault(f"{c}::{m[1]}", (req, ens))
+        CLAUSES[top] = found
+    return CLAUSES[top]
+
+
+def named(path, names):
+    """A path of .0 and .1 into a product of clauses, by their names."""
+    steps = re.findall(r"\.\d+(?![\w])", path)
+    if len(names) < 2 or not steps:
+        return path
+    j, i = 0, 0
+    while j < len(names) - 1 and i < len(steps) and steps[i] == ".1":
+        j, i = j + 1, i + 1
+    if j < len(names) - 1:
+        if i >= len(steps):
+            return path
+        i += 1
+    return "." + names[j] + "".join(steps[i:])
+
 
 
 def words_of(crate):
@@ -205,8 +241,6 @@ def convert(names, crate, f, keep, told):
     def paths(t, goal=None, place=None):
         # the types of places
         t = re.sub(rf"tie\.((?!Need-|invariant-|decreases-|close|spec)[A-Z]{NAME})((?:\s+(?:invariant|decreases)-{NAME})*)", lambda m: "goal." + renamed[alike(m[1])] if alike(m[1]) in renamed else m[0], t)
-        t = re.sub(r"\(not-(?:false|true) _ (c(?:\.[^\s(){}.;,]+)+)\)", r"\1", t)
-        t = re.sub(r"(?<![\w-])not-(?:false|true) _ (c(?:\.[^\s(){}.;,]+)+)", r"\1", t)
         t = re.sub(r"(?m)^(\S+ c) κs(?=\s)", r"\1", t)
 
         # what a call left, by position
@@ -218,6 +252,20 @@ def convert(names, crate, f, keep, told):
         t = re.sub(rf"\.({NAME})\.new((?:\.1)*\.[01])(?![\w])", lambda m: left(m), t)
 
         t = re.sub(r"(\.before)+(?![\w-])", "", t)
+
+        # clauses by their names
+        mine = clauses_of(crate).get(f"{name}::{f.lstrip('+')}", ([], []))
+        t = re.sub(r"\.requires((?:\.\d+(?![\w]))+)", lambda m: ".requires" + named(m[1], mine[0]), t)
+
+        def told_by(label, path):
+            for p in lts["places"]:
+                if p[3] and alike(p[2][0]) == alike(label):
+                    return named(path, clauses_of(crate).get(p[3], ([], []))[1])
+            return path
+
+        t = re.sub(rf"\.({NAME})\.ensures((?:\.\d+(?![\w]))+)", lambda m: f".{m[1]}.ensures" + told_by(m[1], m[2]), t)
+        for v, label in re.findall(rf"let (\S+) = c(?:\.before)*\.({NAME}) in", t):
+            t = re.sub(rf"(?<![\w.'-]){re.escape(v)}\.ensures((?:\.\d+(?![\w]))+)", lambda m: f"{v}.ensures" + told_by(label, m[1]), t)
 
         # a projection of a step: c.STEP or x.STEP
         def one(m):
@@ -234,7 +282,13 @@ def convert(names, crate, f, keep, told):
             return m[0]
 
         t = re.sub(rf"(?<=[\w)])\.({NAME})", one, t)
-        t = re.sub(r"\0\.given", "", t).replace("\0", "")
+        t = re.sub(r"\0\.given", "", t).replace("\0", "").replace(".type-inv", ".type_inv")
+        # a test of !x says what x is
+        nots = [v for v, label in re.findall(rf"let (\S+) = c\.({NAME}) in", t) if label.startswith("if-not-")]
+        path = r"(?:c\.if-not-[^\s(){}.;,]+" + "".join("|" + re.escape(v) for v in nots) + r")\.(?:true|false)"
+        # (where x is a field, it still says what !x is)
+        t = re.sub(rf"\(not-(?:false|true) (?!\S+\.result\.)\S+ ({path})\)", r"\1", t)
+        t = re.sub(rf"(?<![\w-])not-(?:false|true) (?!\S+\.result\.)\S+ ({path})", r"\1", t)
         return t.replace(".came", ".branch").replace(".taken", ".true")
 
     inv_out, used_in_inv, equations = [], set(), {}

@@ -10,6 +10,9 @@ use Rattle.parse.proofs.pass_prefixes.Goals as goal
 pub loop-token-init : goal.loop-token-init
 loop-token-init c = passes_nothing refl refl
 
+pub token_at-token-requires : goal.token_at-token-requires
+token_at-token-requires c = placed-later c.requires.placed (passes_later c.loop-token.invariant)
+
 pub slice_bounds-prefix_code-count : goal.slice_bounds-prefix_code-count
 slice_bounds-prefix_code-count c = let within = token-within c.token_at-token.ensures in omega arith
 
@@ -21,6 +24,14 @@ slice_bounds-prefix_code-end c = let within = token-within c.token_at-token.ensu
 
 pub returns-then-kind : goal.returns-then-kind
 returns-then-kind c = c.loop-token.invariant
+
+pub firsts_inside-inside-requires : goal.firsts_inside-inside-requires
+firsts_inside-inside-requires c =
+    let start = c in
+    let token = c.token_at-token in
+    let stands = prefix-stands start.args.text.now token.result c.prefix_code-kind.ensures c.if-kind.false in
+    let first = ap length (token-tokens token.ensures stands) in
+    omega (arith, start.requires.at_bound, passes_room c.loop-token.invariant)
 
 pub loop-token-smaller : goal.loop-token-smaller
 loop-token-smaller c =

@@ -6,6 +6,7 @@ use mathlib.Core.Logic.{⊎_elim}
 use native.Mathlib.Omega.{arith}
 use Rattle.parse.proofs.Filled.{filled-start, filled-end, filled-count, begins-room, filled-begins, filled-passes}
 use Rattle.parse.proofs.store_token_starts.Goals as goal
+use Rattle.parse.proofs.store_token_starts.Goals.{then-begins_token, else-begins_token}
 
 pub loop-i-init : goal.loop-i-init
 loop-i-init c = filled-start _ _ _ c.requires
@@ -24,3 +25,13 @@ loop-i-smaller c = let more = c.loop-i-test.true in omega arith
 
 pub returns : goal.returns
 returns c = (filled-count c.loop-i.invariant c.loop-i-test.false, filled-end c.loop-i.invariant c.loop-i-test.false)
+
+pub loop-i-preserved : goal.loop-i-preserved
+loop-i-preserved c =
+    let filled = c.loop-i.invariant in
+    let more = c.loop-i-test.true in
+    let tested = c.begins_token.ensures in
+    elim c.if-begins_token.branch [
+      | then-begins_token w ↦ rw (w.token_starts-is, w.count-is, c.is_inside-inside.ensures) (filled-begins filled more (sym tested ∙ w.if-begins_token.true))
+      | else-begins_token w ↦ rw (w.token_starts-is, w.count-is, c.is_inside-inside.ensures) (filled-passes filled more (sym tested ∙ w.if-begins_token.false))
+    ]

@@ -3,7 +3,6 @@ use Prim.Native.Nat.{◌-◌}
 use mathlib.Core.Path.{sym, ap, ◌∙◌}
 use native.Mathlib.Omega.{arith}
 use native.Mathlib.Numerals.{add-one}
-use borrow.Author.Tests.{not-true, not-false}
 use lib.ListN.{set, get_or}
 use Rattle.nodes.specs.Code.{floored_kind, meant_kinds}
 use Rattle.reader.proofs.Floored.{floored_up_to, up_to-none, up_to-more, up_to-all}

@@ -55,3 +55,25 @@ loop-at-smaller c =
     let w = token-within token.next_token-token.ensures in
     let b = w.1 in
     omega arith
+
+pub loop-at-preserved : goal.loop-at-preserved
+loop-at-preserved c =
+    let line_of : List ℕ = c.args.line.now in
+    let name_of : List ℕ = between (line_of) c.next_token-token.result.start c.next_token-token.result.end in
+    let later_of : List (List ℕ) = tokens (drop c.next_token-token.result.end (line_of)) in
+    let stands-again : is_one_of (later_of) (name_of) ≡ c.stands_in.result = (let token = c in
+    sym (c.stands_in.ensures ∙ ap (λ l. is_one_of (tokens l) name_of) (between-all line_of token.next_token-token.result.end (token-within token.next_token-token.ensures).1))) in
+    let token = c in (
+      (token-within token.next_token-token.ensures).1,
+      token.loop-at.invariant.1 ∙ names-later name_of later_of (token-tokens token.next_token-token.ensures c.if-start-end.false) (sym c.is_reserved.ensures ∙ c.if-is_reserved.false) (stands-again ∙ c.if-stands_in.false),
+    )
+
+pub returns-then-stands_in : goal.returns-then-stands_in
+returns-then-stands_in c =
+    let line_of : List ℕ = c.args.line.now in
+    let name_of : List ℕ = between (line_of) c.next_token-token.result.start c.next_token-token.result.end in
+    let later_of : List (List ℕ) = tokens (drop c.next_token-token.result.end (line_of)) in
+    let stands-again : is_one_of (later_of) (name_of) ≡ c.stands_in.result = (let token = c in
+    sym (c.stands_in.ensures ∙ ap (λ l. is_one_of (tokens l) name_of) (between-all line_of token.next_token-token.result.end (token-within token.next_token-token.ensures).1))) in
+    let token = c in
+    names_twice name_of later_of (token-tokens token.next_token-token.ensures c.if-start-end.false) (stands-again ∙ c.if-stands_in.true) ∙ sym token.loop-at.invariant.1
