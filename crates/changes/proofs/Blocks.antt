@@ -1,10 +1,10 @@
 -- What each turn of the loops over a row does: one place of a column, one column of a block, one block. In the end the row has had its pass. From the
 -- digits of places.
-use Prim.Native.Nat.{ℕ, zero, suc, ◌+◌, ◌*◌, ◌%◌, ◌≤◌, ◌<◌}
+use Prim.Native.Nat.{ℕ, suc, ◌+◌, ◌*◌, ◌%◌, ◌≤◌, ◌<◌}
 use native.Mathlib.Omega.{arith}
 use native.Mathlib.Nat.{mul-lt-mul_of_pos_right, mul-le-mul_right, le_of_mul-le-mul_right, lt_of_mul-lt-mul_right, suc-mul}
 use native.Mathlib.Decide.{ℕ_discrete}
-use mathlib.Core.Path.{◌≡◌, refl, sym, ◌∙◌, ap, ap₂, subst}
+use mathlib.Core.Path.{◌≡◌, refl, sym, ◌∙◌, ap, ap₂}
 use mathlib.Core.Logic.{◌⊎◌, inl, inr, ◌≢◌}
 use mathlib.Core.Bool.{Bool}
 use mathlib.Core.List.{List}
@@ -12,7 +12,7 @@ use lib.Arith.{digits_lt, digits_mod}
 use lib.ListN.{length, set, length-set}
 use lib.Seq.{get_or-set_same, get_or-set_other}
 use Rattle.basics.specs.Lists.{at}
-use Rattle.changes.specs.Passes.{least_below, lowered_cost, IsPass, LowersColumn, LowersBlock, LowersBlocks}
+use Rattle.changes.specs.Passes.{least_below, lowered_cost, LowersColumn, LowersBlock, LowersBlocks}
 use Rattle.changes.proofs.Passes.{least_below-same}
 
 -- ---- places

@@ -1,20 +1,19 @@
 -- The loops over the streams of a shape, the last stream first: the row whose later streams have had their passes, and the row that has their changes. From
 -- the laws of passes and of digits.
-use Prim.Native.Nat.{ℕ, ◌+◌, ◌-◌, ◌*◌, ◌/◌, ◌%◌, ◌≤◌, ◌<◌, min}
+use Prim.Native.Nat.{ℕ, ◌-◌, ◌*◌, ◌/◌, ◌%◌, ◌≤◌, ◌<◌}
 use native.Mathlib.Omega.{arith}
 use native.Mathlib.Nat.{mod-eq_of_lt}
 use mathlib.Core.Path.{◌≡◌, refl, sym, ◌∙◌, ap, subst}
 use mathlib.Core.Bool.{Bool, true, false, not, cond}
-use mathlib.Core.List.{List, []}
+use mathlib.Core.List.{List}
 use lib.Dec.{eqb}
-use lib.ListN.{length, get_or}
 use Rattle.basics.specs.Lists.{at}
 use Rattle.meaning.specs.Expression.{read_kind, set_kind}
 use Rattle.meaning.proofs.Letter.{positive-left, positive-right}
 use Rattle.streams.specs.Description.{kind_with}
 use Rattle.changes.specs.Changes.{is_set_kind}
-use Rattle.changes.specs.Axes.{Axis, letter_total, changed_along, axis_in, axes_from, axes_in}
-use Rattle.changes.specs.Least.{IsLeastFrom, LowersCosts, CountsChanges}
+use Rattle.changes.specs.Axes.{letter_total, changed_along, axis_in, axes_from}
+use Rattle.changes.specs.Least.{IsLeastFrom}
 use Rattle.changes.specs.Passes.{AxisPasses, done, pass, LowersBlocks, SpreadsStream}
 use Rattle.changes.specs.declared.Shape.{Shape}
 use Rattle.changes.proofs.Axes.{before, before_more, later, later-all, later-none, later_more, later-total, before-later, changed-most, axes_length}

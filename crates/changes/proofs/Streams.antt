@@ -5,7 +5,6 @@ use native.Mathlib.Omega.{arith}
 use native.Mathlib.Nat.{le_trans, mul-one}
 use native.Mathlib.Decide.{ℕ_discrete}
 use mathlib.Core.Path.{◌≡◌, refl, sym, ◌∙◌, ap, ap₂}
-use mathlib.Core.Logic.{◌≢◌}
 use mathlib.Core.Bool.{Bool, true, false, not, cond, ◌&&◌}
 use mathlib.Core.List.{List, [], ◌∷◌, map}
 use lib.Dec.{T, eqb}
@@ -20,14 +19,13 @@ use Rattle.meaning.specs.Letter.{size, letter_count, letter_of}
 use Rattle.meaning.proofs.Value.{compares-equal}
 use Rattle.meaning.proofs.Order.{distance_+ℤ_pos}
 use Rattle.meaning.proofs.Letter.{positive-left, positive-right}
-use Rattle.sheet.specs.Refusal.{letter_bound}
-use Rattle.letters.specs.Described.{described, cut_count}
+use Rattle.letters.specs.Described.{described}
 use Rattle.letters.proofs.Numbers.{left-≤, right-≤}
 use Rattle.streams.specs.Description.{range_at, kind_with, stream_in, described_from, description_of, StreamsFit}
 use Rattle.streams.specs.declared.StreamsDescription.{StreamsDescription}
 use Rattle.streams.proofs.Fit.{streams-length}
 use Rattle.changes.specs.Changes.{is_set_kind, differing, changed}
-use Rattle.changes.specs.Axes.{Axis, axis_of, letter_total, changed_along, axis_in, axes_from, axes_in, IsShape}
+use Rattle.changes.specs.Axes.{axis_of, letter_total, changed_along, axis_in, axes_from, axes_in, IsShape}
 use Rattle.changes.specs.declared.Shape.{Shape}
 
 -- Two values of a stream differ exactly if their distances from the lowest do.

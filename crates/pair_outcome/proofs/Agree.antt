@@ -1,14 +1,14 @@
 -- What the search of the pairs gives depends on the cuts of the joined letters alone, not on what stands behind them.
 use Prim.Native.Nat.{ℕ, ◌+◌, ◌*◌, ◌/◌, ◌%◌, ◌<◌}
-use mathlib.Core.Path.{◌≡◌, refl, sym, ap, ap₂, subst, ◌∙◌}
-use mathlib.Core.Bool.{Bool, true, false, ◌&&◌}
+use mathlib.Core.Path.{◌≡◌, sym, ap₂, subst, ◌∙◌}
+use mathlib.Core.Bool.{false, ◌&&◌}
 use lib.Dec.{ltb}
 use Rattle.automaton.specs.WellFormed.{most_rows}
-use Rattle.automaton.specs.Reachable.{System, Reach, Reach.start, Reach.step, IsRow, IsRow.no_row, IsRow.row, SearchedKeys, Over}
+use Rattle.automaton.specs.Reachable.{System, Reach, Reach.start, Reach.step, IsRow, IsRow.no_row, IsRow.row, SearchedKeys}
 use Rattle.automaton.specs.Join.{TwoTables}
 use Rattle.automaton.specs.PairSearch.{pair_system}
 use Rattle.pairs.specs.Rows.{MorePairs}
-use Rattle.pairs.specs.Found.{PairTables, HoldsPairs, PairWorkZero, PairsOutcome, found, none}
+use Rattle.pairs.specs.Found.{PairTables, PairsOutcome, found, none}
 
 module _ (letters : ℕ) (l l' r r' : ℕ → ℕ) (e e' : ℕ → ℕ → ℕ) (f f' : ℕ → ℕ) (left : (a : ℕ) → a < letters → l a ≡ l' a) (right : (a : ℕ) → a < letters → r a ≡ r' a) where
   abbrev T : TwoTables

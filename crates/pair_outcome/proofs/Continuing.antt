@@ -7,12 +7,12 @@ use mathlib.Core.Path.{◌≡◌, refl, sym, ap, subst, ◌∙◌}
 use mathlib.Core.List.{List, [], ◌∷◌, ◌++◌, append_assoc, append-nil}
 use lib.ListN.{length}
 use Rattle.basics.specs.Count.{CountOf}
-use Rattle.basics.proofs.Count.{InRows, rows_at_most}
+use Rattle.basics.proofs.Count.{rows_at_most}
 use Rattle.automaton.specs.Words.{Word, append, prefix, InRange, AllBelow}
 use Rattle.automaton.specs.Solutions.{ByPrefixes}
 use Rattle.automaton.specs.Situations.{IsCongruence}
 use Rattle.automaton.specs.Table.{IsTable}
-use Rattle.automaton.specs.Join.{TwoTables, BothFollow, BothFinal, SamePair, pair_of, IsPair, Together, FinalsStay}
+use Rattle.automaton.specs.Join.{TwoTables, BothFollow, SamePair, pair_of, IsPair, Together, FinalsStay}
 use Rattle.automaton.proofs.Words.{prefix_extend, in_range-append, all-below-prefix}
 use Rattle.automaton.proofs.Join.{longer-path, pairs_congruence}
 

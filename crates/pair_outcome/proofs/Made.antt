@@ -1,16 +1,15 @@
 -- From the search of the pairs and the table made of its rows to the outcome: the rows are a stored graph exactly if pairs stay final, and its language is
 -- that of the words that both tables follow; every other number of the tables is 0. From the laws of the search for pairs (automaton).
-use Prim.Native.Nat.{ℕ, ◌+◌, ◌-◌, ◌*◌, ◌/◌, ◌≤◌, ◌<◌, min}
+use Prim.Native.Nat.{ℕ, ◌+◌, ◌-◌, ◌*◌, ◌≤◌, ◌<◌, min}
 use native.Mathlib.Omega.{arith}
-use native.Mathlib.Nat.{div-one}
 use native.Mathlib.Decide.{dec_lt}
 use mathlib.Core.Path.{◌≡◌, refl, sym, ◌∙◌, ap, subst}
-use mathlib.Core.Bool.{Bool, true, false, cond}
+use mathlib.Core.Bool.{false, cond}
 use mathlib.Core.Logic.{◌⊎◌, inl, inr}
 use mathlib.Core.List.Memᴰ
 use mathlib.Core.List.{List, [], ◌∷◌, Memᴰ}
-use lib.Dec.{T, eqb, ltb}
-use lib.ListN.{length, get_or, drop, replicate, length-drop}
+use lib.Dec.{eqb, ltb}
+use lib.ListN.{length, get_or, drop, length-drop}
 use lib.Seq.{get_or-drop}
 use borrow.Author.Tests.{lt-ltb, le-ltb, eq-eqb, ne_eqb, eqb-true}
 use Rattle.basics.specs.Count.{MoreThan}
@@ -31,12 +30,11 @@ use Rattle.automaton.proofs.PairSearch.{pairs_stand, pairs-marks, pair-rows, row
 use Rattle.marks.specs.Tests.{is_marked}
 use Rattle.stored_graph.specs.StoredGraph.{IsStoredGraph, stored_graph}
 use Rattle.minimise.specs.Outcome.{GraphTables, cleared, IsAccepted, IsRefusal, NoGraph, NoWord, TableGiven, MinimiseOutcome}
-use Rattle.minimise.specs.declared.Minimised.{Minimised}
 use Rattle.outcome.specs.Room.{LentTable, fewest_rows, zeros, zero_tables}
 use Rattle.outcome.specs.Compile.{CompileAnswer, refused_answer, situation_bound, Room, room_rows, Tables, all_zero, CountFits, WordsOutcome, too_many_situations, too_few_rows, no_solution, compiled}
 use Rattle.outcome.proofs.CompileTotal.{rows_fit}
 use Rattle.pairs.specs.Rows.{MorePairs}
-use Rattle.pairs.specs.Found.{PairTables, pair_tables, HoldsPairs, PairWorkZero, IsPairRoom, PairsOutcome, found, none}
+use Rattle.pairs.specs.Found.{PairTables, pair_tables, HoldsPairs, IsPairRoom, PairsOutcome, found, none}
 use Rattle.pair_outcome.specs.Outcome.{join_room, PairTableOutcome, unsettled, given, pair_answer}
 
 -- ---- the limit of a search is the rows lent or the bound, whichever is less

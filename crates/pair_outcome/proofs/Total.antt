@@ -3,10 +3,10 @@
 use Prim.Native.Nat.{ℕ, zero, suc, ◌≤◌, ◌<◌, min}
 use native.Mathlib.Omega.{arith}
 use native.Mathlib.Decide.{ℕ_discrete, dec_lt}
-use mathlib.Core.Path.{◌≡◌, refl, sym, subst}
+use mathlib.Core.Path.{◌≡◌, subst}
 use mathlib.Core.Bool.{Bool, true, false}
 use mathlib.Core.Logic.{◌⊎◌, inl, inr}
-use lib.Dec.{T, eqb}
+use lib.Dec.{eqb}
 use borrow.Author.Tests.{eq-eqb, eqb-true}
 use Rattle.basics.specs.Count.{CountOf, MoreThan}
 use Rattle.basics.proofs.Count.{count_excludes_more}
@@ -22,12 +22,12 @@ use Rattle.automaton.specs.PairSearch.{pair_system, StatesBelow}
 use Rattle.automaton.proofs.Construction.{table_or_none}
 use Rattle.automaton.proofs.ReachedRows.{searched_things, searched-more_things, flags-stay, row-graph}
 use Rattle.automaton.proofs.PairSearch.{pairs_stand, pairs-marks, pair-rows, rows_stay, pair-graph, pair-graph_language}
-use Rattle.outcome.specs.Compile.{CompileAnswer, Room, room_rows, Tables, CountFits, WordsOutcome, too_many_situations, too_few_rows, situation_bound}
-use Rattle.outcome.proofs.CompileTotal.{HasWordsOutcome, words_total}
+use Rattle.outcome.specs.Compile.{CompileAnswer, Room, room_rows, Tables, CountFits, too_many_situations, too_few_rows, situation_bound}
+use Rattle.outcome.proofs.CompileTotal.{words_total}
 use Rattle.pair_outcome.specs.Outcome.{PairTableOutcome, unsettled, given}
 use Rattle.pair_outcome.proofs.Made.{some_pair}
 use Rattle.pair_outcome.proofs.Continuing.{states-at-most-pairs}
-use Rattle.pair_outcome.proofs.Search.{Searched, search_total}
+use Rattle.pair_outcome.proofs.Search.{search_total}
 
 module _ {T₀ : TwoTables} (W : StatesBelow T₀ most_rows) where
   -- ---- the pairs are counted

@@ -161,3 +161,6 @@ pub letter-fits : (lows highs : List ℤ) (l : Letter) → AllFit lows → AllFi
 letter-fits [] highs [] f g none = tt
 letter-fits (a ∷ lows) [] [] f g none = tt
 letter-fits (a ∷ lows) (b ∷ highs) (v ∷ l) f g (more w m) = (between-fits a v b f.0 g.0 w.above w.below, letter-fits lows highs l f.1 g.1 m)
+letter-fits [] highs (v ∷ l) f g x6 = elim x6 [ ]
+letter-fits (a ∷ lows) [] (v ∷ l) f g x6 = elim x6 [ ]
+letter-fits (a ∷ lows) (b ∷ highs) [] f g x7 = elim x7 [ ]

@@ -1,5 +1,5 @@
 -- The nodes written from a residue's tree have the tree's value over a window of the letter alone, wherever they stand.
-use Prim.Native.Nat.{ℕ, zero, suc, ◌+◌, ◌/◌, ◌≤◌}
+use Prim.Native.Nat.{ℕ, zero, suc, ◌+◌, ◌*◌, ◌/◌, ◌≤◌}
 use native.Mathlib.Omega.{arith}
 use native.Mathlib.Nat.{div_self}
 use mathlib.Core.Path.{◌≡◌, refl, sym, ◌∙◌, ap, ap₂, subst}
@@ -83,9 +83,9 @@ module _ (N : Nodes) (U : View) (last : ℕ) where
     writable_by_kind integer_node o p = decodes_bounded (get_or N.values i (pos 0))
     writable_by_kind name_node o p =
         writable_cond (ltb p last) (known (stream_evaluated U.window U.streams p (get_or N.values i (pos 0)))) (varying (name_tree (get_or N.values i (pos 0))))
-        (decodes_lookup U.streams _ (get_or N.values i (pos 0))) tt
+        (decodes_lookup U.streams (λ k. get_or U.window (p * U.streams + k) (pos 0)) (get_or N.values i (pos 0))) tt
     writable_by_kind first_node o p =
-        writable_cond U.whole (g i 0) (known (numbered U.firsts (get_or N.values i (pos 0)))) (ok i 0) (decodes_lookup (length U.firsts) _ (get_or N.values i (pos 0)))
+        writable_cond U.whole (g i 0) (known (numbered U.firsts (get_or N.values i (pos 0)))) (ok i 0) (decodes_lookup (length U.firsts) (λ k. get_or U.firsts k (pos 0)) (get_or N.values i (pos 0)))
     writable_by_kind next_node o p = writable_cond (ltb p last) (g i (suc p)) (known no_value) (ok i (suc p)) decodes_none
     writable_by_kind negation_node o p = writable_negate (g i p) (ok i p)
     writable_by_kind conditional_node o p = writable_choose (g _ p) (g _ p) (g i p) (ok _ p) (ok _ p) (ok i p)

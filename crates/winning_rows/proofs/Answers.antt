@@ -1,14 +1,12 @@
 -- The answers of a row, letter by letter from the last to the first. From the definitions of answers.
 use Prim.Native.Nat.{ℕ, ◌-◌, ◌<◌, ◌≤◌}
-use mathlib.Core.Path.{◌≡◌, refl, sym, ◌∙◌, subst}
-use mathlib.Core.Logic.{◌≢◌}
+use mathlib.Core.Path.{◌≡◌, sym, subst}
 use mathlib.Core.List.{List}
 use native.Mathlib.Omega.{arith}
 use native.Mathlib.Decide.{ℕ_discrete}
 use lib.ListN.{length, get_or, set, replicate, length-set, length-replicate, get_or-replicate}
 use lib.Seq.{get_or-set_same, get_or-set_other}
 use Rattle.automaton.specs.Table.{no_state}
-use Rattle.automaton.specs.Ranking.{rank_of, Ranked}
 use Rattle.winning_rows.specs.Answers.{LetterAnswers, FirstAnswer, found, lacking, AreAnswers}
 
 module _ {row choice ranks : List ℕ} {highest : ℕ} where

@@ -1,6 +1,6 @@
 -- The play table, row by row: a row's answers are put in their place, and the rows before it stay. From the laws of one row.
 use Prim.Native.Nat.{ℕ, ◌+◌, ◌-◌, ◌*◌, ◌<◌, ◌≤◌}
-use mathlib.Core.Path.{◌≡◌, refl, sym, ◌∙◌, ap, subst}
+use mathlib.Core.Path.{◌≡◌, sym, ◌∙◌, ap, subst}
 use mathlib.Core.Logic.{inl}
 use mathlib.Core.List.{List, ◌++◌}
 use native.Mathlib.Omega.{arith}
@@ -9,7 +9,7 @@ use lib.ListN.{length, get_or, take, drop, length-append, length-drop, get_or-ap
 use lib.Seq.{length-take-le, get_or-take, get_or-append-add}
 use Rattle.automaton.specs.Stored.{entry_at}
 use Rattle.automaton.specs.PlayTable.{Game}
-use Rattle.automaton.specs.Ranking.{IsPlayed, PlaysRanking}
+use Rattle.automaton.specs.Ranking.{IsPlayed}
 use Rattle.automaton.proofs.Places.{place-before}
 
 -- ---- a part of a list that was lent and put back

@@ -5,7 +5,7 @@ use mathlib.Core.Logic.{inl}
 use mathlib.Core.Bool.{Bool, true, false, not, cond}
 use mathlib.Core.List.{List}
 use native.Mathlib.Omega.{arith}
-use lib.ListN.{length, get_or, drop, replicate, length-drop}
+use lib.ListN.{length, drop, replicate, length-drop}
 use lib.Seq.{get_or-drop}
 use lib.Dec.{eqb}
 use borrow.Author.Tests.{eqb-true, eqb-false, not-true, not-false}
@@ -14,7 +14,7 @@ use Rattle.basics.proofs.Clearing.{all-zero, cleared-all}
 use Rattle.automaton.specs.Table.{no_state}
 use Rattle.automaton.specs.Stored.{entry_at, final_at}
 use Rattle.automaton.specs.PlayTable.{Game}
-use Rattle.automaton.specs.Ranking.{rank_of, Ranked, IsPlayed, PlaysRanking}
+use Rattle.automaton.specs.Ranking.{rank_of, IsPlayed, PlaysRanking}
 use Rattle.automaton.proofs.Places.{place-before}
 use Rattle.automaton.proofs.Ranking.{passes_ranking, ranked-same}
 use Rattle.automaton.proofs.RankedPlay.{lacking-same}

@@ -1,7 +1,7 @@
 -- One row: its entries are a part of the lent entries, its answers say whether the row is answered, and by them it is turned or settled. From the definitions of
 -- answers and the laws of rankings.
 use Prim.Native.Nat.{ℕ, ◌+◌, ◌-◌, ◌*◌, ◌<◌, ◌≤◌}
-use mathlib.Core.Path.{◌≡◌, refl, sym, ◌∙◌, ap, subst}
+use mathlib.Core.Path.{◌≡◌, refl, sym, ◌∙◌, subst}
 use mathlib.Core.Logic.{◌⊎◌, inl, inr, ⊎_elim, ◌≢◌}
 use mathlib.Core.Bool.{Bool, true, false, not, beq}
 use mathlib.Core.List.{List}
@@ -16,7 +16,7 @@ use Rattle.basics.proofs.Answers.{says_yes, says_no}
 use Rattle.automaton.specs.Table.{no_state}
 use Rattle.automaton.specs.Stored.{entry_at}
 use Rattle.automaton.specs.PlayTable.{Game}
-use Rattle.automaton.specs.Ranking.{rank_of, Ranked, HasAnswer, Answered, Unanswered, Turnable, NoneToTurn, turned_to, highest_next, MayPlay, IsPlayed, played, nothing}
+use Rattle.automaton.specs.Ranking.{rank_of, Ranked, HasAnswer, Answered, Unanswered, Turnable, NoneToTurn, highest_next, MayPlay, IsPlayed, played, nothing}
 use Rattle.automaton.proofs.Rounds.{each_or}
 use Rattle.marks.proofs.Sweeping.{beq_same, beq_other}
 use Rattle.winning_rows.specs.Answers.{LetterAnswers, FirstAnswer, found, lacking, AreAnswers, AllAnswered}

@@ -11,7 +11,7 @@ use lib.ListN.{length, replicate}
 use Rattle.automaton.specs.Stored.{final_at}
 use Rattle.automaton.specs.PlayTable.{Game}
 use Rattle.automaton.specs.Ranking.{NoneToTurn, RankTurns, none, turn, AllTurned}
-use Rattle.automaton.proofs.Turns.{turns_rise, turns-none, turns_then, turns-length}
+use Rattle.automaton.proofs.Turns.{turns_rise, turns_then}
 use Rattle.marks.specs.Marks.{IsFlagged}
 use Rattle.winning_rows.specs.Sweeps.{lent_game, GameFits, RowTurned, RowsSwept, RowsRanked}
 

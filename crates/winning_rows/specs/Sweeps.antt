@@ -1,5 +1,5 @@
 -- Rows turned in sweeps: what is known after one row, after a sweep over all rows, and after all sweeps.
-use Rattle.std.specs.Prelude.{◌≡◌, Bool, true, false, List, ℕ, ◌*◌, ◌<◌, ◌≤◌, length, get_or, set}
+use Rattle.std.specs.Prelude.{◌≡◌, Bool, true, false, List, ℕ, ◌*◌, ◌≤◌, length, get_or, set}
 use Rattle.automaton.specs.Stored.{entry_at}
 use Rattle.automaton.specs.WellFormed.{most_rows}
 use Rattle.automaton.specs.PlayTable.{Game}

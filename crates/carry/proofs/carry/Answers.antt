@@ -40,10 +40,11 @@ fill_list-requires c =
     let states-long : let n = length c.args.finals.now in length (take n (replicate most_rows no_state)) ≡ n = ap length (states-none) ∙ length-replicate (length c.args.finals.now) no_state in
     let start = c in
     let s = same in
-    let long = states-long in (
-      subst (λ n. WholeTable start.args.letters n start.args.entries.now) (sym long) s.old_fit.well_formed.whole,
-      ((length start.args.new_finals.now, new-whole s), states-none ∙ ap (λ n. replicate n no_state) (sym long), zeroed (cleared-all c.clear_entries.ensures) (sym c.clear_entries.auto.0)),
-    )
+    let long = states-long in
+    record {
+      whole_table = subst (λ n. WholeTable start.args.letters n start.args.entries.now) (sym long) s.old_fit.well_formed.whole;
+      by_index = ((length start.args.new_finals.now, new-whole s), states-none ∙ ap (λ n. replicate n no_state) (sym long), zeroed (cleared-all c.clear_entries.ensures) (sym c.clear_entries.auto.list));
+    }
 
 pub returns : goal.returns
 returns c =
@@ -54,8 +55,8 @@ returns c =
     let states-long : let n = length c.args.finals.now in length (take n (replicate most_rows no_state)) ≡ n = ap length (states-none) ∙ length-replicate (length c.args.finals.now) no_state in
     let start = c in
     let answer = c.fill_list in
-    let list = answer.new.1.1.1.1.0 in
+    let list = answer.new.list in
     filled-outcome (same)
     (subst (λ n. ListFilled start.args.letters start.args.entries.now start.args.new_entries.now n (length start.args.list.now) answer.result list) (states-long)
     (subst (λ m. ListFilled start.args.letters start.args.entries.now start.args.new_entries.now (length (take (length start.args.finals.now) (replicate most_rows no_state))) m answer.result list)
-    c.clear_entries.auto.0 answer.ensures))
+    c.clear_entries.auto.list answer.ensures))

@@ -7,20 +7,21 @@ use Rattle.basics.proofs.Clearing.{zeros}
 use Rattle.automaton.specs.WellFormed.{most_rows, WholeTable}
 use Rattle.carry.proofs.Rows.{rows_turn_start, rows_turn_runs, rows_turn_most, rows_turn_next, rows_turn_end}
 use Rattle.carry.proofs.carry_rows.Goals as goal
+use Rattle.carry.proofs.carry_rows.Goals.{Start}
 
 -- the table is whole for as many rows as there are states
-whole : (start : goal.Start) → WholeTable start.args.letters (length (set start.args.states.now 0 0)) start.args.entries.now
-whole start = rw length-set start.requires.0
+whole : (start : Start) → WholeTable start.args.letters (length (set start.args.states.now 0 0)) start.args.entries.now
+whole start = rw length-set start.requires.whole_table
 
 pub bounds-states-0 : goal.bounds-states-0
-bounds-states-0 c = c.requires.0.some_row
+bounds-states-0 c = c.requires.whole_table.some_row
 
 pub loop-head-init : goal.loop-head-init
 loop-head-init c =
     let start = c in
     let states = start.args.states.now in
     let same = length-set states 0 0 in
-    (refl, refl, rows_turn_start states _ (sym same) (omega (arith, same, start.requires.0.some_row)) start.requires.1.1 (zeros most_rows 0))
+    (refl, refl, rows_turn_start states _ (sym same) (omega (arith, same, start.requires.whole_table.some_row)) start.requires.by_index.1 (zeros most_rows 0))
 
 pub slice_bounds-carry_row-end : goal.slice_bounds-carry_row-end
 slice_bounds-carry_row-end c = sym c.loop-head.invariant.1
@@ -29,10 +30,14 @@ pub carry_row-count-requires : goal.carry_row-count-requires
 carry_row-count-requires c =
     let start = c in
     let inv = c.loop-head.invariant in
-    (rw inv.0 (whole start), ((start.requires.1.0, inv.1, c.loop-head-test.true), rw inv.0 (rows_turn_runs c.loop-head-test.true inv.2)))
+    record {
+      whole_table = rw inv.0 (whole (goal.at.carry_row-count-requires c).Start);
+      by_index = (start.requires.by_index.0, inv.1, c.loop-head-test.true);
+      stored_carry_turn = rw inv.0 (rows_turn_runs c.loop-head-test.true inv.2);
+    }
 
 pub overflow_add-head : goal.overflow_add-head
-overflow_add-head c = omega (arith, rows_turn_most c.loop-head-test.true c.loop-head.invariant.2, (whole c).few_rows)
+overflow_add-head c = omega (arith, rows_turn_most c.loop-head-test.true c.loop-head.invariant.2, (whole (goal.at.overflow_add-head c).Start).few_rows)
 
 pub loop-head-smaller : goal.loop-head-smaller
 loop-head-smaller c = omega (arith, rows_turn_most c.loop-head-test.true c.loop-head.invariant.2)
@@ -41,7 +46,7 @@ pub loop-head-preserved : goal.loop-head-preserved
 loop-head-preserved c =
     let row = c.carry_row-count in
     let inv = c.loop-head.invariant in
-    (row.auto.1.1.1.1.0 ∙ inv.0, row.auto.1.1.1.1.1.0 ∙ inv.1, rows_turn_next (row.auto.1.1.1.1.0 ∙ inv.0) row.ensures)
+    (row.auto.states ∙ inv.0, row.auto.queue ∙ inv.1, rows_turn_next (row.auto.states ∙ inv.0) row.ensures)
 
 pub returns : goal.returns
-returns c = rows_turn_end c.loop-head.invariant.0 (whole c).some_row c.loop-head-test.false c.loop-head.invariant.2
+returns c = rows_turn_end c.loop-head.invariant.0 (whole (goal.at.returns c).Start).some_row c.loop-head-test.false c.loop-head.invariant.2

@@ -7,16 +7,16 @@ use Rattle.carry.proofs.Outcome.{list-lacking, list-too_short, list-filled}
 use Rattle.carry.proofs.fill_list.Goals as goal
 
 pub returns-then-not-carry_rows : goal.returns-then-not-carry_rows
-returns-then-not-carry_rows c = list-lacking c.carry_rows.ensures c.if-not-carry_rows.true c.requires.1.2
+returns-then-not-carry_rows c = list-lacking c.carry_rows.ensures c.if-not-carry_rows.true c.requires.by_index.2
 
 pub returns-then-list-states : goal.returns-then-list-states
 returns-then-list-states c =
     let rows = c.carry_rows in
-    list-too_short rows.ensures rows.auto.1.1.1.0 c.if-not-carry_rows.false (omega (arith, c.if-list-states.true, rows.auto.1.1.1.0)) c.requires.1.2
+    list-too_short rows.ensures rows.auto.states c.if-not-carry_rows.false (omega (arith, c.if-list-states.true, rows.auto.states)) c.requires.by_index.2
 
 pub returns : goal.returns
 returns c =
     let rows = c.carry_rows in
-    let states = rows.new.1.1.1.0 in
-    list-filled rows.ensures rows.auto.1.1.1.0 c.if-not-carry_rows.false (omega (arith, c.if-list-states.false, rows.auto.1.1.1.0))
-    (c.copy.ensures ∙ ap (λ l. paste l 0 states (length states)) c.requires.1.2)
+    let states = rows.new.states in
+    list-filled rows.ensures rows.auto.states c.if-not-carry_rows.false (omega (arith, c.if-list-states.false, rows.auto.states))
+    (c.copy.ensures ∙ ap (λ l. paste l 0 states (length states)) c.requires.by_index.2)

@@ -1,8 +1,6 @@
 -- `changes::change` meets its contract: the tests are those of the definition.
 use mathlib.Core.Path.{sym}
 use Rattle.changes.proofs.Axes.{change-same, change-other}
-use Rattle.changes.proofs.change.Reads as reads
-use Rattle.changes.proofs.change.Lts as lts
 use Rattle.changes.proofs.change.Goals as goal
 
 pub returns-then-own-value : goal.returns-then-own-value

@@ -1,15 +1,13 @@
 -- `changes::column_least` meets its contract: `least` is the least of the numbers before `value`.
 use mathlib.Core.Path.{◌≡◌, ap, ◌∙◌}
-use mathlib.Core.Logic.{⊎_elim}
-use Prim.Native.Nat.{ℕ, ◌+◌, ◌*◌, ◌<◌, ◌-◌}
+use Prim.Native.Nat.{ℕ, ◌+◌, ◌*◌, ◌<◌}
 use native.Mathlib.Omega.{arith}
 use lib.ListN.{length}
 use Rattle.basics.specs.Lists.{at}
 use Rattle.changes.specs.Passes.{least_below}
 use Rattle.changes.proofs.Passes.{least_below-lower, least_below-kept}
-use Rattle.changes.proofs.column_least.Reads as reads
-use Rattle.changes.proofs.column_least.Lts as lts
 use Rattle.changes.proofs.column_least.Goals as goal
+use Rattle.changes.proofs.column_least.Goals.{then-cost-least, else-cost-least}
 
 pub offset_bounds-row-from : goal.offset_bounds-row-from
 offset_bounds-row-from c = omega (arith, c.requires.1 0 c.requires.0)
@@ -54,7 +52,7 @@ loop-value-preserved c =
     let turn = c.loop-value in
     let a = c.args in
     let numbers : ℕ → ℕ = λ d. at a.row.now (a.from + d * a.stride) in
-    (omega arith, ⊎_elim (λ w. w.1 ∙ least_below-lower turn.value numbers turn.invariant.1 w.0.true) (λ w. w.1 ∙ least_below-kept turn.value numbers turn.invariant.1 w.0.left) c.if-cost-least.branch)
+    (omega arith, elim c.if-cost-least.branch [ then-cost-least w ↦ w.least-is ∙ least_below-lower turn.value numbers turn.invariant.1 w.if-cost-least.true | else-cost-least w ↦ w.least-is ∙ least_below-kept turn.value numbers turn.invariant.1 w.if-cost-least.false ])
 
 pub returns : goal.returns
 returns c =

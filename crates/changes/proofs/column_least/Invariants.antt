@@ -3,8 +3,6 @@ use mathlib.Core.Path.{◌≡◌}
 use Prim.Native.Nat.{◌+◌, ◌*◌, ◌≤◌, ◌-◌}
 use Rattle.basics.specs.Lists.{at}
 use Rattle.changes.specs.Passes.{least_below}
-use Rattle.changes.proofs.column_least.Reads as reads
-use Rattle.changes.proofs.column_least.Lts as lts
 use Rattle.changes.proofs.column_least.Given as goal
 
 abbrev pub invariant-loop-value : goal.invariant-loop-value

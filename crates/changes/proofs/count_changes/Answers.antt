@@ -6,7 +6,6 @@ use native.Mathlib.Omega.{arith}
 use native.Mathlib.Nat.{zero-mul}
 use lib.ListN.{length, length-set}
 use lib.Seq.{get_or-set_same}
-use borrow.Author.Tests.{not-true, not-false}
 use Rattle.basics.proofs.Answers.{says_yes, says_no}
 use Rattle.changes.specs.Axes.{changed_along, axes_from, axis_in}
 use Rattle.changes.specs.Passes.{SpreadsStream}
@@ -35,7 +34,7 @@ bounds-row-0 c = let g = c.if-row-letter.false in omega arith
 pub loop-stream-init : goal.loop-stream-init
 loop-stream-init c =
     let a = c.args in
-    (omega arith, refl, counted_start a.shape c.fewer-stream.result (get_or-set_same a.row.now 0 0 0 (slice-write-row c)))
+    (omega arith, refl, counted_start a.shape c.fewer-stream.result (get_or-set_same a.row.now 0 0 0 (let g = c.if-row-letter.false in omega arith)))
 
 pub overflow_sub-stream : goal.overflow_sub-stream
 overflow_sub-stream c = omega arith
@@ -115,7 +114,7 @@ loop-stream-preserved c =
     let a = up.args in
     let n = up.fewer-stream.result in
     let turn = up.loop-stream in
-    let known = all up in
+    let known = all in
     let taken = up.loop-stream-test.true in
     let next = c.spread_stream.new.row in
     let axis = axis_in a.shape (turn.stream - 1) in

@@ -1,6 +1,6 @@
 -- `changes::count_changes` meets its contract: the changes along the streams from `stream` on are written (`CountedFrom`).
-use mathlib.Core.Path.{◌≡◌, ap}
-use Prim.Native.Nat.{◌≤◌, ◌-◌}
+use mathlib.Core.Path.{◌≡◌}
+use Prim.Native.Nat.{◌≤◌}
 use lib.ListN.{length}
 use Rattle.changes.proofs.Loops.{CountedFrom}
 use Rattle.changes.proofs.count_changes.Given as goal

@@ -1,13 +1,10 @@
 -- `changes::lower_column` meets its contract: the places of the values before `value` are lowered (`LowersColumn`).
 use mathlib.Core.Path.{◌≡◌, sym, subst}
-use Prim.Native.Nat.{ℕ, ◌+◌, ◌*◌, ◌<◌, ◌-◌}
+use Prim.Native.Nat.{ℕ, ◌+◌, ◌*◌, ◌<◌}
 use native.Mathlib.Omega.{arith}
 use lib.ListN.{length, set}
-use Rattle.basics.specs.Lists.{at}
 use Rattle.changes.specs.Passes.{LowersColumn}
 use Rattle.changes.proofs.Blocks.{column_start, column_next}
-use Rattle.changes.proofs.lower_column.Reads as reads
-use Rattle.changes.proofs.lower_column.Lts as lts
 use Rattle.changes.proofs.lower_column.Goals as goal
 
 pub loop-value-init : goal.loop-value-init

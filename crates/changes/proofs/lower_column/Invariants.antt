@@ -1,9 +1,6 @@
 -- `changes::lower_column` meets its contract: the places of the values before `value` are lowered (`LowersColumn`).
 use Prim.Native.Nat.{◌≤◌, ◌-◌}
-use lib.ListN.{set}
 use Rattle.changes.specs.Passes.{LowersColumn}
-use Rattle.changes.proofs.lower_column.Reads as reads
-use Rattle.changes.proofs.lower_column.Lts as lts
 use Rattle.changes.proofs.lower_column.Given as goal
 
 abbrev pub invariant-loop-value : goal.invariant-loop-value

@@ -5,7 +5,6 @@ use Prim.Native.Nat.{ℕ, ◌*◌, ◌<◌, ◌-◌}
 use native.Mathlib.Omega.{arith}
 use native.Mathlib.Nat.{zero-mul}
 use lib.ListN.{length}
-use borrow.Author.Tests.{not-true, not-false}
 use Rattle.basics.specs.Lists.{at}
 use Rattle.basics.proofs.Answers.{says_yes, says_no}
 use Rattle.changes.specs.Axes.{axes_from, axis_in}
@@ -77,7 +76,7 @@ overflow_mul-stride c =
     let a = up.args in
     let width = up.value_count-size.result * up.loop-stream.stride in
     let blocks = before a.shape (up.loop-stream.stream - 1) in
-    omega (arith, block_inside 0 blocks width (omega (arith, zero-mul width, whole, (all up).0)), zero-mul width, whole)
+    omega (arith, block_inside 0 blocks width (omega (arith, zero-mul width, whole, (all).0)), zero-mul width, whole)
 
 pub loop-stream-smaller : goal.loop-stream-smaller
 loop-stream-smaller c = omega arith

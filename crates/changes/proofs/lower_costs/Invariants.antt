@@ -1,6 +1,6 @@
 -- `changes::lower_costs` meets its contract: the streams from `stream` on have had their passes (`PassesFrom`).
-use mathlib.Core.Path.{◌≡◌, ap}
-use Prim.Native.Nat.{◌≤◌, ◌-◌}
+use mathlib.Core.Path.{◌≡◌}
+use Prim.Native.Nat.{◌≤◌}
 use lib.ListN.{length}
 use Rattle.changes.proofs.Loops.{PassesFrom}
 use Rattle.changes.proofs.lower_costs.Given as goal

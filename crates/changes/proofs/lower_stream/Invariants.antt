@@ -2,7 +2,7 @@
 use mathlib.Core.Path.{◌≡◌}
 use Prim.Native.Nat.{ℕ, ◌*◌, ◌≤◌, ◌-◌}
 use lib.ListN.{length}
-use Rattle.changes.specs.Passes.{LowersBlock, LowersBlocks}
+use Rattle.changes.specs.Passes.{LowersBlocks}
 use Rattle.changes.proofs.lower_stream.Given as goal
 
 abbrev pub invariant-loop-start : goal.invariant-loop-start

@@ -1,8 +1,6 @@
 -- `changes::lowered` meets its contract: the tests are those of the definition.
 use native.Mathlib.Numerals.{add-one}
 use borrow.Author.Tests.{lt-ltb, le-ltb}
-use Rattle.changes.proofs.lowered.Reads as reads
-use Rattle.changes.proofs.lowered.Lts as lts
 use Rattle.changes.proofs.lowered.Goals as goal
 
 pub returns-then-least-own : goal.returns-then-least-own

@@ -1,9 +1,8 @@
 -- `changes::makes` meets its contract: `made` is how many letters the streams from `stream` on make.
-use mathlib.Core.Path.{◌≡◌, refl, sym, ap, ap₂, ◌∙◌}
+use mathlib.Core.Path.{◌≡◌, sym, ap, ap₂, ◌∙◌}
 use Prim.Native.Nat.{◌*◌, ◌<◌, ◌-◌}
 use native.Mathlib.Omega.{arith}
 use lib.Dec.{eqb}
-use borrow.Author.Tests.{not-true, not-false}
 use Rattle.basics.proofs.Answers.{says_yes, says_no, says_both, reflects_says}
 use Rattle.basics.proofs.Reflects.{eqb_reflects}
 use Rattle.changes.specs.Axes.{letter_total, axes_in}
@@ -36,6 +35,9 @@ returns-then-not-rows_fit c m =
     let n = c.fewer-stream.result in
     let j = c.loop-stream.stream - 1 in
     let all : before shape n ≡ c.args.letters = ap (before shape) c.fewer-stream.ensures ∙ m.1 in
+    let more : c.value_count-size.result * c.loop-stream.made ≡ letter_total (later c.args.shape c.fewer-stream.result (c.loop-stream.stream - 1)) =
+    ap₂ ◌*◌ c.value_count-size.ensures c.loop-stream.invariant.1
+    ∙ sym (later-total c.args.shape c.fewer-stream.result c.loop-stream.stream c.loop-stream-test.true c.loop-stream.invariant.0) in
     let most = later-most shape n j (omega arith) (omega (arith, all, m.0)) in
     says_no c.if-not-rows_fit.true c.rows_fit.ensures (omega (arith, more, most, all))
 

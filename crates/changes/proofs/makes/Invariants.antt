@@ -1,6 +1,6 @@
 -- `changes::makes` meets its contract: `made` is how many letters the streams from `stream` on make.
-use mathlib.Core.Path.{◌≡◌, ap}
-use Prim.Native.Nat.{◌≤◌, ◌-◌}
+use mathlib.Core.Path.{◌≡◌}
+use Prim.Native.Nat.{◌≤◌}
 use Rattle.changes.specs.Axes.{letter_total}
 use Rattle.changes.proofs.Axes.{later}
 use Rattle.changes.proofs.makes.Given as goal

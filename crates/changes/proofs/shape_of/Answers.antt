@@ -1,6 +1,5 @@
 -- `changes::shape_of` meets its contract: the sizes of the streams before `i` are stored.
 use mathlib.Core.Path.{◌≡◌, refl, ap, ◌∙◌}
-use Prim.Native.Nat.{◌-◌}
 use native.Mathlib.Omega.{arith}
 use lib.ListN.{length, length-set}
 use borrow.Author.Rules.{rules}

@@ -3,7 +3,7 @@ use mathlib.Core.Path.{◌≡◌, subst}
 use Prim.Native.Nat.{ℕ, suc, ◌+◌, ◌*◌, ◌≤◌, ◌-◌}
 use native.Mathlib.Omega.{arith}
 use lib.ListN.{length}
-use Rattle.changes.specs.Passes.{change, SpreadsPart, SpreadsStream}
+use Rattle.changes.specs.Passes.{SpreadsPart, SpreadsStream}
 use Rattle.changes.proofs.Axes.{change-most}
 use Rattle.changes.proofs.Spread.{stream-start, stream-next, part_apart, part-inside}
 use Rattle.changes.proofs.spread_stream.Goals as goal

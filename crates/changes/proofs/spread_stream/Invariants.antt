@@ -1,5 +1,5 @@
 -- `changes::spread_stream` meets its contract: the values from `value` on are written (`SpreadsStream`).
-use Prim.Native.Nat.{◌≤◌, ◌-◌}
+use Prim.Native.Nat.{◌≤◌}
 use Rattle.changes.specs.Passes.{SpreadsStream}
 use Rattle.changes.proofs.spread_stream.Given as goal
 

@@ -2,11 +2,11 @@
 use Prim.Native.Nat.{suc, ◌-◌, ◌*◌, ◌%◌, ◌≤◌, ◌<◌}
 use native.Mathlib.Omega.{arith}
 use mathlib.Core.Path.{◌≡◌, subst}
-use mathlib.Core.Logic.{⊎_elim}
 use Rattle.meaning.specs.Letter.{size}
 use Rattle.streams.specs.Description.{stream_in}
 use Rattle.choices.proofs.Digits.{DigitsTaken, size_exact, digits-small, digits-none, digits-read, digits-set, digit-small, count_small, digits-all}
 use Rattle.choices.proofs.choice_of.Goals as goal
+use Rattle.choices.proofs.choice_of.Goals.{then-kinds-i-eq-READ_STREAM, else-kinds-i-eq-READ_STREAM}
 
 pub loop-i-init : goal.loop-i-init
 loop-i-init c = digits-none c.args.streams c.requires c.args.letter
@@ -90,8 +90,10 @@ loop-i-preserved c =
     let there = (stream-there).0 in
     let behind = taken in
     let same = (exact).0 in
-    ⊎_elim (λ w. rw w.1 (rw w.2 (digits-read start.args.streams start.requires start.args.letter (step.loop-i.i - 1) step.loop-i.rest step.loop-i.number step.loop-i.count size there behind same w.0.true)))
-    (λ w. rw w.1 (rw w.2 (digits-set start.args.streams start.requires start.args.letter (step.loop-i.i - 1) step.loop-i.rest step.loop-i.number step.loop-i.count size there behind same w.0.left))) c.if-kinds-i-eq-READ_STREAM.branch
+    elim c.if-kinds-i-eq-READ_STREAM.branch [
+      | then-kinds-i-eq-READ_STREAM w ↦ rw w.number-is (rw w.count-is (digits-read start.args.streams start.requires start.args.letter (step.loop-i.i - 1) step.loop-i.rest step.loop-i.number step.loop-i.count size there behind same w.if-kinds-i-eq-READ_STREAM.true))
+      | else-kinds-i-eq-READ_STREAM w ↦ rw w.number-is (rw w.count-is (digits-set start.args.streams start.requires start.args.letter (step.loop-i.i - 1) step.loop-i.rest step.loop-i.number step.loop-i.count size there behind same w.if-kinds-i-eq-READ_STREAM.false))
+    ]
 
 pub returns : goal.returns
 returns c = digits-all c.args.streams c.requires (omega (arith, c.loop-i-test.false)) c.loop-i.invariant

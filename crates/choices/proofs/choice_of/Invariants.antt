@@ -1,5 +1,4 @@
 -- `choices::choice_of` meets its contract. The loop's invariant: the digits of the streams from i on are taken.
-use Prim.Native.Nat.{◌-◌}
 use Rattle.choices.proofs.Digits.{DigitsTaken}
 use Rattle.choices.proofs.choice_of.Given as goal
 

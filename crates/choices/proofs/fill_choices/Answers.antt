@@ -1,5 +1,5 @@
 -- `choices::fill_choices` meets its contract, letter by letter. The loop's invariant: the choices of the letters before this one are written.
-use Prim.Native.Nat.{◌-◌, ◌≤◌, ◌<◌}
+use Prim.Native.Nat.{◌≤◌, ◌<◌}
 use native.Mathlib.Omega.{arith}
 use mathlib.Core.Path.{◌≡◌}
 use mathlib.Core.Logic.{inl, inr}

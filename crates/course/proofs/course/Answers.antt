@@ -7,15 +7,15 @@ use Rattle.course.specs.Outcome.{BestCourse}
 use Rattle.course.proofs.course.Goals as goal
 
 pub judged_course-answer-requires : goal.judged_course-answer-requires
-judged_course-answer-requires c = zeroed c.fill.ensures (sym c.fill.auto.0)
+judged_course-answer-requires c = zeroed c.fill.ensures (sym c.fill.auto.list)
 
 pub returns : goal.returns
 returns c =
     let start = c in
     let a = start.args in
     let answer = c.judged_course-answer in
-    let list = c.fill.auto.0 in
+    let list = c.fill.auto.list in
     record {
-      outcome = subst (λ (room : ℕ). BestCourse a.letters a.entries.now a.finals.now a.streams a.state room (length a.work.now) answer.result.refusal answer.result.count answer.new.1.1.1.1.1.0) list answer.ensures;
-      cleared = cleared-all c.clear_entries.ensures ∙ ap (λ m. replicate m 0) answer.auto.1.1.1.1.1.1.0;
+      outcome = subst (λ (room : ℕ). BestCourse a.letters a.entries.now a.finals.now a.streams a.state room (length a.work.now) answer.result.refusal answer.result.count answer.new.list) list answer.ensures;
+      cleared = cleared-all c.clear_entries.ensures ∙ ap (λ m. replicate m 0) answer.auto.work;
     }

@@ -14,47 +14,47 @@ use Rattle.course.proofs.follow.Goals as goal
 pub loop-taken-init : goal.loop-taken-init
 loop-taken-init c =
     let start = c in
-    let zero = start.requires.1.0.6 in
-    let some : 0 < start.args.letters = let ne = start.requires.0.some_letter in omega arith in
-    (omega arith, ap length zero ∙ length-replicate start.args.letters 0, following_start start.requires.1.1.1.1 start.requires.1.1.0 start.requires.1.1.1.0 some zero)
+    let zero = start.requires.finals_len.6 in
+    let some : 0 < start.args.letters = let ne = start.requires.whole_table.some_letter in omega arith in
+    (omega arith, ap length zero ∙ length-replicate start.args.letters 0, following_start start.requires.are_known start.requires.layers start.requires.goal some zero)
 
 pub cheapest_letter-letter-requires : goal.cheapest_letter-letter-requires
 cheapest_letter-letter-requires c =
     let start = c in
-    let sizes = start.requires.1.0 in
+    let sizes = start.requires.finals_len in
     let turn = c.loop-taken in
-    (start.requires.0, (sizes.0, sizes.1, turn.invariant.2.met.is_row, omega (arith, turn.invariant.2.in_layer, turn.invariant.0, sizes.3), turn.invariant.1))
+    record { whole_table = start.requires.whole_table; finals_len = (sizes.0, sizes.1, turn.invariant.2.met.is_row, omega (arith, turn.invariant.2.in_layer, turn.invariant.0, sizes.3), turn.invariant.1) }
 
 pub overflow_cast-list : goal.overflow_cast-list
 overflow_cast-list c =
     let table : Layered = let a = c.args in layered_in a.letters a.entries.now a.finals.now a.layers.now a.goal in
     let first : let start = c in
     IsFirstCheapest start.args.letters (table).entry (table).layer no_course (cost_at (table) start.args.costs.now) (at c.loop-taken.changes) c.loop-taken.row c.cheapest_letter-letter.result = (let start = c in
-    following_first c.loop-taken.invariant.2 start.requires.1.1.1.1 c.loop-taken-test.true c.cheapest_letter-letter.ensures) in
-    omega (arith, (first).onward.has_entry.is_letter, c.requires.1.0.5)
+    following_first c.loop-taken.invariant.2 start.requires.are_known c.loop-taken-test.true c.cheapest_letter-letter.ensures) in
+    omega (arith, (first).onward.has_entry.is_letter, c.requires.finals_len.5)
 
 pub offset_bounds-list-taken : goal.offset_bounds-list-taken
 offset_bounds-list-taken c =
     let list-long : length c.loop-taken.list ≡ length c.args.list.now = (let start = c in
-    following_length c.loop-taken.invariant.2 (omega (arith, start.requires.1.0.2, c.loop-taken.invariant.0))) in
-    omega (arith, list-long, c.requires.1.0.2)
+    following_length c.loop-taken.invariant.2 (omega (arith, start.requires.finals_len.2, c.loop-taken.invariant.0))) in
+    omega (arith, list-long, c.requires.finals_len.2)
 
 pub bounds-list-taken : goal.bounds-list-taken
 bounds-list-taken c =
     let list-long : length c.loop-taken.list ≡ length c.args.list.now = (let start = c in
-    following_length c.loop-taken.invariant.2 (omega (arith, start.requires.1.0.2, c.loop-taken.invariant.0))) in
-    omega (arith, list-long, c.requires.1.0.2)
+    following_length c.loop-taken.invariant.2 (omega (arith, start.requires.finals_len.2, c.loop-taken.invariant.0))) in
+    omega (arith, list-long, c.requires.finals_len.2)
 
 pub overflow_mul-row : goal.overflow_mul-row
 overflow_mul-row c =
     let table : Layered = let a = c.args in layered_in a.letters a.entries.now a.finals.now a.layers.now a.goal in
     let first : let start = c in
     IsFirstCheapest start.args.letters (table).entry (table).layer no_course (cost_at (table) start.args.costs.now) (at c.loop-taken.changes) c.loop-taken.row c.cheapest_letter-letter.result = (let start = c in
-    following_first c.loop-taken.invariant.2 start.requires.1.1.1.1 c.loop-taken-test.true c.cheapest_letter-letter.ensures) in
+    following_first c.loop-taken.invariant.2 start.requires.are_known c.loop-taken-test.true c.cheapest_letter-letter.ensures) in
     let place : let start = c in
     c.loop-taken.row * start.args.letters + c.cheapest_letter-letter.result < length start.args.entries.now = (let start = c in
     let turn = c.loop-taken in
-    place_inside start.requires.0 turn.row c.cheapest_letter-letter.result turn.invariant.2.met.is_row (first).onward.has_entry.is_letter) in
+    place_inside start.requires.whole_table turn.row c.cheapest_letter-letter.result turn.invariant.2.met.is_row (first).onward.has_entry.is_letter) in
     omega (arith, place)
 
 pub overflow_add-row : goal.overflow_add-row
@@ -62,11 +62,11 @@ overflow_add-row c =
     let table : Layered = let a = c.args in layered_in a.letters a.entries.now a.finals.now a.layers.now a.goal in
     let first : let start = c in
     IsFirstCheapest start.args.letters (table).entry (table).layer no_course (cost_at (table) start.args.costs.now) (at c.loop-taken.changes) c.loop-taken.row c.cheapest_letter-letter.result = (let start = c in
-    following_first c.loop-taken.invariant.2 start.requires.1.1.1.1 c.loop-taken-test.true c.cheapest_letter-letter.ensures) in
+    following_first c.loop-taken.invariant.2 start.requires.are_known c.loop-taken-test.true c.cheapest_letter-letter.ensures) in
     let place : let start = c in
     c.loop-taken.row * start.args.letters + c.cheapest_letter-letter.result < length start.args.entries.now = (let start = c in
     let turn = c.loop-taken in
-    place_inside start.requires.0 turn.row c.cheapest_letter-letter.result turn.invariant.2.met.is_row (first).onward.has_entry.is_letter) in
+    place_inside start.requires.whole_table turn.row c.cheapest_letter-letter.result turn.invariant.2.met.is_row (first).onward.has_entry.is_letter) in
     omega (arith, place)
 
 pub offset_bounds-entries-row : goal.offset_bounds-entries-row
@@ -74,11 +74,11 @@ offset_bounds-entries-row c =
     let table : Layered = let a = c.args in layered_in a.letters a.entries.now a.finals.now a.layers.now a.goal in
     let first : let start = c in
     IsFirstCheapest start.args.letters (table).entry (table).layer no_course (cost_at (table) start.args.costs.now) (at c.loop-taken.changes) c.loop-taken.row c.cheapest_letter-letter.result = (let start = c in
-    following_first c.loop-taken.invariant.2 start.requires.1.1.1.1 c.loop-taken-test.true c.cheapest_letter-letter.ensures) in
+    following_first c.loop-taken.invariant.2 start.requires.are_known c.loop-taken-test.true c.cheapest_letter-letter.ensures) in
     let place : let start = c in
     c.loop-taken.row * start.args.letters + c.cheapest_letter-letter.result < length start.args.entries.now = (let start = c in
     let turn = c.loop-taken in
-    place_inside start.requires.0 turn.row c.cheapest_letter-letter.result turn.invariant.2.met.is_row (first).onward.has_entry.is_letter) in
+    place_inside start.requires.whole_table turn.row c.cheapest_letter-letter.result turn.invariant.2.met.is_row (first).onward.has_entry.is_letter) in
     omega (arith, place)
 
 pub bounds-entries-row : goal.bounds-entries-row
@@ -86,11 +86,11 @@ bounds-entries-row c =
     let table : Layered = let a = c.args in layered_in a.letters a.entries.now a.finals.now a.layers.now a.goal in
     let first : let start = c in
     IsFirstCheapest start.args.letters (table).entry (table).layer no_course (cost_at (table) start.args.costs.now) (at c.loop-taken.changes) c.loop-taken.row c.cheapest_letter-letter.result = (let start = c in
-    following_first c.loop-taken.invariant.2 start.requires.1.1.1.1 c.loop-taken-test.true c.cheapest_letter-letter.ensures) in
+    following_first c.loop-taken.invariant.2 start.requires.are_known c.loop-taken-test.true c.cheapest_letter-letter.ensures) in
     let place : let start = c in
     c.loop-taken.row * start.args.letters + c.cheapest_letter-letter.result < length start.args.entries.now = (let start = c in
     let turn = c.loop-taken in
-    place_inside start.requires.0 turn.row c.cheapest_letter-letter.result turn.invariant.2.met.is_row (first).onward.has_entry.is_letter) in
+    place_inside start.requires.whole_table turn.row c.cheapest_letter-letter.result turn.invariant.2.met.is_row (first).onward.has_entry.is_letter) in
     place
 
 pub overflow_cast-row : goal.overflow_cast-row
@@ -112,20 +112,20 @@ loop-taken-preserved c =
     let table : Layered = let a = c.args in layered_in a.letters a.entries.now a.finals.now a.layers.now a.goal in
     let first : let start = c in
     IsFirstCheapest start.args.letters (table).entry (table).layer no_course (cost_at (table) start.args.costs.now) (at c.loop-taken.changes) c.loop-taken.row c.cheapest_letter-letter.result = (let start = c in
-    following_first c.loop-taken.invariant.2 start.requires.1.1.1.1 c.loop-taken-test.true c.cheapest_letter-letter.ensures) in
+    following_first c.loop-taken.invariant.2 start.requires.are_known c.loop-taken-test.true c.cheapest_letter-letter.ensures) in
     let up = c in
     let start = up in
     let turn = up.loop-taken in
-    let letters = start.requires.1.0.4 in
+    let letters = start.requires.finals_len.4 in
     let counts = c.count_changes.ensures in
     let x = first in (
       omega arith,
       counts.same_length ∙ turn.invariant.1,
-      following_next turn.invariant.2 start.requires.1.1.1.1 up.loop-taken-test.true (omega (arith, start.requires.1.0.2)) start.requires.1.1.0 x
+      following_next turn.invariant.2 start.requires.are_known up.loop-taken-test.true (omega (arith, start.requires.finals_len.2)) start.requires.layers x
           (λ b h. counts.counted (letters ∙ sym turn.invariant.1) (omega (arith, turn.invariant.1, x.onward.has_entry.is_letter)) b (omega (arith, turn.invariant.1))),
     )
 
 pub returns : goal.returns
 returns c =
     let start = c in
-    following_end start.requires.1.1.1.1 start.requires.1.1.0 start.requires.1.1.1.0 (omega arith) c.loop-taken.invariant.2
+    following_end start.requires.are_known start.requires.layers start.requires.goal (omega arith) c.loop-taken.invariant.2

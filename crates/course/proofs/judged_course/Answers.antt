@@ -1,4 +1,5 @@
 -- `course::judged_course` meets its contract: 11 where the call is not fit, and else what `find_course` gives.
+use Rattle.automaton.specs.Course.{CourseOutcome.unfit}
 use mathlib.Core.Path.{sym, ap, ◌∙◌}
 use Prim.Native.Nat.{◌<◌, ◌≤◌}
 use native.Mathlib.Omega.{arith}
@@ -57,13 +58,12 @@ find_course-requires c =
     let f = fit in
     let most = few in
     let long = filled-length n most_rows not_met most in
-    let letter : 0 < start.args.letters = let ne = f.state.well_formed.whole.some_letter in omega arith in (
-      rw long f.state.well_formed.whole,
-      (
-        (sym long, filled-length n most_rows 0 most ∙ sym long, omega (arith, f.state.is_row, long), shape_letters c.shape_of.ensures f.streams_fit letter, f.streams_fit.few_letters),
-        (filled-part n most_rows not_met most ∙ ap (λ m. replicate m not_met) (sym long), start.requires),
-      ),
-    )
+    let letter : 0 < start.args.letters = let ne = f.state.well_formed.whole.some_letter in omega arith in
+    record {
+      whole_table = rw long f.state.well_formed.whole;
+      finals_len = (sym long, filled-length n most_rows 0 most ∙ sym long, omega (arith, f.state.is_row, long), shape_letters c.shape_of.ensures f.streams_fit letter, f.streams_fit.few_letters);
+      layers_value = (filled-part n most_rows not_met most ∙ ap (λ m. replicate m not_met) (sym long), start.requires);
+    }
 
 pub returns : goal.returns
 returns c =

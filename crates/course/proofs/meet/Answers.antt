@@ -1,4 +1,6 @@
 -- `course::meet` meets its contract: an entry leads to no row, to one that is met, or to a new one.
+use Rattle.course.specs.Queue.{EntryMet.added}
+use Rattle.course.specs.Queue.{EntryMet.kept}
 use mathlib.Core.Path.{refl}
 use native.Mathlib.Omega.{arith}
 use Rattle.course.proofs.meet.Goals as goal

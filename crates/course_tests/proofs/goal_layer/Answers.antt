@@ -1,14 +1,15 @@
 -- `course_tests::goal_layer` meets its contract: `goal` is the least layer of a final row before `row`, or NOT_MET; rows behind the
 -- final bytes are not final.
 use mathlib.Core.Path.{◌≡◌, refl, subst}
-use mathlib.Core.Logic.{inl, ⊎_elim}
-use Prim.Native.Nat.{ℕ, ◌-◌, min}
+use mathlib.Core.Logic.{inl}
+use Prim.Native.Nat.{ℕ, min}
 use native.Mathlib.Omega.{arith}
 use lib.ListN.{length}
 use Rattle.basics.specs.Lists.{at}
 use Rattle.automaton.specs.Stored.{final_at}
 use Rattle.course_tests.specs.Goal.{IsGoalBelow}
 use Rattle.course_tests.proofs.Goal.{goal-kept, goal-lower, goal-beyond}
+use Rattle.course_tests.proofs.goal_layer.Goals.{then-finals-row-eq1+else-layers-row, then-finals-row-eq1+then-layers-row, else-finals-row-eq1}
 use Rattle.course_tests.proofs.goal_layer.Goals as goal
 
 pub loop-row-init : goal.loop-row-init
@@ -39,9 +40,11 @@ pub loop-row-preserved : goal.loop-row-preserved
 loop-row-preserved c =
     let known = c.loop-row.invariant.1 in (
       omega arith,
-      ⊎_elim (λ w. rw w.4 (goal-lower known w.0.true w.2.true))
-          (⊎_elim (λ w. rw w.3 (goal-kept known λ f. omega (arith, w.2.left))) (λ w. rw w.1 (goal-kept known λ f. absurd (w.0.left f))))
-          c.if-finals-row-eq1.branch,
+      elim c.if-finals-row-eq1.branch [
+        | then-finals-row-eq1+then-layers-row w ↦ rw w.goal-is (goal-lower known w.if-finals-row-eq1.true w.if-layers-row.true)
+        | then-finals-row-eq1+else-layers-row w ↦ rw w.goal-is (goal-kept known λ f. omega (arith, w.if-layers-row.false))
+        | else-finals-row-eq1 w ↦ rw w.goal-is (goal-kept known λ f. absurd (w.if-finals-row-eq1.false f))
+      ],
     )
 
 pub returns : goal.returns

@@ -1,6 +1,5 @@
 -- `course_tests::is_fit` meets its contract: the table, the streams and the state are tested one after the other.
 use lib.ListN.{length}
-use borrow.Author.Tests.{not-true, not-false}
 use Rattle.basics.proofs.Answers.{says_yes, says_no, reflects_says}
 use Rattle.basics.proofs.Reflects.{reflects_iff, ltb_reflects}
 use Rattle.course_tests.proofs.is_fit.Goals as goal

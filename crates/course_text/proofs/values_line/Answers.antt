@@ -17,11 +17,15 @@ pub slice_bounds-values-end : goal.slice_bounds-values-end
 slice_bounds-values-end c =
     let a = c.args in
     let h = few_streams a.lows.now a.highs.now a.letter (sym c.letter_values.ensures.0 ∙ c.if-not-letter_values.false) in
-    let k : length c.letter_values.new.out ≡ 8 = c.letter_values.auto.1.1.1.0 in
+    let k : length c.letter_values.new.out ≡ 8 = c.letter_values.auto.out in
     omega (arith, c.fewer-streams.ensures)
 
 pub slice_bounds-numbers_line-end : goal.slice_bounds-numbers_line-end
-slice_bounds-numbers_line-end c = sym (length-take-le _ _ (array-share-prefix-values c))
+slice_bounds-numbers_line-end c =
+    let a = c.args in
+    let h = few_streams a.lows.now a.highs.now a.letter (sym c.letter_values.ensures.0 ∙ c.if-not-letter_values.false) in
+    let k : length c.letter_values.new.out ≡ 8 = c.letter_values.auto.out in
+    sym (length-take-le _ _ (omega (arith, c.fewer-streams.ensures)))
 
 pub returns : goal.returns
 returns c =

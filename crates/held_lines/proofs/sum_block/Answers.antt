@@ -1,5 +1,5 @@
 -- `held_lines::sum_block` meets its contract: before each turn the sum is that of the counts so far (Sums).
-use Prim.Native.Nat.{◌+◌, ◌-◌}
+use Prim.Native.Nat.{◌+◌}
 use native.Mathlib.Omega.{arith}
 use mathlib.Core.Path.{◌≡◌, ◌∙◌, ap}
 use lib.ListN.{get_or}

@@ -1,5 +1,5 @@
 -- `held_lines::sum_blocks` meets its contract: before each turn the sum is that of the blocks so far (Sums).
-use Prim.Native.Nat.{◌+◌, ◌-◌, ◌*◌, ◌≤◌}
+use Prim.Native.Nat.{◌+◌, ◌*◌, ◌≤◌}
 use native.Mathlib.Omega.{arith}
 use mathlib.Core.Path.{◌≡◌, ◌∙◌, ap}
 use Rattle.held_lines.specs.Held.{cut_lines, block_lines, blocks_lines}
@@ -60,5 +60,5 @@ pub returns : goal.returns
 returns c =
     let t = c.loop-i in
     let s = c.args in
-    let e : t.i ≡ s = omega (arith, c.loop-i-test.false, t.invariant.0) in
+    let e : t.i ≡ s.before = omega (arith, c.loop-i-test.false, t.invariant.0) in
     t.invariant.1 ∙ ap (λ n. cut_lines (blocks_lines s.counts.now n s.size s.behind s.digit)) e

@@ -7,7 +7,7 @@ use Rattle.histogram_text.specs.Output.{histogram_at}
 use Rattle.histogram_text.proofs.fill_page.Given as goal
 
 abbrev pub invariant-loop-place : goal.invariant-loop-place
-invariant-loop-place l = HoldsLines (histogram_at (record { refusal = l.refusal; total = l.total; names = l.names; lengths = l.lengths; lows = l.lows; highs = l.highs; l.counts = l.counts })) l.count l.from l.initial.out l.out l.size l.place × (length l.line ≡ 256)
+invariant-loop-place l = HoldsLines (histogram_at (record { refusal = l.refusal; total = l.total; names = l.names; lengths = l.lengths; lows = l.lows; highs = l.highs; counts = l.counts })) l.count l.from l.initial.out l.out l.size l.place × (length l.line ≡ 256)
 
 abbrev pub decreases-loop-place : goal.decreases-loop-place
 decreases-loop-place l = l.count - l.place

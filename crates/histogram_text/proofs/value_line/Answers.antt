@@ -20,10 +20,10 @@ returns-then-not-letter_values c =
     (sym c.letter_values.ensures.0 ∙ c.if-not-letter_values.true))
 
 pub slice_bounds-values-end : goal.slice_bounds-values-end
-slice_bounds-values-end c = let k : length c.letter_values.new.out ≡ 8 = c.letter_values.auto.1.1.1.0 in omega arith
+slice_bounds-values-end c = let k : length c.letter_values.new.out ≡ 8 = c.letter_values.auto.out in omega arith
 
 pub slice_bounds-named_line-end : goal.slice_bounds-named_line-end
-slice_bounds-named_line-end c = sym (length-take-le 1 c.letter_values.new.out (array-share-prefix-values c))
+slice_bounds-named_line-end c = sym (length-take-le 1 c.letter_values.new.out (let k : length c.letter_values.new.out ≡ 8 = c.letter_values.auto.out in omega arith))
 
 pub returns : goal.returns
 returns c =

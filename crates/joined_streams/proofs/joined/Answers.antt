@@ -53,7 +53,7 @@ returns-then-letters-gt1024 c =
     let d = n in
     let s = d in
     subst (BoundsOutcome s.args.left s.args.right) (sym c.refused-then-letters-gt1024.ensures)
-    (over_bounds (many-letters (left-long s) (right-long s) s.requires d.joined_description-streams.ensures n.if-count-gt8.false (lows-long d) (highs-long d) n.letter_count-letters.ensures c.if-letters-gt1024.true))
+    (over_bounds (many-letters (left-long) (right-long) s.requires d.joined_description-streams.ensures n.if-count-gt8.false (lows-long) (highs-long) n.letter_count-letters.ensures c.if-letters-gt1024.true))
 
 pub cuts_of-requires : goal.cuts_of-requires
 cuts_of-requires c =
@@ -63,15 +63,15 @@ cuts_of-requires c =
     let highs-long : length c.joined_description-streams.result.highs ≡ 8 = search rules in
     let within : c.letter_count-letters.result ≤ 1024 → WithinBounds (streams_together c.args.left c.args.right) = λ h. (let d = c in
     let s = d in
-    within-bounds (left-long s) (right-long s) s.requires d.joined_description-streams.ensures c.if-count-gt8.false (lows-long) (highs-long) c.letter_count-letters.ensures h) in
+    within-bounds (left-long) (right-long) s.requires d.joined_description-streams.ensures c.if-count-gt8.false (lows-long) (highs-long) c.letter_count-letters.ensures h) in
     let counted : c.letter_count-letters.result ≤ 1024 → c.letter_count-letters.result ≡ letter_count (streams_together c.args.left c.args.right) = λ h. (let d = c in
     let s = d in
-    letters_are (left-long s) (right-long s) s.requires d.joined_description-streams.ensures c.if-count-gt8.false (lows-long) (highs-long) c.letter_count-letters.ensures h) in
-    let are : description_of c.joined_description-streams.result ≡ streams_together c.args.left c.args.right = let d = c in let s = d in described_are (left-long s) (right-long s) s.requires d.joined_description-streams.ensures c.if-count-gt8.false in
+    letters_are (left-long) (right-long) s.requires d.joined_description-streams.ensures c.if-count-gt8.false (lows-long) (highs-long) c.letter_count-letters.ensures h) in
+    let are : description_of c.joined_description-streams.result ≡ streams_together c.args.left c.args.right = let d = c in let s = d in described_are (left-long) (right-long) s.requires d.joined_description-streams.ensures c.if-count-gt8.false in
     let n = c in
     let d = n in
     let s = d in
-    (can-left (left-long s) (right-long s) s.requires d.joined_description-streams.ensures n.if-count-gt8.false (within c.if-letters-gt1024.false), counted c.if-letters-gt1024.false ∙ sym (ap letter_count (are)))
+    (can-left (left-long) (right-long) s.requires d.joined_description-streams.ensures n.if-count-gt8.false (within c.if-letters-gt1024.false), counted c.if-letters-gt1024.false ∙ sym (ap letter_count (are)))
 
 pub cuts_of-requires-2 : goal.cuts_of-requires-2
 cuts_of-requires-2 c =
@@ -81,15 +81,15 @@ cuts_of-requires-2 c =
     let highs-long : length c.joined_description-streams.result.highs ≡ 8 = search rules in
     let within : c.letter_count-letters.result ≤ 1024 → WithinBounds (streams_together c.args.left c.args.right) = λ h. (let d = c in
     let s = d in
-    within-bounds (left-long s) (right-long s) s.requires d.joined_description-streams.ensures c.if-count-gt8.false (lows-long) (highs-long) c.letter_count-letters.ensures h) in
+    within-bounds (left-long) (right-long) s.requires d.joined_description-streams.ensures c.if-count-gt8.false (lows-long) (highs-long) c.letter_count-letters.ensures h) in
     let counted : c.letter_count-letters.result ≤ 1024 → c.letter_count-letters.result ≡ letter_count (streams_together c.args.left c.args.right) = λ h. (let d = c in
     let s = d in
-    letters_are (left-long s) (right-long s) s.requires d.joined_description-streams.ensures c.if-count-gt8.false (lows-long) (highs-long) c.letter_count-letters.ensures h) in
-    let are : description_of c.joined_description-streams.result ≡ streams_together c.args.left c.args.right = let d = c in let s = d in described_are (left-long s) (right-long s) s.requires d.joined_description-streams.ensures c.if-count-gt8.false in
+    letters_are (left-long) (right-long) s.requires d.joined_description-streams.ensures c.if-count-gt8.false (lows-long) (highs-long) c.letter_count-letters.ensures h) in
+    let are : description_of c.joined_description-streams.result ≡ streams_together c.args.left c.args.right = let d = c in let s = d in described_are (left-long) (right-long) s.requires d.joined_description-streams.ensures c.if-count-gt8.false in
     let n = c in
     let d = n in
     let s = d in
-    (can-right (left-long s) (right-long s) s.requires d.joined_description-streams.ensures n.if-count-gt8.false (within c.if-letters-gt1024.false), counted c.if-letters-gt1024.false ∙ sym (ap letter_count (are)))
+    (can-right (left-long) (right-long) s.requires d.joined_description-streams.ensures n.if-count-gt8.false (within c.if-letters-gt1024.false), counted c.if-letters-gt1024.false ∙ sym (ap letter_count (are)))
 
 pub returns : goal.returns
 returns c =
@@ -99,11 +99,11 @@ returns c =
     let highs-long : length c.joined_description-streams.result.highs ≡ 8 = search rules in
     let within : c.letter_count-letters.result ≤ 1024 → WithinBounds (streams_together c.args.left c.args.right) = λ h. (let d = c in
     let s = d in
-    within-bounds (left-long s) (right-long s) s.requires d.joined_description-streams.ensures c.if-count-gt8.false (lows-long) (highs-long) c.letter_count-letters.ensures h) in
+    within-bounds (left-long) (right-long) s.requires d.joined_description-streams.ensures c.if-count-gt8.false (lows-long) (highs-long) c.letter_count-letters.ensures h) in
     let counted : c.letter_count-letters.result ≤ 1024 → c.letter_count-letters.result ≡ letter_count (streams_together c.args.left c.args.right) = λ h. (let d = c in
     let s = d in
-    letters_are (left-long s) (right-long s) s.requires d.joined_description-streams.ensures c.if-count-gt8.false (lows-long) (highs-long) c.letter_count-letters.ensures h) in
-    let are : description_of c.joined_description-streams.result ≡ streams_together c.args.left c.args.right = let d = c in let s = d in described_are (left-long s) (right-long s) s.requires d.joined_description-streams.ensures c.if-count-gt8.false in
+    letters_are (left-long) (right-long) s.requires d.joined_description-streams.ensures c.if-count-gt8.false (lows-long) (highs-long) c.letter_count-letters.ensures h) in
+    let are : description_of c.joined_description-streams.result ≡ streams_together c.args.left c.args.right = let d = c in let s = d in described_are (left-long) (right-long) s.requires d.joined_description-streams.ensures c.if-count-gt8.false in
     let n = c in
     let d = n in
     let s = d in
@@ -112,7 +112,7 @@ returns c =
     (record {
       accepted = refl;
       letters = counted few;
-      streams = describes (left-long s) (right-long s) s.requires d.joined_description-streams.ensures n.if-count-gt8.false;
+      streams = describes (left-long) (right-long) s.requires d.joined_description-streams.ensures n.if-count-gt8.false;
       left_cuts = subst (λ ss. HoldsCuts ss (description_of s.args.left) c.cuts_of.result) (are) c.cuts_of.ensures;
       right_cuts = subst (λ ss. HoldsCuts ss (description_of s.args.right) c.cuts_of-2.result) (are) c.cuts_of-2.ensures;
     })

@@ -34,10 +34,10 @@ pub loop-i-preserved : goal.loop-i-preserved
 loop-i-preserved c =
     let loop = c.loop-i in
     let a = c.args in
-    let value = to_z-of_z w64 (get_or a.t1 (get_or a.t2 loop.i 0) (pos 0)) (record { sfits = c.found-1.given }) in (
+    let value = to_z-of_z w64 (get_or a.values (get_or a.places loop.i 0) (pos 0)) (record { sfits = c.found-1.given }) in (
       omega (arith, c.loop-i-test.true),
       length-set loop.found loop.i _ ∙ loop.invariant.1,
-      one_more a.t1 a.t2 loop.found loop.i _ (omega (arith, c.loop-i-test.true, loop.invariant.1)) value loop.invariant.2,
+      one_more a.values a.places loop.found loop.i _ (omega (arith, c.loop-i-test.true, loop.invariant.1)) value loop.invariant.2,
     )
 
 pub returns : goal.returns

@@ -49,9 +49,4 @@ loop-stream-preserved c =
     )
 
 pub returns : goal.returns
-returns c =
-    let small : c.place_of.result < 8 = (let s = c in
-    let a = s.args in
-    let l = s.requires.covers.place (stream_in a.own c.loop-stream.stream) (stream-member a.own 0 a.own.count c.loop-stream.stream (omega arith) (omega (arith, c.loop-stream-test.true))) in
-    omega (arith, c.place_of.ensures, l, streams-length a.joined 0 a.joined.count, s.requires.few_joined)) in
-    record { each = λ k h. c.loop-stream.invariant.2 k (omega (arith, c.loop-stream-test.false)); small = c.loop-stream.invariant.3 }
+returns c = record { each = λ k h. c.loop-stream.invariant.2 k (omega (arith, c.loop-stream-test.false)); small = c.loop-stream.invariant.3 }

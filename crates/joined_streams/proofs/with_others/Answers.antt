@@ -2,7 +2,7 @@
 use Prim.Native.Nat.{◌+◌, ◌-◌}
 use mathlib.Core.Path.{◌≡◌, sym, ◌∙◌, ap}
 use mathlib.Core.Bool.{Bool, true, false, cond}
-use mathlib.Core.Logic.{⊎_elim}
+
 use native.Mathlib.Omega.{arith}
 use lib.Dec.{eqb}
 use lib.ListN.{length}
@@ -14,6 +14,7 @@ use Rattle.joined_streams.specs.Joined.{place_of}
 use Rattle.joined_streams.specs.Describing.{with_described, with_others}
 use Rattle.joined_streams.proofs.Describing.{described-count, others-step, others-none-left}
 use Rattle.joined_streams.proofs.with_others.Goals as goal
+use Rattle.joined_streams.proofs.with_others.Goals.{then-place_of-known, else-place_of-known}
 
 pub loop-stream-init : goal.loop-stream-init
 loop-stream-init c = let a = c.args in let e : a.from.count - 0 ≡ a.from.count = omega arith in (omega arith, omega (arith, c.requires.0), ap (with_others a.known a.from a.to 0) e)
@@ -43,10 +44,10 @@ loop-stream-preserved c =
     let by : (b : Bool) → eqb (place_of (description_of a.known) (stream_in a.from loop.stream).name) (length (description_of a.known)) ≡ b
     → with_others a.known a.from (cond b (with_described loop.all a.from loop.stream) loop.all) (loop.stream + 1) (a.from.count - (loop.stream + 1)) ≡ with_others a.known a.from a.to 0 a.from.count =
     λ b q. ap (λ x. with_others a.known a.from (cond x (with_described loop.all a.from loop.stream) loop.all) (loop.stream + 1) (a.from.count - (loop.stream + 1))) (sym q) ∙ sym step ∙ loop.invariant.2 in
-    ⊎_elim
-    (λ w. (omega (arith, c.loop-stream-test.true), rw w.2 (omega (arith, loop.invariant.1, ap (λ (x : StreamsDescription). x.count) w.1.ensures, described-count loop.all a.from loop.stream)), rw (w.2, w.1.ensures) (by true (eq-eqb place known (omega (arith, w.0.true, e, long))))))
-    (λ w. (omega (arith, c.loop-stream-test.true), rw w.1 (omega (arith, loop.invariant.1)), rw w.1 (by false (ne_eqb place known (λ q. w.0.left (omega (arith, q, e, long)))))))
-    c.if-place_of-known.branch
+    elim c.if-place_of-known.branch [
+      then-place_of-known w ↦ (omega (arith, c.loop-stream-test.true), rw w.all-is (omega (arith, loop.invariant.1, ap (λ (x : StreamsDescription). x.count) w.with_stream-all.ensures, described-count loop.all a.from loop.stream)), rw (w.all-is, w.with_stream-all.ensures) (by true (eq-eqb place known (omega (arith, w.if-place_of-known.true, e, long)))))
+    | else-place_of-known w ↦ (omega (arith, c.loop-stream-test.true), rw w.all-is (omega (arith, loop.invariant.1)), rw w.all-is (by false (ne_eqb place known (λ q. w.if-place_of-known.false (omega (arith, q, e, long))))))
+    ]
 
 pub returns : goal.returns
 returns c =

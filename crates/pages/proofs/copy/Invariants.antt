@@ -1,7 +1,7 @@
 -- `pages::copy` meets its contract: after i turns the first i bytes stand at the place.
 use Prim.Native.Nat.{◌-◌, ◌≤◌}
 use mathlib.Core.Path.{◌≡◌}
-use lib.ListN.{take, set}
+use lib.ListN.{take}
 use lib.Seq.{sets}
 use Rattle.pages.proofs.copy.Given as goal
 

@@ -1,8 +1,6 @@
 -- `pages::fill_page` meets its contract: before each turn the bytes hold the lines from `from` to before the place (Lines).
-use Prim.Native.Nat.{◌-◌}
 use native.Mathlib.Omega.{arith}
 use mathlib.Core.Path.{refl, sym, ◌∙◌}
-use lib.ListN.{length}
 use Rattle.pages.proofs.Lines.{no_lines, same-room, copied-line, page_full, page_last}
 use Rattle.pages.proofs.fill_page.Goals as goal
 
@@ -25,12 +23,12 @@ pub fewer-requires : goal.fewer-requires
 fewer-requires c = tt
 
 pub slice_bounds-copy-end : goal.slice_bounds-copy-end
-slice_bounds-copy-end c = sym c.loop-place.invariant.1 ∙ sym c.line_at_lem.auto.1.1.1.1.1.1.1.1.0
+slice_bounds-copy-end c = sym c.loop-place.invariant.1 ∙ sym c.line_at-length.auto.line
 
 pub copy-requires : goal.copy-requires
 copy-requires c =
     let t = c.loop-place.invariant in
-    (omega (arith, c.line_at_lem.auto.1.1.1.1.1.1.1.1.0, t.1, c.fewer.ensures, c.if-fewer-length.false), omega (arith, same-room _ t.0, t.0.room, c.fewer.ensures, c.if-fewer-length.false))
+    (omega (arith, c.line_at-length.auto.line, t.1, c.fewer.ensures, c.if-fewer-length.false), omega (arith, same-room _ t.0, t.0.room, c.fewer.ensures, c.if-fewer-length.false))
 
 pub overflow_add-size : goal.overflow_add-size
 overflow_add-size c =
@@ -46,10 +44,10 @@ loop-place-smaller c = omega (arith, c.loop-place-test.true)
 pub loop-place-preserved : goal.loop-place-preserved
 loop-place-preserved c =
     let t = c.loop-place.invariant in
-    (copied-line _ t.0 (c.line_at_lem.ensures c.args.states) c.fewer.ensures c.loop-place-test.true c.if-fewer-length.false c.copy.ensures, c.line_at_lem.auto.1.1.1.1.1.1.1.1.0 ∙ t.1)
+    (copied-line _ t.0 (c.line_at-length.ensures c.args.states) c.fewer.ensures c.loop-place-test.true c.if-fewer-length.false c.copy.ensures, c.line_at-length.auto.line ∙ t.1)
 
 pub returns-after-loop-place : goal.returns-after-loop-place
 returns-after-loop-place c = page_last _ c.loop-place.invariant.0 c.place_count-count.ensures c.loop-place-test.false
 
 pub returns-then-fewer-length : goal.returns-then-fewer-length
-returns-then-fewer-length c = page_full _ c.loop-place.invariant.0 (c.line_at_lem.ensures c.args.states) c.fewer.ensures c.place_count-count.ensures c.if-fewer-length.true
+returns-then-fewer-length c = page_full _ c.loop-place.invariant.0 (c.line_at-length.ensures c.args.states) c.fewer.ensures c.place_count-count.ensures c.if-fewer-length.true

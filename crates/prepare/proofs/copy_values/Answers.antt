@@ -2,7 +2,6 @@
 use lib.IntN.{pos}
 use mir.Syntax.{w64}
 use mir.ValLaws.{to_z-of_z}
-use Prim.Native.Nat.{◌-◌}
 use mathlib.Core.Path.{◌≡◌, refl, ap, ◌∙◌}
 use native.Mathlib.Omega.{arith}
 use native.Mathlib.Numerals.{add-one}
@@ -19,7 +18,7 @@ loop-i-preserved c =
     let at-loop = c in
     let args = at-loop.args in (
       omega arith,
-      rw (to_z-of_z w64 (get_or args.from.now at-loop.loop-i.i (pos 0)) (record { sfits = omega (arith, c.to-1.given) }), at-loop.loop-i.invariant.1, add-one)
+      rw (to_z-of_z w64 (get_or args.from.now at-loop.loop-i.i (pos 0)) (record { sfits = omega arith }), at-loop.loop-i.invariant.1, add-one)
           (paste-suc args.to.now args.at args.from.now at-loop.loop-i.i (pos 0) (omega arith) (omega arith)),
       simp length-set at-loop.loop-i.invariant.2,
     )

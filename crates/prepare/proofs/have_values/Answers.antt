@@ -1,9 +1,8 @@
 -- `prepare::have_values` meets its contract: before each turn the values of the letters passed are there.
-use Prim.Native.Nat.{◌+◌, ◌-◌, ◌*◌, ◌≤◌}
+use Prim.Native.Nat.{◌+◌, ◌*◌, ◌≤◌}
 use mathlib.Core.Path.{sym, subst}
 use native.Mathlib.Omega.{arith}
 use lib.ListN.{get_or}
-use borrow.Author.Tests.{not-true, not-false}
 use borrow.Author.Count.{below_more}
 use Rattle.basics.proofs.Answers.{says_yes, says_no}
 use Rattle.sheet.specs.Refusal.{stream_bound}

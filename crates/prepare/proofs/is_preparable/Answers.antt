@@ -2,7 +2,6 @@
 use Prim.Native.Nat.{◌≤◌}
 use native.Mathlib.Omega.{arith}
 use lib.ListN.{length}
-use borrow.Author.Tests.{not-true, not-false}
 use Rattle.basics.proofs.Answers.{says_yes, says_no, says_both}
 use Rattle.sheet.specs.Refusal.{window_bound}
 use Rattle.prepare.specs.Prepared.{PreparableSizes}
@@ -42,8 +41,8 @@ returns c =
     let sizes : let a = c.args in PreparableSizes a.dimensions.streams a.dimensions.width a.count (length a.key.now) a.room = says_yes c.if-not-are_preparable.false c.are_preparable.ensures in
     let after = c in
     let at = after in
-    let a = (start_of at).args in
+    let a = c.args in
     says_both c.have_values.result
-    (λ there. record { sizes = sizes at; letters = key-values a.key.now (sizes at).3 a.dimensions.width after.fewer-held.result after.fewer-held.ensures (sizes at).0 a.values a.dimensions.streams there })
-    (λ p. part-values a.key.now (sizes at).3 a.dimensions.width after.fewer-held.result after.fewer-held.ensures (sizes at).0 a.values a.dimensions.streams p.letters)
+    (λ there. record { sizes = sizes; letters = key-values a.key.now sizes.3 a.dimensions.width after.fewer-held.result after.fewer-held.ensures sizes.0 a.values a.dimensions.streams there })
+    (λ p. part-values a.key.now sizes.3 a.dimensions.width after.fewer-held.result after.fewer-held.ensures sizes.0 a.values a.dimensions.streams p.letters)
     c.have_values.ensures

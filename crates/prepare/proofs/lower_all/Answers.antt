@@ -1,7 +1,7 @@
 -- `prepare::lower_all` meets its contract: before each turn the places passed hold the numbers, lowered.
 use mir.Syntax.{w64}
 use mir.ValLaws.{to_z-of_z}
-use Prim.Native.Nat.{◌-◌, ◌+◌}
+use Prim.Native.Nat.{◌+◌}
 use mathlib.Core.Path.{◌≡◌, refl, sym, ap, ◌∙◌}
 use mathlib.Core.List.{map}
 use native.Mathlib.Omega.{arith}

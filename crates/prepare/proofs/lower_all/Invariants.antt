@@ -1,6 +1,6 @@
 -- `prepare::lower_all` meets its contract: before each turn the places passed hold the numbers, lowered.
 use Prim.Native.Nat.{◌≤◌, ◌-◌}
-use mathlib.Core.Path.{◌≡◌, ap}
+use mathlib.Core.Path.{◌≡◌}
 use mathlib.Core.List.{map}
 use lib.ListN.{length}
 use lib.Seq.{paste}

@@ -16,4 +16,4 @@ overflow_sub-result c =
 pub returns : goal.returns
 returns c =
     let e = to_z-of_z w64 (pos c.args.x) (record { sfits = omega arith }) in
-    to_z-of_z w64 (to_z w64 c.args.x -ℤ pos 1000000000) (sub-result c) ∙ ap (λ y. y -ℤ pos 1000000000) e
+    to_z-of_z w64 (to_z w64 c.args.x -ℤ pos 1000000000) (overflow_sub-result c) ∙ ap (λ y. y -ℤ pos 1000000000) e

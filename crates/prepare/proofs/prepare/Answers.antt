@@ -3,7 +3,6 @@ use Prim.Native.Nat.{◌≤◌}
 use mathlib.Core.Path.{refl}
 use native.Mathlib.Omega.{arith}
 use lib.ListN.{length}
-use borrow.Author.Tests.{not-true, not-false}
 use Rattle.basics.proofs.Answers.{says_yes, says_no}
 use Rattle.sheet.specs.Refusal.{window_bound}
 use Rattle.prepare.specs.Prepared.{IsPreparable}
@@ -35,7 +34,7 @@ pub slice_bounds-fill_window-end : goal.slice_bounds-fill_window-end
 slice_bounds-fill_window-end c =
     let fits : let a = c.args in IsPreparable (length a.letter_values.now) a.dimensions.streams a.dimensions.width a.count a.key.now (length a.prepared.now) = says_yes c.if-not-is_preparable.false c.is_preparable.ensures in
     let few : c.fewer-held.result ≤ window_bound = omega (arith, c.fewer-held.ensures, (fits).sizes.0) in
-    let after = c in omega (arith, few, (fits after).sizes.3)
+    let after = c in omega (arith, few, fits.sizes.3)
 
 pub fill_window-requires : goal.fill_window-requires
 fill_window-requires c =
@@ -43,12 +42,13 @@ fill_window-requires c =
     let few : c.fewer-held.result ≤ window_bound = omega (arith, c.fewer-held.ensures, (fits).sizes.0) in
     let after = c in
     let at = after in
-    let a = (start_of at).args in
-    let sizes = (fits at).sizes in
-    let there = part-values a.key.now sizes.3 a.dimensions.width after.fewer-held.result after.fewer-held.ensures sizes.0 (length a.letter_values.now) a.dimensions.streams (fits at).letters in (
-      rw (letters-part-long a.key.now sizes.3 a.dimensions.width after.fewer-held.result after.fewer-held.ensures sizes.0) (omega (arith, window-room {n = after.fewer-held.result} sizes.1 (few), sizes.4)),
-      λ p h. omega (arith, there p h, sizes.1),
-    )
+    let a = c.args in
+    let sizes = fits.sizes in
+    let there = part-values a.key.now sizes.3 a.dimensions.width after.fewer-held.result after.fewer-held.ensures sizes.0 (length a.letter_values.now) a.dimensions.streams fits.letters in
+    record {
+      streams_in_bounds = rw (letters-part-long a.key.now sizes.3 a.dimensions.width after.fewer-held.result after.fewer-held.ensures sizes.0) (omega (arith, window-room {n = after.fewer-held.result} sizes.1 (few), sizes.4));
+      by_index = λ p h. omega (arith, there p h, sizes.1);
+    }
 
 pub overflow_add-firsts_end : goal.overflow_add-firsts_end
 overflow_add-firsts_end c =
@@ -66,17 +66,17 @@ lower_all-requires c =
     let at = c in
     let a = c.args in
     let sizes = (fits).sizes in
-    omega (arith, firsts-part-long a.key.now sizes.3 a.count sizes.2, c.fill_window.auto.0, sizes.2, sizes.4)
+    omega (arith, firsts-part-long a.key.now sizes.3 a.count sizes.2, c.fill_window.auto.window, sizes.2, sizes.4)
 
 pub returns : goal.returns
 returns c =
     let fits : let a = c.args in IsPreparable (length a.letter_values.now) a.dimensions.streams a.dimensions.width a.count a.key.now (length a.prepared.now) = says_yes c.if-not-is_preparable.false c.is_preparable.ensures in
     let after = c in
     let at = after in
-    let a = (start_of at).args in
+    let a = c.args in
     let fill = c.fill_window in
     let lowers = c.lower_all in
     record {
-      done = λ p. parts_prepared a.letter_values.now a.dimensions.streams a.dimensions.width a.count a.key.now a.prepared.now p after.fewer-held.result after.fewer-held.ensures fill.new.0 lowers.new.0 fill.ensures lowers.ensures;
-      refused = λ p. absurd (p (fits at));
+      done = λ p. parts_prepared a.letter_values.now a.dimensions.streams a.dimensions.width a.count a.key.now a.prepared.now p after.fewer-held.result after.fewer-held.ensures fill.new.window lowers.new.prepared fill.ensures lowers.ensures;
+      refused = λ p. absurd (p fits);
     }

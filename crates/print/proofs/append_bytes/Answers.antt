@@ -1,5 +1,5 @@
 -- `print::append_bytes` meets its contract: after i turns the first i bytes are appended; from a place beyond the bytes there is no room.
-use Prim.Native.Nat.{◌<◌, ◌-◌}
+use Prim.Native.Nat.{◌<◌}
 use native.Mathlib.Numerals.{add-one}
 use native.Mathlib.Omega.{arith}
 use mathlib.Core.Path.{sym, ◌∙◌, ap}

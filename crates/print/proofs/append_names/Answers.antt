@@ -1,5 +1,4 @@
 -- `print::append_names` meets its contract: after i turns the first i names are appended.
-use Prim.Native.Nat.{◌-◌}
 use native.Mathlib.Numerals.{add-one}
 use native.Mathlib.Omega.{arith}
 use mathlib.Core.Path.{sym, ◌∙◌, ap}

@@ -1,6 +1,5 @@
 -- `print::append_values` meets its contract: after i turns the first i values are appended.
 use Prim.Native.Nat.{◌≤◌, ◌-◌}
-use mathlib.Core.Path.{ap}
 use mathlib.Core.List.{map}
 use lib.ListN.{length, take}
 use Rattle.print.specs.Append.{Appends}

@@ -1,11 +1,7 @@
 -- `print::digit_count` meets its contract: a number from 10 on has one digit more than its tenth.
 use native.Mathlib.Nat.{div-lt_self}
 use native.Mathlib.Omega.{arith}
-use lib.ListN.{length}
-use Rattle.print.specs.Text.{digits}
 use Rattle.print.proofs.Lengths.{one-digit, more-digits, natural-length, some-digit}
-use Rattle.print.proofs.digit_count.Reads as reads
-use Rattle.print.proofs.digit_count.Lts as lts
 use Rattle.print.proofs.digit_count.Goals as goal
 
 pub loop-rest-init : goal.loop-rest-init

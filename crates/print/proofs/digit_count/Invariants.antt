@@ -3,8 +3,6 @@ use Prim.Native.Nat.{◌+◌, ◌≤◌}
 use mathlib.Core.Path.{◌≡◌}
 use lib.ListN.{length}
 use Rattle.print.specs.Text.{digits}
-use Rattle.print.proofs.digit_count.Reads as reads
-use Rattle.print.proofs.digit_count.Lts as lts
 use Rattle.print.proofs.digit_count.Given as goal
 
 abbrev pub invariant-loop-rest : goal.invariant-loop-rest

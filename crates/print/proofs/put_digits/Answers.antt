@@ -3,13 +3,9 @@ use Prim.Native.Nat.{◌/◌}
 use native.Mathlib.Nat.{div-lt_self, mod-lt}
 use native.Mathlib.Omega.{arith}
 use mathlib.Core.Path.{refl, ◌∙◌}
-use lib.ListN.{length, length-set}
-use Rattle.print.specs.Text.{digits}
+use lib.ListN.{length-set}
 use Rattle.print.proofs.Lengths.{more-digits, some-digit}
 use Rattle.print.proofs.Digits.{stores-more, stores_one}
-use Rattle.print.proofs.put_digits.Reads as reads
-use Rattle.print.proofs.put_digits.Lts as lts
-use Rattle.print.proofs.digit.Reads as digit-reads
 use Rattle.print.proofs.put_digits.Goals as goal
 
 pub overflow_add-to : goal.overflow_add-to

@@ -4,9 +4,6 @@ use mathlib.Core.Path.{◌≡◌}
 use lib.ListN.{length}
 use lib.Seq.{sets}
 use Rattle.print.specs.Text.{digits}
-use Rattle.print.proofs.put_digits.Reads as reads
-use Rattle.print.proofs.put_digits.Lts as lts
-use Rattle.print.proofs.digit.Reads as digit-reads
 use Rattle.print.proofs.put_digits.Given as goal
 
 abbrev pub invariant-loop-rest : goal.invariant-loop-rest

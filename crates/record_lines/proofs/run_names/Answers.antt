@@ -1,7 +1,5 @@
 -- `record_lines::run_names` meets its contract: before each turn the bytes so far are read, and none of them ends the line (Runs).
-use Prim.Native.Nat.{◌-◌}
 use native.Mathlib.Omega.{arith}
-use Rattle.record_names.specs.Machine.{names_byte}
 use Rattle.record_lines.proofs.Runs.{so_far_none, so_far_more, so_far_ends}
 use Rattle.record_lines.proofs.run_names.Goals as goal
 

@@ -1,7 +1,5 @@
 -- `record_lines::run_values` meets its contract: before each turn the bytes so far are read, and none of them ends the line (Runs).
-use Prim.Native.Nat.{◌-◌}
 use native.Mathlib.Omega.{arith}
-use Rattle.records.specs.Machine.{line_byte}
 use Rattle.record_lines.proofs.Runs.{so_far_none, so_far_more, so_far_ends}
 use Rattle.record_lines.proofs.run_values.Goals as goal
 

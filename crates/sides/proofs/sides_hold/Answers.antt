@@ -6,17 +6,12 @@ use Rattle.nodes.specs.Evaluate.{Nodes, stored, View, view}
 use Rattle.sides.proofs.Values.{value-given}
 use Rattle.sides.proofs.sides_hold.Goals as goal
 
-abbrev nodes : goal.Start → Nodes
-nodes s = stored s.args.kinds.now s.args.values.now s.args.starts.now
-
-abbrev seen : goal.Start → View
-seen s = view s.args.window.now s.args.streams s.args.firsts.now s.args.whole
-
 pub returns : goal.returns
 returns c =
-    let s = c in
+    let nodes : Nodes = stored c.args.kinds.now c.args.values.now c.args.starts.now in
+    let seen : View = view c.args.window.now c.args.streams c.args.firsts.now c.args.whole in
     let a = c.evaluate-a in
     let b = c.evaluate-b in
     c.sign_holds.ensures
-    ∙ ap₂ (holds (sign_at s.args.relation)) (value-given (nodes s) (seen s) s.args.left s.args.place (record { sfits = a.type_inv }) a.ensures)
-    (value-given (nodes s) (seen s) s.args.right s.args.place (record { sfits = b.type_inv }) b.ensures)
+    ∙ ap₂ (holds (sign_at c.args.relation)) (value-given nodes seen c.args.left c.args.place (record { sfits = a.type_inv }) a.ensures)
+    (value-given nodes seen c.args.right c.args.place (record { sfits = b.type_inv }) b.ensures)

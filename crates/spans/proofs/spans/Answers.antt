@@ -27,7 +27,7 @@ constraints-count-requires c =
 
 pub returns-then-count-gt1024 : goal.returns-then-count-gt1024
 returns-then-count-gt1024 c =
-    let begins : c.header_of-header.result.constraints-count ≡ constraints_offset c.args.text.now = constraints_offset_lem c.header_of-header.ensures in
+    let begins : c.header_of-header.result.constraints ≡ constraints_offset c.args.text.now = constraints_offset_lem c.header_of-header.ensures in
     let text = c.args.text.now in
     let short : length text ≤ 65535 = omega (arith, c.if-text-gt65535.false) in
     let all = ap (constraints_to text (suc (length text))) (begins) ∙ sym (spans-short text short) in
@@ -36,7 +36,7 @@ returns-then-count-gt1024 c =
 
 pub returns : goal.returns
 returns c =
-    let begins : c.header_of-header.result.constraints-count ≡ constraints_offset c.args.text.now = constraints_offset_lem c.header_of-header.ensures in
+    let begins : c.header_of-header.result.constraints ≡ constraints_offset c.args.text.now = constraints_offset_lem c.header_of-header.ensures in
     let text = c.args.text.now in
     let short : length text ≤ 65535 = omega (arith, c.if-text-gt65535.false) in
     let all = ap (constraints_to text (suc (length text))) (begins) ∙ sym (spans-short text short) in

@@ -33,12 +33,18 @@ slice_bounds-values-end c =
     let a = c.args in
     let h = few_streams a.lows.now a.highs.now a.entries.now a.finals.now a.place c.letter_count-count.ensures (sym c.letter_values.ensures.0 ∙ c.if-not-letter_values.false) in
     let d = length-described a.lows.now a.highs.now in
-    let k : length c.letter_values.new.out ≡ 8 = c.letter_values.auto.1.1.1.0 in
+    let k : length c.letter_values.new.out ≡ 8 = c.letter_values.auto.out in
     let f = c.fewer-streams.ensures in
     omega arith
 
 pub slice_bounds-entry_line-end : goal.slice_bounds-entry_line-end
-slice_bounds-entry_line-end c = sym (length-take-le _ _ (array-share-prefix-values c))
+slice_bounds-entry_line-end c =
+    let a = c.args in
+    let h = few_streams a.lows.now a.highs.now a.entries.now a.finals.now a.place c.letter_count-count.ensures (sym c.letter_values.ensures.0 ∙ c.if-not-letter_values.false) in
+    let d = length-described a.lows.now a.highs.now in
+    let k : length c.letter_values.new.out ≡ 8 = c.letter_values.auto.out in
+    let f = c.fewer-streams.ensures in
+    sym (length-take-le _ _ (omega arith))
 
 pub returns : goal.returns
 returns c =

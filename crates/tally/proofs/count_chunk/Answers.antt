@@ -1,5 +1,4 @@
 -- `tally::count_chunk` meets its contract: before each turn the bytes so far are read (Parts).
-use Prim.Native.Nat.{◌-◌}
 use native.Mathlib.Omega.{arith}
 use mathlib.Core.Path.{refl, ◌∙◌}
 use Rattle.tally.proofs.Parts.{nothing_read, read_more, read_all}
@@ -17,7 +16,7 @@ loop-at-smaller c = omega (arith, c.count_part-part.ensures.onward, c.count_part
 pub loop-at-preserved : goal.loop-at-preserved
 loop-at-preserved c =
     let t = c.loop-at in
-    (read_more _ _ t.invariant.0 c.count_part-part.ensures, c.count_part-part.auto.1.1.1.1.1.1.1.0 ∙ t.invariant.1)
+    (read_more _ _ t.invariant.0 c.count_part-part.ensures, c.count_part-part.auto.counts ∙ t.invariant.1)
 
 pub returns : goal.returns
 returns c = read_all _ _ c.loop-at.invariant.0 c.loop-at-test.false

@@ -1,5 +1,4 @@
 -- `tally::count_values` meets its contract: before each turn the bytes so far are read; a turn reads one line, or its bytes to the end of the chunk (Parts).
-use Prim.Native.Nat.{◌-◌}
 use native.Mathlib.Omega.{arith}
 use mathlib.Core.Path.{refl, ◌∙◌, ap}
 use lib.ListN.{length}

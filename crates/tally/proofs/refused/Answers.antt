@@ -1,8 +1,7 @@
 -- `tally::refused` meets its contract: before each turn the counts before the place are 0 (basics, Clearing).
-use Prim.Native.Nat.{◌-◌}
 use native.Mathlib.Omega.{arith}
 use mathlib.Core.Path.{refl}
-use lib.ListN.{length, length-set}
+use lib.ListN.{length-set}
 use Rattle.basics.proofs.Clearing.{cleared-all, clearing_start, clearing_next, clearing_end}
 use Rattle.tally.proofs.refused.Goals as goal
 

@@ -1,5 +1,4 @@
 -- `winning_rows::all_answered` meets its contract: the choices before `i` have an answer.
-use Prim.Native.Nat.{◌-◌}
 use native.Mathlib.Omega.{arith}
 use borrow.Author.Count.{below_more}
 use borrow.Author.Rules.{rules}

@@ -22,7 +22,7 @@ offset_bounds-answers-to c = omega (arith, c.type_inv.choice (c.loop-letter.lett
 
 pub bounds-answers-to : goal.bounds-answers-to
 bounds-answers-to c =
-    omega (arith, c.requires.1.below (c.loop-letter.letter - 1) (omega arith), c.loop-letter.invariant.1, c.fill_entries.auto.0)
+    omega (arith, c.requires.1.below (c.loop-letter.letter - 1) (omega arith), c.loop-letter.invariant.1, c.fill_entries.auto.list)
 
 pub loop-letter-preserved-then-rank-highest : goal.loop-letter-preserved-then-rank-highest
 loop-letter-preserved-then-rank-highest c =
@@ -31,7 +31,7 @@ loop-letter-preserved-then-rank-highest c =
     let is_letter : loop.letter - 1 < length start.args.row.now = omega arith in (
       omega arith,
       simp length-set loop.invariant.1,
-      answers-store (omega (arith, start.requires.1.below (loop.letter - 1) (omega arith), loop.invariant.1, c.fill_entries.auto.0))
+      answers-store (omega (arith, start.requires.1.below (loop.letter - 1) (omega arith), loop.invariant.1, c.fill_entries.auto.list))
           (record { is_letter = is_letter; has_choice = refl; ranked = λ z. c.if-rank-ne0.true (c.number_at-rank.ensures ∙ z); low = rw (← c.number_at-rank.ensures) c.if-rank-highest.true }) loop.invariant.2,
     )
 

@@ -1,5 +1,5 @@
 -- `winning_rows::answer_row` meets its contract: the answers are the first ones among the letters from `letter` on.
-use Prim.Native.Nat.{◌-◌, ◌≤◌}
+use Prim.Native.Nat.{◌≤◌}
 use mathlib.Core.Path.{◌≡◌}
 use lib.ListN.{length}
 use Rattle.winning_rows.specs.Answers.{AreAnswers}

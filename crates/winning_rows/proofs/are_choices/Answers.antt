@@ -1,5 +1,4 @@
 -- `winning_rows::are_choices` meets its contract: the choices of the letters before `letter` are below `choices`.
-use Prim.Native.Nat.{◌-◌}
 use native.Mathlib.Omega.{arith}
 use borrow.Author.Count.{below_more}
 use borrow.Author.Rules.{rules}

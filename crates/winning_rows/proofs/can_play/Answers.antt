@@ -1,5 +1,4 @@
 -- `winning_rows::can_play` meets its contract: there is room, and each letter has one of the choices.
-use borrow.Author.Tests.{not-true, not-false}
 use Rattle.basics.proofs.Answers.{says_yes, says_no, says_both}
 use Rattle.winning_rows.proofs.can_play.Goals as goal
 

@@ -1,5 +1,5 @@
 -- `winning_rows::fill_play` meets its contract: the rows before `row` are played.
-use Prim.Native.Nat.{◌+◌, ◌-◌, ◌*◌, ◌≤◌}
+use Prim.Native.Nat.{◌+◌, ◌*◌, ◌≤◌}
 use mathlib.Core.Path.{◌≡◌, refl, sym, ◌∙◌, subst}
 use native.Mathlib.Omega.{arith}
 use lib.ListN.{length}
@@ -81,9 +81,9 @@ loop-row-preserved c =
     let args = c.args in
     let loop = c.loop-row in
     let call = c.answer_row in
-    let part = call.new.1.1.1.1.0 in
+    let part = call.new.answers in
     let fits = play-inside in
-    let long : length part ≡ args.choices = call.auto.1.1.1.1.0 ∙ part_length loop.play (loop.row * args.choices) args.choices fits in (
+    let long : length part ≡ args.choices = call.auto.answers ∙ part_length loop.play (loop.row * args.choices) args.choices fits in (
       omega (arith, c.loop-row-test.true),
       back-length loop.play part (loop.row * args.choices) args.choices fits long ∙ loop.invariant.1,
       λ final. played-more (lent_game args.entries.now args.choice.now args.choices (length args.ranks.now) final) args.ranks.now loop.play part loop.row fits long

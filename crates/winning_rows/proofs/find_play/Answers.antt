@@ -1,9 +1,8 @@
 -- `winning_rows::find_play` meets its contract: the rows are ranked and played, and the play table is cleared behind them, or all of it.
-use Prim.Native.Nat.{◌+◌, ◌-◌, ◌≤◌}
+use Prim.Native.Nat.{◌≤◌}
 use mathlib.Core.Path.{◌≡◌, refl, sym, ◌∙◌}
 use mathlib.Core.List.{◌++◌}
 use native.Mathlib.Omega.{arith}
-use borrow.Author.Tests.{not-true, not-false}
 use lib.ListN.{length, take, drop, length-append, length-drop}
 use lib.Seq.{length-take-le}
 use Rattle.basics.proofs.Answers.{says_yes, says_no}
@@ -45,7 +44,7 @@ rank_rows-requires c =
 pub bounds-ranks-0 : goal.bounds-ranks-0
 bounds-ranks-0 c =
     let fits : PlayFits c.args.entries.now c.args.choice.now c.args.choices (length c.args.ranks.now) (length c.args.play.now) = says_yes c.if-not-can_play.false c.can_play.ensures in
-    omega (arith, c.rank_rows.auto.1.1.1.0, (fits).some_row)
+    omega (arith, c.rank_rows.auto.ranks, (fits).some_row)
 
 pub fill_play-requires : goal.fill_play-requires
 fill_play-requires c =
@@ -55,9 +54,9 @@ fill_play-requires c =
     let row-choices : length (take c.args.choices c.args.play.now) ≡ c.args.choices = length-take-le _ _ (one-row) in
     let back-length : length (c.rank_rows.new.answers ++ drop c.args.choices c.args.play.now) ≡ length c.args.play.now = (let args = c.args in
     let inside = c in
-    omega (arith, length-append c.rank_rows.new.answers (drop args.choices args.play.now), length-drop args.choices args.play.now, c.rank_rows.auto.1.1.1.1.0, row-choices, one-row)) in
+    omega (arith, length-append c.rank_rows.new.answers (drop args.choices args.play.now), length-drop args.choices args.play.now, c.rank_rows.auto.answers, row-choices, one-row)) in
     let inside = c in
-    (fits-sized refl (sym c.rank_rows.auto.1.1.1.0) (fits).rows_fit, room-sized c.args.choices c.rank_rows.auto.1.1.1.0 (back-length) (fits).play_fits)
+    (fits-sized refl (sym c.rank_rows.auto.ranks) (fits).rows_fit, room-sized c.args.choices c.rank_rows.auto.ranks (back-length) (fits).play_fits)
 
 pub numbers_kept-kept-requires : goal.numbers_kept-kept-requires
 numbers_kept-kept-requires c =
@@ -67,8 +66,8 @@ numbers_kept-kept-requires c =
     let row-choices : length (take c.args.choices c.args.play.now) ≡ c.args.choices = length-take-le _ _ (one-row) in
     let back-length : length (c.rank_rows.new.answers ++ drop c.args.choices c.args.play.now) ≡ length c.args.play.now = (let args = c.args in
     let inside = c in
-    omega (arith, length-append c.rank_rows.new.answers (drop args.choices args.play.now), length-drop args.choices args.play.now, c.rank_rows.auto.1.1.1.1.0, row-choices, one-row)) in
-    room-sized c.args.choices c.rank_rows.auto.1.1.1.0 (c.fill_play.auto.1.1.1.1.0 ∙ back-length) (fits).play_fits
+    omega (arith, length-append c.rank_rows.new.answers (drop args.choices args.play.now), length-drop args.choices args.play.now, c.rank_rows.auto.answers, row-choices, one-row)) in
+    room-sized c.args.choices c.rank_rows.auto.ranks (c.fill_play.auto.play ∙ back-length) (fits).play_fits
 
 pub returns : goal.returns
 returns c =
@@ -78,11 +77,11 @@ returns c =
     let row-choices : length (take c.args.choices c.args.play.now) ≡ c.args.choices = length-take-le _ _ (one-row) in
     let back-length : length (c.rank_rows.new.answers ++ drop c.args.choices c.args.play.now) ≡ length c.args.play.now = (let args = c.args in
     let inside = c in
-    omega (arith, length-append c.rank_rows.new.answers (drop args.choices args.play.now), length-drop args.choices args.play.now, c.rank_rows.auto.1.1.1.1.0, row-choices, one-row)) in
+    omega (arith, length-append c.rank_rows.new.answers (drop args.choices args.play.now), length-drop args.choices args.play.now, c.rank_rows.auto.answers, row-choices, one-row)) in
     let args = c.args in
     let inside = c in
     let ranked = c in (
-      play-outcome args.entries.now args.finals.now args.choice.now args.choices (length args.ranks.now) (length args.play.now) (row-choices) c.rank_rows.auto.1.1.1.0 (fits) c.rank_rows.ensures
-          (c.fill_play.auto.1.1.1.1.0 ∙ back-length) c.fill_play.ensures c.numbers_kept-kept.ensures c.clear_entries-2.ensures,
-      zeroed c.fill-2.ensures c.rank_rows.auto.1.1.1.0,
+      play-outcome args.entries.now args.finals.now args.choice.now args.choices (length args.ranks.now) (length args.play.now) (row-choices) c.rank_rows.auto.ranks (fits) c.rank_rows.ensures
+          (c.fill_play.auto.play ∙ back-length) c.fill_play.ensures c.numbers_kept-kept.ensures c.clear_entries-2.ensures,
+      zeroed c.fill-2.ensures c.rank_rows.auto.ranks,
     )

@@ -1,5 +1,4 @@
 -- `winning_rows::has_room` meets its contract, by the tests that lead to each way out.
-use borrow.Author.Tests.{not-true, not-false}
 use Rattle.basics.proofs.Answers.{says_yes, says_no, says_both}
 use borrow.Author.Rules.{rules}
 use Rattle.winning_rows.proofs.has_room.Goals as goal

@@ -1,10 +1,9 @@
 -- `winning_rows::sweep` meets its contract: the first `i` rows of the sweep are seen.
-use Prim.Native.Nat.{◌-◌}
 use mathlib.Core.Path.{refl, sym, ◌∙◌}
-use mathlib.Core.Logic.{⊎_elim}
 use native.Mathlib.Omega.{arith}
 use lib.ListN.{length}
 use Rattle.winning_rows.proofs.Sweeping.{fits-sized, turned_sized, row_inside, swept_start, swept_turned, swept_kept, swept_all}
+use Rattle.winning_rows.proofs.sweep.Goals.{then-turn_row, else-turn_row}
 use Rattle.winning_rows.proofs.sweep.Goals as goal
 
 pub loop-i-init : goal.loop-i-init
@@ -28,15 +27,17 @@ loop-i-preserved c =
     let args = c.args in
     let call = c.turn_row in
     let rows = length args.ranks.now in
-    let ranks = call.new.1.1.1.1.1.0 in
+    let ranks = call.new.ranks in
     let turned = turned_sized args.entries.now args.choice.now args.to loop.next loop.ranks ranks call.result loop.invariant.3 loop.invariant.2 c.row_of-row.ensures call.ensures in
     let inside = c.loop-i-test.true in (
       omega arith,
-      ⊎_elim (λ w. omega (arith, loop.invariant.1)) (λ w. omega (arith, loop.invariant.1)) c.if-turn_row.branch,
-      call.auto.1.1.1.1.1.0 ∙ loop.invariant.2,
-      call.auto.1.1.1.1.1.1.0 ∙ loop.invariant.3,
-      λ final. ⊎_elim (λ w. swept_turned args.down rows loop.i ranks call.result w.1 inside (omega (arith, loop.invariant.2)) w.0.true (loop.invariant.4 final) (turned final))
-          (λ w. swept_kept args.down rows loop.i ranks call.result w.1 inside w.0.left (loop.invariant.4 final) (turned final)) c.if-turn_row.branch,
+      elim c.if-turn_row.branch [ then-turn_row w ↦ omega (arith, loop.invariant.1, w.next-is) | else-turn_row w ↦ omega (arith, loop.invariant.1, w.next-is) ],
+      call.auto.ranks ∙ loop.invariant.2,
+      call.auto.answers ∙ loop.invariant.3,
+      λ final. elim c.if-turn_row.branch [
+        | then-turn_row w ↦ swept_turned args.down rows loop.i ranks call.result w.next-is inside (omega (arith, loop.invariant.2)) w.if-turn_row.true (loop.invariant.4 final) (turned final)
+        | else-turn_row w ↦ swept_kept args.down rows loop.i ranks call.result w.next-is inside w.if-turn_row.false (loop.invariant.4 final) (turned final)
+      ],
     )
 
 pub returns : goal.returns

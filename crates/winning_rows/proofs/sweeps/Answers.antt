@@ -35,7 +35,7 @@ loop-next-preserved c =
     c.args.to (λ s. s < length c.args.ranks.now) c.loop-next.ranks c.loop-next.next c.sweep-after.new.ranks c.sweep-after.result = (let args = c.args in
     let inv = c.loop-next.invariant in
     swept_sized args.entries.now args.choice.now inv.1 inv.0 c.sweep-after.ensures) in
-    (c.sweep-after.auto.1.1.1.1.1.0 ∙ c.loop-next.invariant.0, c.sweep-after.auto.1.1.1.1.1.1.0 ∙ c.loop-next.invariant.1, λ final. turns_then (c.loop-next.invariant.2 final) (swept final).turns)
+    (c.sweep-after.auto.ranks ∙ c.loop-next.invariant.0, c.sweep-after.auto.answers ∙ c.loop-next.invariant.1, λ final. turns_then (c.loop-next.invariant.2 final) (swept final).turns)
 
 pub returns : goal.returns
 returns c =
@@ -44,4 +44,4 @@ returns c =
     c.args.to (λ s. s < length c.args.ranks.now) c.loop-next.ranks c.loop-next.next c.sweep-after.new.ranks c.sweep-after.result = (let args = c.args in
     let inv = c.loop-next.invariant in
     swept_sized args.entries.now args.choice.now inv.1 inv.0 c.sweep-after.ensures) in
-    λ final. sweeps_end (c.sweep-after.auto.1.1.1.1.1.0 ∙ c.loop-next.invariant.0) (c.loop-next.invariant.2 final) (swept final) c.if-after-next.true
+    λ final. sweeps_end (c.sweep-after.auto.ranks ∙ c.loop-next.invariant.0) (c.loop-next.invariant.2 final) (swept final) c.if-after-next.true

@@ -2,7 +2,9 @@
 use Prim.Native.Nat.{◌*◌, ◌+◌, ◌≤◌}
 use mathlib.Core.Path.{refl, ap}
 use native.Mathlib.Omega.{arith}
-use lib.ListN.{length, set}
+use borrow.Author.Tests.{not-true, not-false}
+use lib.ListN.{length, get_or, set}
+use Rattle.std.proofs.Common.{Fits, w32, rules}
 use Rattle.basics.proofs.Lists.{row_fits}
 use Rattle.winning_rows.proofs.Rows.{row-length, settled_rank, row_settled, row_turnable}
 use Rattle.winning_rows.proofs.turn_row.Goals as goal
@@ -44,8 +46,8 @@ returns-then-all_answered-to c =
     λ final. (
       refl,
       row_settled args.entries.now args.choice.now args.ranks.now (length args.answers.now) (length args.ranks.now) args.row final
-          (row-length args.entries.now (length args.choice.now) args.row (inside)) start.requires.0.choices_fit.few c.answer_row.auto.1.1.1.1.0 c.answer_row.ensures
-          args.to c.all_answered.result (λ t. omega (arith, c.type_inv.ranks t)) c.if-all_answered-to.true c.all_answered.ensures,
+          (row-length args.entries.now (length args.choice.now) args.row (inside)) start.requires.0.choices_fit.few c.answer_row.auto.answers c.answer_row.ensures
+          args.to c.all_answered.result (λ t. let fits : Fits w32 (get_or c.args.ranks.now t 0) = search rules in omega (arith, fits)) (not-true _ c.if-all_answered-to.true) c.all_answered.ensures,
     )
 
 pub returns : goal.returns
@@ -55,7 +57,7 @@ returns c =
     let args = start.args in
     λ final. (
       row_turnable args.entries.now args.choice.now args.ranks.now (length args.answers.now) (length args.ranks.now) args.row final
-          (row-length args.entries.now (length args.choice.now) args.row (inside)) start.requires.0.choices_fit.few c.answer_row.auto.1.1.1.1.0 c.answer_row.ensures
-          args.to c.all_answered.result (λ t. omega (arith, c.type_inv.ranks t)) c.if-ranks-row.false c.if-all_answered-to.false c.all_answered.ensures,
+          (row-length args.entries.now (length args.choice.now) args.row (inside)) start.requires.0.choices_fit.few c.answer_row.auto.answers c.answer_row.ensures
+          args.to c.all_answered.result (λ t. let fits : Fits w32 (get_or c.args.ranks.now t 0) = search rules in omega (arith, fits)) c.if-ranks-row.false (not-false _ c.if-all_answered-to.false) c.all_answered.ensures,
       ap (set args.ranks.now args.row) c.turned_to.ensures,
     )

@@ -14,20 +14,11 @@ use Rattle.write_residue.specs.Wrote.{Wrote}
 use Rattle.write_residue.proofs.Answers.{end_within, negate_known, negate_varying}
 use Rattle.write_residue.proofs.negate_last.Goals as goal
 
-pub negated-value-requires : goal.negated-value-requires
-negated-value-requires c = tt
-
-pub write_known-requires : goal.write_known-requires
-write_known-requires c = tt
-
 pub returns-then-inner : goal.returns-then-inner
 returns-then-inner c =
     record {
-      wrote = λ old r d w. negate_known w c.if-inner.true d (held-result (record { sfits = c.negated-value.type_inv }) (c.negated-value.ensures ∙ ap (λ z. coded (negated_result (bounded z))) (to_z-of_z w64 c.args.inner.value (record { sfits = omega (arith, c.type_inv.inner) })))) c.write_known.ensures;
+      wrote = λ old r d w. negate_known w c.if-inner.true d (held-result (record { sfits = c.negated-value.type_inv }) (c.negated-value.ensures ∙ ap (λ z. coded (negated_result (bounded z))) (to_z-of_z w64 c.args.inner.value (record { sfits = omega arith })))) c.write_known.ensures;
     }
-
-pub varying-requires : goal.varying-requires
-varying-requires c = tt
 
 pub returns : goal.returns
 returns c =

@@ -5,18 +5,6 @@ use Rattle.arithmetic.proofs.Coded.{held-result}
 use Rattle.evaluate.proofs.Leaves.{negated-there, negated-missing}
 use Rattle.write_residue.proofs.negated.Goals as goal
 
-pub in_bound-requires : goal.in_bound-requires
-in_bound-requires c = tt
-
-pub nonzero-requires : goal.nonzero-requires
-nonzero-requires c = tt
-
-pub bit-requires : goal.bit-requires
-bit-requires c = tt
-
-pub no_value_coded-requires : goal.no_value_coded-requires
-no_value_coded-requires c = tt
-
 pub returns-then-in_bound : goal.returns-then-in_bound
 returns-then-in_bound c =
     let s = c in

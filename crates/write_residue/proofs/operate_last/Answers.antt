@@ -13,24 +13,12 @@ use Rattle.write_residue.specs.Wrote.{Wrote}
 use Rattle.write_residue.proofs.Answers.{end_within, operate_known, operate_varying}
 use Rattle.write_residue.proofs.operate_last.Goals as goal
 
-pub both-requires : goal.both-requires
-both-requires c = tt
-
-pub apply_coded-value-requires : goal.apply_coded-value-requires
-apply_coded-value-requires c = tt
-
-pub write_known-requires : goal.write_known-requires
-write_known-requires c = tt
-
 pub returns-then-both : goal.returns-then-both
 returns-then-both c =
     let s = c in
     record {
-      wrote = λ old between r q u w. operate_known s.args.kind u w (omega (arith, s.requires, end_within s.args.left.end (tree_size (tree_of q)), w.end)) (sym c.both.ensures ∙ c.if-both.true) (held-result (record { sfits = c.apply_coded-value.type_inv }) (c.apply_coded-value.ensures ∙ held_both (λ x y. coded (applied_by_kind s.args.kind x y)) s.args.left.value s.args.right.value (record { sfits = omega (arith, c.type_inv.left) }) (record { sfits = omega (arith, c.type_inv.right) }))) c.write_known.ensures;
+      wrote = λ old between r q u w. operate_known s.args.kind u w (omega (arith, s.requires, end_within s.args.left.end (tree_size (tree_of q)), w.end)) (sym c.both.ensures ∙ c.if-both.true) (held-result (record { sfits = c.apply_coded-value.type_inv }) (c.apply_coded-value.ensures ∙ held_both (λ x y. coded (applied_by_kind s.args.kind x y)) s.args.left.value s.args.right.value (record { sfits = omega arith }) (record { sfits = omega arith }))) c.write_known.ensures;
     }
-
-pub varying-requires : goal.varying-requires
-varying-requires c = tt
 
 pub returns : goal.returns
 returns c =

@@ -9,23 +9,14 @@ use Rattle.arithmetic.proofs.Coded.{held-result}
 use Rattle.evaluate.proofs.Leaves.{lookup-negative, lookup-there, lookup-beyond}
 use Rattle.write_residue.proofs.stored_first.Goals as goal
 
-pub no_value_coded-requires : goal.no_value_coded-requires
-no_value_coded-requires c = tt
-
 pub returns-then-number-lt0 : goal.returns-then-number-lt0
 returns-then-number-lt0 c = held-result (record { sfits = c.no_value_coded.type_inv }) (c.no_value_coded.ensures ∙ ap coded (lookup-negative c.args.number c.ranges.number (length c.args.firsts.now) (λ k. get_or c.args.firsts.now k (pos 0)) c.if-number-lt0.true))
 
 pub overflow_cast-k : goal.overflow_cast-k
 overflow_cast-k c = number_cast c.args.number c.ranges.number c.if-number-lt0.false
 
-pub bounded_coded-requires : goal.bounded_coded-requires
-bounded_coded-requires c = tt
-
 pub returns-then-k-firsts : goal.returns-then-k-firsts
-returns-then-k-firsts c = held-result (record { sfits = c.bounded_coded.type_inv }) (c.bounded_coded.ensures ∙ ap coded (lookup-there c.args.number c.ranges.number (length c.args.firsts.now) (λ k. get_or c.args.firsts.now k (pos 0)) c.if-number-lt0.false c.if-k-firsts.true (record { sfits = omega (arith, c.bounded_coded-arg-1.given) })))
-
-pub no_value_coded-requires-2 : goal.no_value_coded-requires-2
-no_value_coded-requires-2 c = tt
+returns-then-k-firsts c = held-result (record { sfits = c.bounded_coded.type_inv }) (c.bounded_coded.ensures ∙ ap coded (lookup-there c.args.number c.ranges.number (length c.args.firsts.now) (λ k. get_or c.args.firsts.now k (pos 0)) c.if-number-lt0.false c.if-k-firsts.true (record { sfits = omega arith })))
 
 pub returns : goal.returns
 returns c = held-result (record { sfits = c.no_value_coded-2.type_inv }) (c.no_value_coded-2.ensures ∙ ap coded (lookup-beyond c.args.number c.ranges.number (length c.args.firsts.now) (λ k. get_or c.args.firsts.now k (pos 0)) c.if-number-lt0.false c.if-k-firsts.false))

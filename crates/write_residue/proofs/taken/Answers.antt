@@ -5,9 +5,6 @@ use mir.ValLaws.{to_z-of_z}
 use Rattle.meaning.specs.Value.{nonzero}
 use Rattle.write_residue.proofs.taken.Goals as goal
 
-pub nonzero-requires : goal.nonzero-requires
-nonzero-requires c = tt
-
 pub returns-then-nonzero : goal.returns-then-nonzero
 returns-then-nonzero c =
     let s = c in

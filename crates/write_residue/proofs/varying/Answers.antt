@@ -6,9 +6,6 @@ use Rattle.arithmetic.proofs.Coded.{held-result}
 use Rattle.write_residue.specs.declared.WrittenResidue.{WrittenResidue}
 use Rattle.write_residue.proofs.varying.Goals as goal
 
-pub no_value_coded-requires : goal.no_value_coded-requires
-no_value_coded-requires c = tt
-
 pub returns : goal.returns
 returns c =
     let answer : ℤ → WrittenResidue = λ z. record { known = false; value = z; end = c.args.end } in

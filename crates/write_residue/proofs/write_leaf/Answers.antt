@@ -17,56 +17,34 @@ use Rattle.write_residue.proofs.Recursion.{integer_arm, older_arm, newest_arm, n
 use Rattle.write_residue.proofs.Answers.{name-wrote, wrote-known}
 use Rattle.write_residue.proofs.write_leaf.Goals as goal
 
-abbrev nodes : goal.Start → Nodes
-nodes s = stored s.args.kinds.now s.args.values.now s.args.starts.now
-
-abbrev news : goal.Start → Nodes
-news s = stored s.args.new_kinds.now s.args.new_values.now s.args.new_starts.now
-
-abbrev seen : goal.Start → View
-seen s = view s.args.window.now s.args.older.streams s.args.firsts.now s.args.older.whole
-
-some : (s : goal.Start) → s.args.part.end ≡ 0 → ⊥
-some s z = omega (arith, s.requires.1.0)
-
-abbrev number : goal.Start → ℤ
-number s = get_or s.args.values.now (s.args.part.end - 1) (pos 0)
-
 -- A leaf that is no integer is a name.
-is_name : (s : goal.Start) → (get_or s.args.kinds.now (s.args.part.end - 1) 0 ≡ 0 → ⊥) → get_or s.args.kinds.now (s.args.part.end - 1) 0 ≡ 1
-is_name s n = omega (arith, s.requires.1.1, n)
-
-pub bounded_coded-requires : goal.bounded_coded-requires
-bounded_coded-requires c = tt
-
-pub write_known-requires : goal.write_known-requires
-write_known-requires c = tt
-
 pub returns-then-kinds-i-eq-INTEGER_NODE : goal.returns-then-kinds-i-eq-INTEGER_NODE
 returns-then-kinds-i-eq-INTEGER_NODE c =
-    let s = c in
-    wrote-known c.write_known.ensures (held-result (record { sfits = c.bounded_coded.type_inv }) (c.bounded_coded.ensures ∙ ap (λ z. coded (bounded z)) (to_z-of_z w64 (number s) (record { sfits = omega (arith, c.number-1.given) })))) (integer_arm (nodes s) (seen s) s.args.older.letters s.args.part.place s.args.part.end (some s) c.if-kinds-i-eq-INTEGER_NODE.true)
-
-pub evaluate-value-requires : goal.evaluate-value-requires
-evaluate-value-requires c = tt
-
-pub write_known-requires-then-part-older : goal.write_known-requires-then-part-older
-write_known-requires-then-part-older c = tt
+    let nodes : Nodes = stored c.args.kinds.now c.args.values.now c.args.starts.now in
+    let seen : View = view c.args.window.now c.args.older.streams c.args.firsts.now c.args.older.whole in
+    let some : c.args.part.end ≡ 0 → ⊥ = λ z. omega (arith, c.requires.end_nonzero.0) in
+    let number : ℤ = get_or c.args.values.now (c.args.part.end - 1) (pos 0) in
+    wrote-known c.write_known.ensures (held-result (record { sfits = c.bounded_coded.type_inv }) (c.bounded_coded.ensures ∙ ap (λ z. coded (bounded z)) (to_z-of_z w64 number (record { sfits = omega arith })))) (integer_arm nodes seen c.args.older.letters c.args.part.place c.args.part.end some c.if-kinds-i-eq-INTEGER_NODE.true)
 
 pub returns-then-part-older : goal.returns-then-part-older
 returns-then-part-older c =
-    let s = c in
-    let a : HasArrays (nodes s) = record { kinds = c.kind_list-1.given.0; values = c.value_list-1.given.0; starts = c.start_list-1.given.0 } in
-    let v = name-value (nodes s) (seen s) (s.args.part.end - 1) s.args.part.place a (omega (arith, s.requires.0.end_within, s.requires.1.0)) (omega (arith, s.requires.0.letters_places, c.if-part-older.true)) (is_name s c.if-kinds-i-eq-INTEGER_NODE.false) in
-    wrote-known c.write_known-then-part-older.ensures (held-result (record { sfits = c.evaluate-value.type_inv }) (c.evaluate-value.ensures ∙ ap coded v)) (older_arm (nodes s) (seen s) s.args.older.letters s.args.part.place s.args.part.end (some s) (is_name s c.if-kinds-i-eq-INTEGER_NODE.false) c.if-part-older.true)
-
-pub varying-requires : goal.varying-requires
-varying-requires c = tt
+    let nodes : Nodes = stored c.args.kinds.now c.args.values.now c.args.starts.now in
+    let seen : View = view c.args.window.now c.args.older.streams c.args.firsts.now c.args.older.whole in
+    let some : c.args.part.end ≡ 0 → ⊥ = λ z. omega (arith, c.requires.end_nonzero.0) in
+    let is_name : (get_or c.args.kinds.now (c.args.part.end - 1) 0 ≡ 0 → ⊥) → get_or c.args.kinds.now (c.args.part.end - 1) 0 ≡ 1 = λ n. omega (arith, c.requires.end_nonzero.1, n) in
+    let a : HasArrays nodes = record { kinds = omega arith; values = omega arith; starts = omega arith } in
+    let v = name-value nodes seen (c.args.part.end - 1) c.args.part.place a (omega (arith, c.requires.asked.end_within, c.requires.end_nonzero.0)) (omega (arith, c.requires.asked.letters_places, c.if-part-older.true)) (is_name c.if-kinds-i-eq-INTEGER_NODE.false) in
+    wrote-known c.write_known-then-part-older.ensures (held-result (record { sfits = c.evaluate-value.type_inv }) (c.evaluate-value.ensures ∙ ap coded v)) (older_arm nodes seen c.args.older.letters c.args.part.place c.args.part.end some (is_name c.if-kinds-i-eq-INTEGER_NODE.false) c.if-part-older.true)
 
 pub returns : goal.returns
 returns c =
-    let s = c in
-    let name : ℤ → Type 0 = λ z. Wrote (news s) (stored c.append.new.new_kinds c.append.new.new_values c.append.new.new_starts) s.args.part.at (varying (name_tree z)) (varying_at c.append.result) in
-    let answer : Residue → Type 0 = λ r. Wrote (news s) (stored c.append.new.new_kinds c.append.new.new_values c.append.new.new_starts) s.args.part.at r c.varying.result in
-    subst answer (newest_arm (nodes s) (seen s) s.args.older.letters s.args.part.place s.args.part.end (some s) (is_name s c.if-kinds-i-eq-INTEGER_NODE.false) c.if-part-older.false)
-    (subst (Wrote (news s) (stored c.append.new.new_kinds c.append.new.new_values c.append.new.new_starts) s.args.part.at (varying (name_tree (get_or s.args.values.now (s.args.part.end - 1) (pos 0))))) (sym c.varying.ensures) (subst name (to_z-of_z w64 (number s) (record { sfits = omega (arith, c.number-1.given) })) (name-wrote c.append.ensures)))
+    let nodes : Nodes = stored c.args.kinds.now c.args.values.now c.args.starts.now in
+    let news : Nodes = stored c.args.new_kinds.now c.args.new_values.now c.args.new_starts.now in
+    let seen : View = view c.args.window.now c.args.older.streams c.args.firsts.now c.args.older.whole in
+    let some : c.args.part.end ≡ 0 → ⊥ = λ z. omega (arith, c.requires.end_nonzero.0) in
+    let number : ℤ = get_or c.args.values.now (c.args.part.end - 1) (pos 0) in
+    let is_name : (get_or c.args.kinds.now (c.args.part.end - 1) 0 ≡ 0 → ⊥) → get_or c.args.kinds.now (c.args.part.end - 1) 0 ≡ 1 = λ n. omega (arith, c.requires.end_nonzero.1, n) in
+    let name : ℤ → Type 0 = λ z. Wrote news (stored c.append.new.new_kinds c.append.new.new_values c.append.new.new_starts) c.args.part.at (varying (name_tree z)) (varying_at c.append.result) in
+    let answer : Residue → Type 0 = λ r. Wrote news (stored c.append.new.new_kinds c.append.new.new_values c.append.new.new_starts) c.args.part.at r c.varying.result in
+    subst answer (newest_arm nodes seen c.args.older.letters c.args.part.place c.args.part.end some (is_name c.if-kinds-i-eq-INTEGER_NODE.false) c.if-part-older.false)
+    (subst (Wrote news (stored c.append.new.new_kinds c.append.new.new_values c.append.new.new_starts) c.args.part.at (varying (name_tree (get_or c.args.values.now (c.args.part.end - 1) (pos 0))))) (sym c.varying.ensures) (subst name (to_z-of_z w64 number (record { sfits = omega arith })) (name-wrote c.append.ensures)))

