@@ -46,8 +46,7 @@ fn entry_at(table: &[u8], at: usize) -> u32
 
 // The next state, or 65,536 plus the refusal.
 // `table` is the bytes of the entries, row after row, two bytes an entry, low first.
-#[unsafe(no_mangle)]
-pub extern "C" fn step(table: &[u8], letters: u32, state: u32, letter: u32) -> u32
+pub fn step(table: &[u8], letters: u32, state: u32, letter: u32) -> u32
     ensures { StepAnswer table.now letters state letter result }
 {
     if letters == 0 {
@@ -110,8 +109,7 @@ pub fn step_place(place: Place, table: &[u8], letters: u32, letter: u32) -> Step
 }
 
 // A step of the running place where it stands: the place is stored again, and the answer is given back.
-#[unsafe(no_mangle)]
-pub extern "C" fn advance(place: &mut Place, table: &[u8], letters: u32, letter: u32) -> u32
+pub fn advance(place: &mut Place, table: &[u8], letters: u32, letter: u32) -> u32
     ensures { PlaceStep table.now letters letter place.old result place.new }
 {
     let stepped = step_place(*place, table, letters, letter);

@@ -82,10 +82,10 @@ loop-letter-preserved c =
     λ ne. total-small (first turn.letter) (behind t a.costs.now a.row turn.letter) (omega (arith, c.type_inv.changes turn.letter)) (omega (arith, cost, up.cost_behind-cost.type_inv)) ne in (
       omega arith,
       elim c.if-total-least.branch [
-        then-total-least w ↦ subst (λ (n : ℕ). IsFirstLeast t a.costs.now first a.row (turn.letter + 1) n c.if-total-least.least) (sym w.best-is) (subst (λ (n : ℕ). IsFirstLeast t a.costs.now first a.row (turn.letter + 1) turn.letter n) (sym (w.least-is ∙ total))
-          (least-lower t a.costs.now first a.row turn.invariant.1 small (omega (arith, total, w.if-total-least.true))))
-      | else-total-least w ↦ subst (λ (n : ℕ). IsFirstLeast t a.costs.now first a.row (turn.letter + 1) n c.if-total-least.least) (sym w.best-is) (subst (λ (n : ℕ). IsFirstLeast t a.costs.now first a.row (turn.letter + 1) turn.best n) (sym w.least-is)
-          (least_kept t a.costs.now first a.row turn.invariant.1 small (omega (arith, total, w.if-total-least.false))))
+        | then-total-least w ↦ subst (λ (n : ℕ). IsFirstLeast t a.costs.now first a.row (turn.letter + 1) n c.if-total-least.least) (sym w.best-is) (subst (λ (n : ℕ). IsFirstLeast t a.costs.now first a.row (turn.letter + 1) turn.letter n) (sym (w.least-is ∙ total))
+            (least-lower t a.costs.now first a.row turn.invariant.1 small (omega (arith, total, w.if-total-least.true))))
+        | else-total-least w ↦ subst (λ (n : ℕ). IsFirstLeast t a.costs.now first a.row (turn.letter + 1) n c.if-total-least.least) (sym w.best-is) (subst (λ (n : ℕ). IsFirstLeast t a.costs.now first a.row (turn.letter + 1) turn.best n) (sym w.least-is)
+            (least_kept t a.costs.now first a.row turn.invariant.1 small (omega (arith, total, w.if-total-least.false))))
       ],
     )
 

@@ -2,7 +2,6 @@
 use Prim.Native.Nat.{◌+◌, ◌-◌}
 use mathlib.Core.Path.{◌≡◌, sym, ◌∙◌, ap}
 use mathlib.Core.Bool.{Bool, true, false, cond}
-
 use native.Mathlib.Omega.{arith}
 use lib.Dec.{eqb}
 use lib.ListN.{length}
@@ -45,8 +44,8 @@ loop-stream-preserved c =
     → with_others a.known a.from (cond b (with_described loop.all a.from loop.stream) loop.all) (loop.stream + 1) (a.from.count - (loop.stream + 1)) ≡ with_others a.known a.from a.to 0 a.from.count =
     λ b q. ap (λ x. with_others a.known a.from (cond x (with_described loop.all a.from loop.stream) loop.all) (loop.stream + 1) (a.from.count - (loop.stream + 1))) (sym q) ∙ sym step ∙ loop.invariant.2 in
     elim c.if-place_of-known.branch [
-      then-place_of-known w ↦ (omega (arith, c.loop-stream-test.true), rw w.all-is (omega (arith, loop.invariant.1, ap (λ (x : StreamsDescription). x.count) w.with_stream-all.ensures, described-count loop.all a.from loop.stream)), rw (w.all-is, w.with_stream-all.ensures) (by true (eq-eqb place known (omega (arith, w.if-place_of-known.true, e, long)))))
-    | else-place_of-known w ↦ (omega (arith, c.loop-stream-test.true), rw w.all-is (omega (arith, loop.invariant.1)), rw w.all-is (by false (ne_eqb place known (λ q. w.if-place_of-known.false (omega (arith, q, e, long))))))
+      | then-place_of-known w ↦ (omega (arith, c.loop-stream-test.true), rw w.all-is (omega (arith, loop.invariant.1, ap (λ (x : StreamsDescription). x.count) w.with_stream-all.ensures, described-count loop.all a.from loop.stream)), rw (w.all-is, w.with_stream-all.ensures) (by true (eq-eqb place known (omega (arith, w.if-place_of-known.true, e, long)))))
+      | else-place_of-known w ↦ (omega (arith, c.loop-stream-test.true), rw w.all-is (omega (arith, loop.invariant.1)), rw w.all-is (by false (ne_eqb place known (λ q. w.if-place_of-known.false (omega (arith, q, e, long))))))
     ]
 
 pub returns : goal.returns

@@ -15,22 +15,25 @@ pub overflow_sub-result : goal.overflow_sub-result
 overflow_sub-result c =
     let s = c in
     let near : nat_abs (s.args.high -ℤ s.args.low) < 1024 = elim c.if-low-lt9223372036854774784.branch [
-        then-low-lt9223372036854774784+else-low-high w ↦ near-left s.args.low s.args.high s.ranges.low s.ranges.high s.requires w.if-low-lt9223372036854774784.true w.if-low-high.false
-      | else-low-lt9223372036854774784 w ↦ near-right s.args.low s.args.high s.ranges.low s.ranges.high s.requires w.if-low-lt9223372036854774784.false ] in
+      | then-low-lt9223372036854774784+else-low-high w ↦ near-left s.args.low s.args.high s.ranges.low s.ranges.high s.requires w.if-low-lt9223372036854774784.true w.if-low-high.false
+      | else-low-lt9223372036854774784 w ↦ near-right s.args.low s.args.high s.ranges.low s.ranges.high s.requires w.if-low-lt9223372036854774784.false
+    ] in
     difference_fits s.args.low s.args.high s.ranges.low s.ranges.high s.requires near
 
 pub overflow_cast-result : goal.overflow_cast-result
 overflow_cast-result c =
     let s = c in
     let near : nat_abs (s.args.high -ℤ s.args.low) < 1024 = elim c.if-low-lt9223372036854774784.branch [
-        then-low-lt9223372036854774784+else-low-high w ↦ near-left s.args.low s.args.high s.ranges.low s.ranges.high s.requires w.if-low-lt9223372036854774784.true w.if-low-high.false
-      | else-low-lt9223372036854774784 w ↦ near-right s.args.low s.args.high s.ranges.low s.ranges.high s.requires w.if-low-lt9223372036854774784.false ] in
+      | then-low-lt9223372036854774784+else-low-high w ↦ near-left s.args.low s.args.high s.ranges.low s.ranges.high s.requires w.if-low-lt9223372036854774784.true w.if-low-high.false
+      | else-low-lt9223372036854774784 w ↦ near-right s.args.low s.args.high s.ranges.low s.ranges.high s.requires w.if-low-lt9223372036854774784.false
+    ] in
     difference_cast s.args.low s.args.high s.ranges.low s.ranges.high s.requires near
 
 pub returns : goal.returns
 returns c =
     let s = c in
     let near : nat_abs (s.args.high -ℤ s.args.low) < 1024 = elim c.if-low-lt9223372036854774784.branch [
-        then-low-lt9223372036854774784+else-low-high w ↦ near-left s.args.low s.args.high s.ranges.low s.ranges.high s.requires w.if-low-lt9223372036854774784.true w.if-low-high.false
-      | else-low-lt9223372036854774784 w ↦ near-right s.args.low s.args.high s.ranges.low s.ranges.high s.requires w.if-low-lt9223372036854774784.false ] in
+      | then-low-lt9223372036854774784+else-low-high w ↦ near-left s.args.low s.args.high s.ranges.low s.ranges.high s.requires w.if-low-lt9223372036854774784.true w.if-low-high.false
+      | else-low-lt9223372036854774784 w ↦ near-right s.args.low s.args.high s.ranges.low s.ranges.high s.requires w.if-low-lt9223372036854774784.false
+    ] in
     difference_cut s.args.low s.args.high s.ranges.low s.ranges.high s.requires near

@@ -12,6 +12,6 @@ returns c =
     let a = c.args in
     let at = a.count * 2 in
     elim c.if-count-lt1024.branch [
-      then-count-lt1024 w ↦ (refl, λ l. w.spans-is ∙ ap (λ k. set (set a.spans.now at a.start) k a.end) (add-one at))
-    | else-count-lt1024 w ↦ (refl, λ l. absurd (omega (arith, w.if-count-lt1024.false)))
+      | then-count-lt1024 w ↦ (refl, λ l. w.spans-is ∙ ap (λ k. set (set a.spans.now at a.start) k a.end) (add-one at))
+      | else-count-lt1024 w ↦ (refl, λ l. absurd (omega (arith, w.if-count-lt1024.false)))
     ]
