@@ -25,13 +25,8 @@ returns-then-not-can_be_counted c =
     let final-clear = c.clear_figures-2 in
     not-counted a.letters a.entries.now a.finals.now a.most (length a.figures.now) (length a.final_figures.now)
     (λ h.
-<<<<<<< HEAD
     let passed : IsWellFormed a.letters a.entries.now a.finals.now × (a.most < length clear.new.list) × (a.most < length final-clear.new.list) =
     (h.well_formed, omega (arith, h.fits, clear.auto.list), omega (arith, h.final_fits, final-clear.auto.list)) in
-=======
-    let passed : IsWellFormed a.letters a.entries.now a.finals.now × (a.most < length clear.new.0) × (a.most < length final-clear.new.0) =
-    (h.well_formed, omega (arith, h.fits, clear.auto.0), omega (arith, h.final_fits, final-clear.auto.0)) in
->>>>>>> 98c9e2e20f1483683f6bea89479ba2addad4fcdd
     says_no c.if-not-can_be_counted.true c.can_be_counted.ensures passed)
     clear.ensures final-clear.ensures
 
@@ -46,11 +41,7 @@ returns-then-are_bounded c =
     let formed : let a = c.args in IsWellFormed a.letters a.entries.now a.finals.now × (a.most < length a.figures.now) × (a.most < length a.final_figures.now) = (let a = c.args in
     let passed : IsWellFormed a.letters a.entries.now a.finals.now × (a.most < length c.clear_figures.new.list) × (a.most < length c.clear_figures-2.new.list) =
     says_yes c.if-not-can_be_counted.false c.can_be_counted.ensures in
-<<<<<<< HEAD
     (passed.0, omega (arith, passed.1, c.clear_figures.auto.list), omega (arith, passed.2, c.clear_figures-2.auto.list))) in
-=======
-    (passed.0, omega (arith, passed.1, c.clear_figures.auto.0), omega (arith, passed.2, c.clear_figures-2.auto.0))) in
->>>>>>> 98c9e2e20f1483683f6bea89479ba2addad4fcdd
     let a = c.args in
     let counted = c.count_rows.ensures in
     all-counted a.letters a.entries.now a.finals.now a.most (length a.figures.now) (length a.final_figures.now) c.clear_figures.ensures c.clear_figures-2.ensures
@@ -67,11 +58,7 @@ returns c =
     let formed : let a = c.args in IsWellFormed a.letters a.entries.now a.finals.now × (a.most < length a.figures.now) × (a.most < length a.final_figures.now) = (let a = c.args in
     let passed : IsWellFormed a.letters a.entries.now a.finals.now × (a.most < length c.clear_figures.new.list) × (a.most < length c.clear_figures-2.new.list) =
     says_yes c.if-not-can_be_counted.false c.can_be_counted.ensures in
-<<<<<<< HEAD
     (passed.0, omega (arith, passed.1, c.clear_figures.auto.list), omega (arith, passed.2, c.clear_figures-2.auto.list))) in
-=======
-    (passed.0, omega (arith, passed.1, c.clear_figures.auto.0), omega (arith, passed.2, c.clear_figures-2.auto.0))) in
->>>>>>> 98c9e2e20f1483683f6bea89479ba2addad4fcdd
     let a = c.args in
     let rows = c.count_rows in
     let clear = c.clear_figures in
