@@ -2,7 +2,7 @@
 -- of a token and of an integer at a place, and from the laws of stores in padded tables.
 use Prim.Native.Nat.{ℕ, suc, ◌+◌, ◌*◌, ◌-◌, ◌≤◌, ◌<◌}
 use mathlib.Core.Path.{◌≡◌, refl, sym, ap, ap₂, ◌∙◌}
-use mathlib.Core.Bool.{Bool, true, false, cond, ◌&&◌, ◌||◌, true≢false, or_false}
+use mathlib.Core.Bool.{Bool, true, false, cond, ◌&&◌, ◌||◌, true≢false, or-false}
 use mathlib.Core.List.{List, [], ◌∷◌, ◌++◌, map, append-nil, append_assoc, map-append}
 use mathlib.Core.Option.{Option, some, none}
 use native.Mathlib.Omega.{arith}
@@ -330,7 +330,7 @@ module _ {names lows highs : List ℕ} {name_at low_at high_at count : ℕ} {fau
                     from-tokens (name_token ∷ later_names) (low_token ∷ later_lows) (high_token ∷ later_highs) (token-tokens name_found a_name) (integer-tokens low_found low_is) (integer-tokens high_found high_is) (streams-more name_token low_token high_token later_names later_lows later_highs is_aname low_is high_is)
                     ∙ then_more (streams_from later_names later_lows later_highs) b stream;
                 number = omega arith;
-                fault = ef ∙ ap₂ (λ x y. x || y) k.fault (er ∙ range-fault ∙ sym (or_false (is_range_faulty stream))) ∙ sym (any_of-append is_range_faulty b (stream ∷ []));
+                fault = ef ∙ ap₂ (λ x y. x || y) k.fault (er ∙ range-fault ∙ sym (or-false (is_range_faulty stream))) ∙ sym (any_of-append is_range_faulty b (stream ∷ []));
                 stored =
                     ap₂ (λ x y. stream_tables x y new_lows new_highs) en ek
                     ∙ ap₂ (λ x y. stream_tables (sets tables.names (count * 8) name_token) (set tables.lengths count (length name_token)) x y) (el ∙ ap (set tables.lows count) (stored-value low_integer)) (eh ∙ ap (set tables.highs count) (stored-value high_integer))

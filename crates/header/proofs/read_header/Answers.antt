@@ -15,7 +15,7 @@ returns-then-token_count-gt8 c =
     }
 
 pub read_streams-streams-requires : goal.read_streams-streams-requires
-read_streams-streams-requires c = (omega (arith, c.if-token_count-gt8.false, c.token_count.ensures), refl)
+read_streams-streams-requires c = record { names_line_len_bound = omega (arith, c.if-token_count-gt8.false, c.token_count.ensures); highs_value = refl }
 
 pub read_kinds-said-requires : goal.read_kinds-said-requires
 read_kinds-said-requires c = (omega (arith, c.fewer.ensures), refl)

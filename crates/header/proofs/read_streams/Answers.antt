@@ -9,7 +9,7 @@ use Rattle.header.proofs.Streams.{sofar_start, all_true, lines_end, no_stream, c
 use Rattle.header.proofs.read_streams.Goals as goal
 
 pub loop-count-init : goal.loop-count-init
-loop-count-init c = sofar_start _ _ _ c.requires.0 c.requires.1
+loop-count-init c = sofar_start _ _ _ c.requires.names_line_len_bound c.requires.highs_value
 
 pub returns-then-name_start-name_end : goal.returns-then-name_start-name_end
 returns-then-name_start-name_end c = lines_end c.loop-count.invariant c.next_token-name.ensures c.next_token-low.ensures c.next_token-high.ensures c.if-name_start-name_end.true

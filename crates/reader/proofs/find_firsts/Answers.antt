@@ -17,19 +17,6 @@ put_first-requires c =
     let n = first-number start.args.kinds.now start.args.values.now loop.loop-i.first_nodes loop.loop-i.i start.requires.0 inside start.requires.2 c.if-kinds-i-eq-FIRST_NODE.true in
     (n.0, n.1, omega (arith, inside, start.requires.1))
 
-pub loop-i-preserved : goal.loop-i-preserved
-loop-i-preserved c =
-    let loop = c in
-    let start = loop in
-    let inside = c.loop-i-test.true in (
-      omega (arith, inside),
-      loop.loop-i.invariant.1
-          ∙ ⊎_elim
-          (λ w. first-here start.args.kinds.now start.args.values.now loop.loop-i.first_nodes loop.loop-i.i start.requires.0 inside start.requires.2 w.0.true (w.4 ∙ w.3.ensures))
-          (λ w. no_first_here start.args.kinds.now start.args.values.now loop.loop-i.first_nodes loop.loop-i.i start.requires.0 inside w.0.left w.1)
-          c.if-kinds-i-eq-FIRST_NODE.branch,
-    )
-
 pub returns : goal.returns
 returns c =
     let start = c in

@@ -9,15 +9,6 @@ returns-then-bytes_refused c = c.refused.ensures ∙ bytes-reading _ (sym c.byte
 pub returns-then-lines_refused : goal.returns-then-lines_refused
 returns-then-lines_refused c = c.refused-then-lines_refused.ensures ∙ lines-reading _ (sym c.bytes_refused.ensures ∙ c.if-bytes_refused.false) (sym c.lines_refused.ensures ∙ c.if-lines_refused.true)
 
-pub returns-then-not-header : goal.returns-then-not-header
-returns-then-not-header c =
-    let known : HeaderKnown c.args.text.now c.header_of-header.result = (record {
-      bytes = sym c.bytes_refused.ensures ∙ c.if-bytes_refused.false;
-      counted = sym c.lines_refused.ensures ∙ c.if-lines_refused.false;
-      places = c.header_of-header.ensures;
-    }) in
-    c.refused-then-not-header.ensures ∙ header_reading (known) c.if-not-header.true
-
 pub read_lines-requires : goal.read_lines-requires
 read_lines-requires c =
     let known : HeaderKnown c.args.text.now c.header_of-header.result = (record {
@@ -26,12 +17,3 @@ read_lines-requires c =
       places = c.header_of-header.ensures;
     }) in
     lines_few (known)
-
-pub returns : goal.returns
-returns c =
-    let known : HeaderKnown c.args.text.now c.header_of-header.result = (record {
-      bytes = sym c.bytes_refused.ensures ∙ c.if-bytes_refused.false;
-      counted = sym c.lines_refused.ensures ∙ c.if-lines_refused.false;
-      places = c.header_of-header.ensures;
-    }) in
-    c.read_lines.ensures ∙ whole_reading (known) c.if-not-header.false

@@ -19,17 +19,6 @@ slice_bounds-parse_constraint-start c = let w = line-within c.next_line-line.ens
 pub slice_bounds-parse_constraint-end : goal.slice_bounds-parse_constraint-end
 slice_bounds-parse_constraint-end c = let w = line-within c.next_line-line.ensures c.loop-at.invariant.within in let f = w.forward in let o = w.ordered in let i = w.within in omega arith
 
-pub returns-then-not-read : goal.returns-then-not-read
-returns-then-not-read c =
-    let line = c in
-    sofar_missing line.loop-at.invariant line.loop-at-test.true line.next_line-line.ensures (line-missing c.parse_constraint-read.ensures.1 (line-fits line.loop-at.invariant line.loop-at-test.true line.next_line-line.ensures) c.if-not-read.true) c.no_constraints_lem.ensures
-
-pub put_constraint-requires : goal.put_constraint-requires
-put_constraint-requires c =
-    let line = c in
-    let s = sides-low line.loop-at.invariant line.loop-at-test.true line.next_line-line.ensures (line_read c.parse_constraint-read.ensures.1 c.if-not-read.false) in
-    (count_low line.loop-at.invariant line.loop-at-test.true line.next_line-line.ensures, s.0, s.1)
-
 pub overflow_add-count : goal.overflow_add-count
 overflow_add-count c =
     let line = c in
@@ -51,12 +40,6 @@ loop-at-smaller c =
     let f = w.further line.loop-at-test.true in
     let i = w.within in
     omega arith
-
-pub loop-at-preserved : goal.loop-at-preserved
-loop-at-preserved c =
-    let line = c in
-    let put = c.put_constraint.ensures in
-    sofar_step line.loop-at.invariant line.loop-at-test.true line.next_line-line.ensures (line_read c.parse_constraint-read.ensures.1 c.if-not-read.false) put.0 put.1 put.2 c.until_count-untils.ensures c.either-beyond.ensures
 
 pub returns : goal.returns
 returns c = sofar_end c.loop-at.invariant c.loop-at-test.false
