@@ -1,7 +1,7 @@
 -- The keys of pairs of entries, and the row of a key: found, new, or without room. From the laws of chains.
 use Prim.Native.Nat.{ℕ, ◌+◌, ◌-◌, ◌*◌, ◌≤◌, ◌<◌}
 use native.Mathlib.Omega.{arith}
-use native.Mathlib.Nat.{mod-lt, not-suc-le-zero}
+use native.Mathlib.Nat.{not-suc-le-zero}
 use native.Mathlib.Decide.{dec_lt}
 use mathlib.Core.Path.{◌≡◌, refl, sym, ◌∙◌, ap}
 use mathlib.Core.Bool.{true, false, cond, ◌&&◌}
@@ -45,12 +45,6 @@ module _ (p q : ℕ) where
       by (yes h) (yes k) = (ap (λ b. b && ltb q most_rows) (lt-ltb p most_rows h) ∙ lt-ltb q most_rows k, key-of-both h k)
       by (yes h) (no k) = absurd (ne (key_no_right h (omega arith)))
       by (no h) k = absurd (ne (key_no_left (omega arith)))
-
--- ---- buckets
-
-pub bucket_below : (m key : ℕ) → 0 < m → pair_bucket m key < m
-unfolding pair_bucket
-bucket_below m key h = mod-lt _ h
 
 -- ---- the row of a key
 

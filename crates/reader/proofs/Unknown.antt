@@ -3,7 +3,7 @@
 -- from the definitions.
 use Prim.Native.Nat.{ℕ, suc, ◌+◌, ◌≤◌, ◌<◌}
 use mathlib.Core.Path.{◌≡◌, refl, sym, ap, ap₂, ◌∙◌}
-use mathlib.Core.Bool.{Bool, true, false, not, ◌&&◌, ◌||◌, or_assoc, or_false}
+use mathlib.Core.Bool.{Bool, true, false, not, ◌&&◌, ◌||◌, or_assoc, or-false}
 use mathlib.Core.List.{List, [], ◌∷◌, ◌++◌, map}
 use native.Mathlib.Omega.{arith}
 use native.Mathlib.Decide.{dec_lt}
@@ -96,7 +96,7 @@ module _ (k : ℕ) where
   unknown_last : (l : List Node) (j : ℕ) (v : ℤ) (s : ℕ) → 2 ≤ j → unknown_in (l ++ (node j v s ∷ [])) ≡ unknown_in l
   unknown_last l j v s h =
       unknown_append l (node j v s ∷ [])
-      ∙ ap (λ t. unknown_in l || (t && le_z (pos k) v || false)) (ne_eqb j 1 (λ e. omega arith)) ∙ or_false (unknown_in l)
+      ∙ ap (λ t. unknown_in l || (t && le_z (pos k) v || false)) (ne_eqb j 1 (λ e. omega arith)) ∙ or-false (unknown_in l)
 
   -- Two parts and the node behind them.
   unknown_pair : (l r : List Node) (j : ℕ) (v : ℤ) (s : ℕ) → 2 ≤ j → (a b : Expression) → unknown_in l ≡ not (names_below k a) → unknown_in r ≡ not (names_below k b)
@@ -106,7 +106,7 @@ module _ (k : ℕ) where
   unknown_postfix : (n f : ℕ) (e : Expression) → unknown_in (postfix n f e) ≡ not (names_below k e)
   unfolding postfix
   unknown_postfix n f (integer z) = refl
-  unknown_postfix n f (name j) = or_false (leb k j) ∙ leb_not_ltb j k
+  unknown_postfix n f (name j) = or-false (leb k j) ∙ leb_not_ltb j k
   unknown_postfix n f (first e) = unknown_last (postfix n (suc f) e) 2 (pos f) n (omega arith) ∙ unknown_postfix n (suc f) e
   unknown_postfix n f (next e) = unknown_last (postfix n f e) 3 (pos 0) n (omega arith) ∙ unknown_postfix n f e
   unknown_postfix n f (negation e) = unknown_last (postfix n f e) 4 (pos 0) n (omega arith) ∙ unknown_postfix n f e

@@ -3,7 +3,7 @@
 use Prim.Native.Nat.{ℕ, ◌+◌, ◌*◌, ◌/◌, ◌%◌, ◌≤◌, ◌<◌}
 use mathlib.Core.Path.{◌≡◌, sym, ◌∙◌, ap}
 use native.Mathlib.Omega.{arith}
-use lib.ListN.{length, length-set}
+use lib.ListN.{length, set, length-set}
 use Rattle.basics.specs.Lists.{at}
 use Rattle.basics.proofs.Lists.{row_fits}
 use Rattle.automaton.specs.WellFormed.{most_rows}
@@ -32,7 +32,7 @@ loop-a-preserved c =
     let s = c in
     let loop = c.loop-a in
     let long = lengths in
-    let stored : SameLengths _ _ _ _ _ _ _ _ = record { keys_long = long.keys_long; heads_long = long.heads_long; links_long = long.links_long; entries_long = length-set loop.entries (s.args.s * s.args.sizes.letters + loop.a) c.follow-row.result ∙ long.entries_long } in
+    let stored : SameLengths s.args.keys.now s.args.heads.now s.args.links.now s.args.entries.now c.follow-row.new.keys c.follow-row.new.heads c.follow-row.new.links (set loop.entries (s.args.s * s.args.sizes.letters + loop.a) c.follow-row.result) = record { keys_long = long.keys_long; heads_long = long.heads_long; links_long = long.links_long; entries_long = length-set loop.entries (s.args.s * s.args.sizes.letters + loop.a) c.follow-row.result ∙ long.entries_long } in
     let same = followed-row c.follow-row.ensures s.args.s loop.invariant.0 ∙ loop.invariant.4 in
     elim c.if-row-known.branch [
       | then-row-known+else-known-sizes w ↦ (rw w.known-is (omega (arith, loop.invariant.0)), omega (arith, c.loop-a-test.true), rw w.known-is (follow_new _ _ _ _ _ _ _ _ loop.invariant.2 loop.invariant.0 c.loop-a-test.true within s.requires.has_pair_room.few_rows (omega (arith, s.requires.has_pair_room.keys_room, loop.invariant.3.keys_long)) c.follow-row.result c.successor-next.result key_is c.follow-row.ensures w.if-row-known.true w.if-known-sizes.false), stored, same)

@@ -3,6 +3,7 @@ use Prim.Native.Nat.{◌-◌}
 use native.Mathlib.Omega.{arith}
 use mathlib.Core.Bool.{false}
 use lib.Dec.{eqb}
+use borrow.Author.Tests.{not-true, not-false}
 use Rattle.scan.proofs.Lines.{line-within}
 use Rattle.reader.proofs.Constraints.{at_most_one, line_read, line-missing, sofar_start, line-fits, count_low, sofar_missing, sides-low, sofar_step, sofar_end}
 use Rattle.reader.proofs.read_constraints.Goals as goal
@@ -43,3 +44,20 @@ loop-at-smaller c =
 
 pub returns : goal.returns
 returns c = sofar_end c.loop-at.invariant c.loop-at-test.false
+
+pub loop-at-preserved : goal.loop-at-preserved
+loop-at-preserved c =
+    let line = c in
+    let put = c.put_constraint.ensures in
+    sofar_step line.loop-at.invariant line.loop-at-test.true line.next_line-line.ensures (line_read c.parse_constraint-read.ensures.constraint_outcome (not-false _ c.if-not-read.false)) put.0 put.1 put.2 c.until_count-untils.ensures c.either-beyond.ensures
+
+pub put_constraint-requires : goal.put_constraint-requires
+put_constraint-requires c =
+    let line = c in
+    let s = sides-low line.loop-at.invariant line.loop-at-test.true line.next_line-line.ensures (line_read c.parse_constraint-read.ensures.constraint_outcome (not-false _ c.if-not-read.false)) in
+    (count_low line.loop-at.invariant line.loop-at-test.true line.next_line-line.ensures, s.0, s.1)
+
+pub returns-then-not-read : goal.returns-then-not-read
+returns-then-not-read c =
+    let line = c in
+    sofar_missing line.loop-at.invariant line.loop-at-test.true line.next_line-line.ensures (line-missing c.parse_constraint-read.ensures.constraint_outcome (line-fits line.loop-at.invariant line.loop-at-test.true line.next_line-line.ensures) (not-true _ c.if-not-read.true)) c.no_constraints.ensures

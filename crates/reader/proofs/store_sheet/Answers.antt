@@ -50,6 +50,9 @@ slice_bounds-test_stored-end-7 c = let z = sizes c.requires.held in sym (length-
 pub test_stored-told-requires : goal.test_stored-told-requires
 test_stored-told-requires c = stored-fits c.requires.held
 
+pub returns-then-told-ne0 : goal.returns-then-told-ne0
+returns-then-told-ne0 c = record { gives = λ s h. c.refused.ensures ∙ refused-reading h (told h c.either.ensures c.test_stored-told.ensures) c.if-told-ne0.true }
+
 pub slice_bounds-kinds-end-2 : goal.slice_bounds-kinds-end-2
 slice_bounds-kinds-end-2 c = let z = sizes c.requires.held in omega arith
 
@@ -61,3 +64,11 @@ slice_bounds-values-end-2 c = let z = sizes c.requires.held in omega arith
 
 pub slice_bounds-find_firsts-end-2 : goal.slice_bounds-find_firsts-end-2
 slice_bounds-find_firsts-end-2 c = let z = sizes c.requires.held in sym (length-take-le _ _ (omega arith))
+
+pub find_firsts-requires : goal.find_firsts-requires
+find_firsts-requires c =
+    let held = c.requires.held in
+    firsts-fit held (told held c.either.ensures c.test_stored-told.ensures) c.if-told-ne0.false
+
+pub returns : goal.returns
+returns c = record { gives = λ s h. sheet-reading h (told h c.either.ensures c.test_stored-told.ensures) c.if-told-ne0.false c.find_firsts.ensures }
