@@ -1,7 +1,6 @@
 -- What `record_counts` prints of figures (document 02, S-13: "For each n up to the one given [..] print a line with n, the figure, and how many of those
 -- records end in a final state").
-use Rattle.std.specs.Prelude.{ℕ, min, List, [], ◌∷◌, length, get_or}
-use Rattle.text.specs.Bytes.{Token}
+use Rattle.std.specs.Prelude.{ℕ, min, List, [], ◌∷◌, get_or}
 use Rattle.print.specs.Text.{digits, tokens_line}
 use Rattle.print.specs.Lines.{lines_from}
 use Rattle.figure_sums.specs.Sums.{highest_figure}

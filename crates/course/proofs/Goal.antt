@@ -1,7 +1,7 @@
 -- The least layer of a final row is the goal; where there is none, no final row is met. From the laws of the queue.
-use mathlib.Core.Path.{◌≡◌, refl, sym, ◌∙◌}
+use mathlib.Core.Path.{◌≡◌, sym, ◌∙◌}
 use mathlib.Core.Logic.{◌⊎◌, inl, inr, ◌≢◌}
-use Prim.Native.Nat.{ℕ, ◌+◌, ◌<◌, ◌≤◌}
+use Prim.Native.Nat.{ℕ, ◌<◌, ◌≤◌}
 use native.Mathlib.Omega.{arith}
 use Rattle.automaton.specs.WellFormed.{most_rows}
 use Rattle.automaton.specs.Layers.{IsGoal}

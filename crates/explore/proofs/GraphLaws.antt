@@ -19,7 +19,7 @@ use Rattle.meaning.specs.Letter.{letter_of, record_of, SolutionWord}
 use Rattle.meaning.specs.Evaluation.{all_done}
 use Rattle.meaning.proofs.SolutionRecords.{all_done-stays}
 use Rattle.outcome.proofs.SheetWords.{LawfulNumbers, DoneNumbers, AlikeNumbers, solution_prefixes, record_of_extend, situations_congruence}
-use Rattle.explore.specs.Rows.{is_lawful, situation_of, letter_numbers, ExploredRows}
+use Rattle.explore.specs.Rows.{situation_of, letter_numbers, ExploredRows}
 
 module _ (s : Sheet) where
   pub marks : Marks (letter_numbers s) (LawfulNumbers s) (situation_of s) (all_done s.constraints) (DoneNumbers s) (AlikeNumbers s)

@@ -1,6 +1,6 @@
 -- Keys of records of letters in range are equal exactly if their situations are, where a key has room for the letters and the firsts and the
 -- values of the firsts are none or within the magnitude bound. From the parts of a key, one by one.
-use Prim.Native.Nat.{ℕ, zero, suc, ◌+◌, ◌-◌, ◌≤◌, ◌<◌, min}
+use Prim.Native.Nat.{ℕ, zero, suc, ◌-◌, ◌≤◌, ◌<◌, min}
 use native.Mathlib.Omega.{arith}
 use native.Mathlib.Decide.{dec_le}
 use mathlib.Core.Path.{◌≡◌, refl, sym, ◌∙◌, ap, ap₂}

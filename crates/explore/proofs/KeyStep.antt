@@ -1,6 +1,6 @@
 -- One more letter after the key of a lawful record of an accepted sheet: what is judged of the stored constraints is whether the longer record
 -- is lawful, and its marks. From the values of the sides (StoredSides) and what one more letter judges of a record (meaning).
-use Prim.Native.Nat.{ℕ, suc, ◌+◌, ◌-◌, ◌≤◌, ◌<◌}
+use Prim.Native.Nat.{ℕ, suc, ◌-◌, ◌≤◌, ◌<◌}
 use native.Mathlib.Omega.{arith}
 use native.Mathlib.Decide.{dec_le}
 use mathlib.Core.Path.{◌≡◌, refl, sym, ◌∙◌, ap, ap₂}
@@ -69,7 +69,7 @@ no_marks s l h =
     ap (λ n. map (λ c. done (streams_of (record_of s.streams l)) c n) (all_untils s.constraints)) z
 
 module _ (s : Sheet) (accepted : Accepted s) (behind : List Node) (values : List ℤ) (has : HasLetters s values)
-    (r : List ℕ) (a : ℕ) (below : AllBelow (letter_numbers s) r) (here : a < letter_numbers s) (is_lawful : is_lawful s r ≡ true) where
+    (r : List ℕ) (a : ℕ) (below : AllBelow (letter_numbers s) r) (here : a < letter_numbers s) (kept : is_lawful s r ≡ true) where
   abbrev ss : List Stream
   ss = s.streams
 
@@ -100,7 +100,7 @@ module _ (s : Sheet) (accepted : Accepted s) (behind : List Node) (values : List
       let more = whole_record ++ (letter_of ss a ∷ []) in
       ap (lawful cs) snoc_record
       ∙ lawful-snoc cs whole_record (letter_of ss a) (omega (arith, record_long s r))
-      ∙ ap (λ b. b && all (λ c. permits (streams_of more) c (length whole_record - D cs)) cs) is_lawful
+      ∙ ap (λ b. b && all (λ c. permits (streams_of more) c (length whole_record - D cs)) cs) kept
       ∙ (λ i. all (λ c. permits (streams_of (sym snoc_record i)) c (record_long s r i - D cs)) cs)
 
   marks-before : until_marks cs (record_of ss r) ≡ marks_before

@@ -1,6 +1,6 @@
 -- The firsts of an accepted sheet: what each stands before has names of the sheet's streams and intervals within the bound, so its value in a
 -- record of letters in range is none or within the bound. From the intervals of subexpressions (meaning) and the bounds of an accepted sheet.
-use Prim.Native.Nat.{ℕ, ◌+◌, ◌<◌}
+use Prim.Native.Nat.{ℕ, ◌<◌}
 use native.Mathlib.Omega.{arith}
 use mathlib.Core.Path.{refl, subst}
 use mathlib.Core.List.{List, [], ◌∷◌, ◌++◌, map, Memᴰ}

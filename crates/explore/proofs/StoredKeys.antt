@@ -46,7 +46,7 @@ answer_ok false m = refl
 -- ---- one more letter
 
 module _ (s : Sheet) (accepted : Accepted s) (behind : List Node) (values : List ℤ) (has : HasLetters s values)
-    (r : List ℕ) (a : ℕ) (below : AllBelow (letter_numbers s) r) (here : a < letter_numbers s) (is_lawful : is_lawful s r ≡ true) where
+    (r : List ℕ) (a : ℕ) (below : AllBelow (letter_numbers s) r) (here : a < letter_numbers s) (kept : is_lawful s r ≡ true) where
   abbrev ss : List Stream
   ss = s.streams
 
@@ -75,12 +75,12 @@ module _ (s : Sheet) (accepted : Accepted s) (behind : List Node) (values : List
   numbers = firsts_in (length (all_first_places 0 cs)) key
 
   pub key-allows : (judged_after K key a).ok ≡ is_lawful s more
-  key-allows = ap (λ x. x.ok) (judged-after s accepted behind values has r a below here is_lawful) ∙ answer_ok (is_lawful s more) (marks_number (until_marks cs longer))
+  key-allows = ap (λ x. x.ok) (judged-after s accepted behind values has r a below here kept) ∙ answer_ok (is_lawful s more) (marks_number (until_marks cs longer))
 
   module _ (more-lawful : is_lawful s more ≡ true) where
     new-marks : (judged_after K key a).marks ≡ marks_number (until_marks cs longer)
     new-marks =
-        ap (λ x. x.marks) (judged-after s accepted behind values has r a below here is_lawful)
+        ap (λ x. x.marks) (judged-after s accepted behind values has r a below here kept)
         ∙ ap (λ b. (cond b (lawful_with (marks_number (until_marks cs longer))) unlawful).marks) more-lawful
 
     -- The new key, from its letters and the numbers of its firsts.

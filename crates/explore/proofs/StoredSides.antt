@@ -29,7 +29,7 @@ use Rattle.meaning.proofs.Lawful.{append-begins, first_values-begins}
 use Rattle.sheet.specs.Accepted.{Accepted}
 use Rattle.nodes.specs.Bounded.{value_in}
 use Rattle.nodes.specs.Code.{relation_code}
-use Rattle.nodes.specs.Postfix.{Node, StoredConstraint, all_nodes, stored_constraints}
+use Rattle.nodes.specs.Postfix.{side_nodes, Node, StoredConstraint, all_nodes, stored_constraints}
 use Rattle.nodes.specs.Evaluate.{Nodes, nodes_of, View, view, node_value}
 use Rattle.nodes.proofs.Postfix.{firsts_before, stored-length}
 use Rattle.nodes.proofs.Accepted.{FirstsWithin, IsSide, left_of, right_of, accepted_value, accepted_window_value}
@@ -105,7 +105,7 @@ side_looks cs (right_of j b) =
 pub stored-relations : (n f : ℕ) (cs : List Constraint) → map (λ (t : StoredConstraint). t.relation) (stored_constraints n f cs) ≡ map relation_code cs
 unfolding stored_constraints
 stored-relations n f [] = refl
-stored-relations n f (c ∷ cs) = ap (relation_code c ∷◌) (stored-relations _ _ cs)
+stored-relations n f (c ∷ cs) = ap (relation_code c ∷◌) (stored-relations (n + length (side_nodes n f c)) (f + length (side_firsts c)) cs)
 
 -- What holds of a constraint by its number holds of all in a row.
 reads_all : (relations lefts rights : List ℕ) (val : ℕ → Value) (left right : Constraint → Value) (cs : List Constraint) (n : ℕ)

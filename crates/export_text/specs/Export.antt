@@ -1,5 +1,5 @@
 -- The C header that `export` prints of a table (docs/exports.md gives it by an example).
-use Rattle.std.specs.Prelude.{ℕ, ◌*◌, List, [], ◌∷◌, ◌++◌, ℤ, length, take, drop}
+use Rattle.std.specs.Prelude.{ℕ, ◌*◌, List, ◌++◌, ℤ, length, take, drop}
 use Rattle.meaning.specs.Window.{join_over}
 use Rattle.text.specs.Bytes.{Token, bytes_of}
 use Rattle.stored.specs.Number.{table_bytes}

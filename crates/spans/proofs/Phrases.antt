@@ -8,8 +8,6 @@ use mathlib.Core.Option.{some, none, none-ne-some}
 use lib.ListN.{length, length-append}
 use Rattle.text.specs.Bytes.{Token, bytes_of}
 use Rattle.text.specs.Token.{same_bytes}
-use Rattle.meaning.specs.Value.{less}
-use Rattle.meaning.specs.Arithmetic.{and}
 use Rattle.sheet.specs.Vocabulary.{Infix, operator_tokens, operator_of, Prefix, prefix_of}
 use Rattle.scan.specs.declared.Span.{Span}
 use Rattle.scan.specs.Place.{TokenAt, no_token, a_token}

@@ -1,5 +1,4 @@
 -- `carry::carry_rows` meets its contract: before each row the turn of the queue holds, or some row has no state (`RowsTurn`).
-use Prim.Native.Nat.{◌-◌}
 use mathlib.Core.Path.{refl, sym, ◌∙◌}
 use native.Mathlib.Omega.{arith}
 use lib.ListN.{length, set, length-set}

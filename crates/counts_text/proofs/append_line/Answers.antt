@@ -27,7 +27,7 @@ numbers_line-requires c = tt
 pub overflow_add-result : goal.overflow_add-result
 overflow_add-result c =
     let a = c.args in
-    omega (arith, reached c.numbers_line.ensures, c.numbers_line.auto.1.0, mid_len a.at (length a.out.now) a.out.now (omega arith), c.if-out-at.false)
+    omega (arith, reached c.numbers_line.ensures, c.numbers_line.auto.out, mid_len a.at (length a.out.now) a.out.now (omega arith), c.if-out-at.false)
 
 pub returns : goal.returns
 returns c =

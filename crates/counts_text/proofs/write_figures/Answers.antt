@@ -1,5 +1,5 @@
 -- `counts_text::write_figures` meets its contract: before each turn the lines before it are written (Lines).
-use Prim.Native.Nat.{◌-◌, min}
+use Prim.Native.Nat.{min}
 use native.Mathlib.Omega.{arith}
 use mathlib.Core.Path.{◌≡◌, ap}
 use lib.ListN.{length}

@@ -1,6 +1,6 @@
 -- `course::find_costs` meets its contract: the costs of the rows from the place `left` of the queue on are right (`KnownFrom`).
 use mathlib.Core.Path.{◌≡◌}
-use Prim.Native.Nat.{◌≤◌, ◌-◌}
+use Prim.Native.Nat.{◌≤◌}
 use lib.ListN.{length}
 use Rattle.basics.specs.Lists.{at}
 use Rattle.changes.specs.Axes.{axes_in}

@@ -1,5 +1,5 @@
 -- `course::follow` meets its contract: before each turn the letters so far are written (`Following`).
-use mathlib.Core.Path.{◌≡◌, ap}
+use mathlib.Core.Path.{◌≡◌}
 use Prim.Native.Nat.{◌≤◌, ◌-◌}
 use lib.ListN.{length}
 use Rattle.changes.specs.Axes.{axes_in}

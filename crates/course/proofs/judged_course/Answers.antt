@@ -4,7 +4,6 @@ use mathlib.Core.Path.{sym, ap, ◌∙◌}
 use Prim.Native.Nat.{◌<◌, ◌≤◌}
 use native.Mathlib.Omega.{arith}
 use lib.ListN.{length, replicate}
-use borrow.Author.Tests.{not-true, not-false}
 use Rattle.basics.proofs.Answers.{says_yes, says_no}
 use Rattle.automaton.specs.WellFormed.{most_rows}
 use Rattle.changes.proofs.Streams.{shape_letters}

@@ -1,6 +1,5 @@
 -- `course::meet_rows` meets its contract: before each row the turn of the queue holds (`RowsTurn`).
 use mathlib.Core.Path.{sym, ◌∙◌}
-use Prim.Native.Nat.{◌-◌}
 use native.Mathlib.Omega.{arith}
 use lib.ListN.{length, set, length-set}
 use Rattle.automaton.specs.WellFormed.{WholeTable}

@@ -1,9 +1,8 @@
 -- `every_mark` meets its contract: before each turn the relations still to be looked at, after the marks so far, give the whole number.
-use Prim.Native.Nat.{◌-◌}
 use native.Mathlib.Omega.{arith}
-use mathlib.Core.Logic.{⊎_elim}
 use Rattle.explore.proofs.SearchLaws.{counted_start, marks-small, counted-until, counted-sign, counted-fits, counted-end}
 use Rattle.explore.proofs.every_mark.Goals as goal
+use Rattle.explore.proofs.every_mark.Goals.{then-relations-j-eq-UNTIL_RELATION, else-relations-j-eq-UNTIL_RELATION}
 
 pub loop-j-init : goal.loop-j-init
 loop-j-init c = counted_start _
@@ -18,7 +17,10 @@ pub loop-j-preserved : goal.loop-j-preserved
 loop-j-preserved c =
     let at-loop = c in
     let more = c.loop-j-test.true in
-    ⊎_elim (λ w. rw w.1 (counted-until _ _ _ more at-loop.loop-j.invariant w.0.true)) (λ w. rw w.1 (counted-sign _ _ _ more at-loop.loop-j.invariant w.0.left)) c.if-relations-j-eq-UNTIL_RELATION.branch
+    elim c.if-relations-j-eq-UNTIL_RELATION.branch [
+      | then-relations-j-eq-UNTIL_RELATION w ↦ rw w.marks-is (counted-until _ _ _ more at-loop.loop-j.invariant w.if-relations-j-eq-UNTIL_RELATION.true)
+      | else-relations-j-eq-UNTIL_RELATION w ↦ rw w.marks-is (counted-sign _ _ _ more at-loop.loop-j.invariant w.if-relations-j-eq-UNTIL_RELATION.false)
+    ]
 
 pub overflow_cast-result : goal.overflow_cast-result
 overflow_cast-result c = record { fits = counted-fits _ _ _ c.requires c.loop-j.invariant }

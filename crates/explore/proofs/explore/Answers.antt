@@ -2,7 +2,6 @@
 -- first row, and the search goes on from it.
 use mathlib.Core.Path.{refl, ◌∙◌}
 use native.Mathlib.Omega.{arith}
-use borrow.Author.Tests.{not-true, not-false}
 use Rattle.basics.proofs.Answers.{says_yes, says_no}
 use Rattle.extend.specs.Step.{Store, store_of, IsReady}
 use Rattle.explore.specs.Search.{IsLent}
@@ -21,31 +20,31 @@ pub every_mark-every-requires : goal.every_mark-every-requires
 every_mark-every-requires c =
     let store : Store = (let a = c.args in
     store_of a.kinds.now a.values.now a.starts.now a.relations.now a.lefts.now a.rights.now a.first_nodes.now a.letter_values.now a.streams a.ahead a.width) in
-    let keeps-bounds : IsReady (store) = sizes-ready (says_yes c.if-not-is_ready.false c.is_ready.ensures) in
-    (keeps-bounds).few_constraints
+    let keeps-bounds : IsReady store = sizes-ready (says_yes c.if-not-is_ready.false c.is_ready.ensures) in
+    keeps-bounds.few_constraints
 
 pub settle-requires : goal.settle-requires
 settle-requires c =
     let store : Store = (let a = c.args in
     store_of a.kinds.now a.values.now a.starts.now a.relations.now a.lefts.now a.rights.now a.first_nodes.now a.letter_values.now a.streams a.ahead a.width) in
-    let lent : let a = c.args in IsLent (store) a.letters a.limit a.keys.now a.heads.now a.links.now a.entries.now a.flags.now = sizes-lent-tables _ _ _ _ (says_yes c.if-not-is_lent.false c.is_lent.ensures) in
+    let lent : let a = c.args in IsLent store a.letters a.limit a.keys.now a.heads.now a.links.now a.entries.now a.flags.now = sizes-lent-tables _ _ _ _ (says_yes c.if-not-is_lent.false c.is_lent.ensures) in
     let tested = c in
     let l = lent in
-    (cleared-chained c.args.heads.now _ _ _ (omega (arith, l.some_row, l.heads_room)) c.fill.ensures, (refl, l.few_rows, l.links_room, l.keys_room, l.flags_room))
+    record { key_tables = cleared-chained c.args.heads.now _ _ _ (omega (arith, l.some_row, l.heads_room)) c.fill.ensures; key_len = (refl, l.few_rows, l.links_room, l.keys_room, l.flags_room) }
 
 pub search-found-requires : goal.search-found-requires
 search-found-requires c =
     let store : Store = (let a = c.args in
     store_of a.kinds.now a.values.now a.starts.now a.relations.now a.lefts.now a.rights.now a.first_nodes.now a.letter_values.now a.streams a.ahead a.width) in
-    let keeps-bounds : IsReady (store) = sizes-ready (says_yes c.if-not-is_ready.false c.is_ready.ensures) in
-    let lent : let a = c.args in IsLent (store) a.letters a.limit a.keys.now a.heads.now a.links.now a.entries.now a.flags.now = sizes-lent-tables _ _ _ _ (says_yes c.if-not-is_lent.false c.is_lent.ensures) in
+    let keeps-bounds : IsReady store = sizes-ready (says_yes c.if-not-is_ready.false c.is_ready.ensures) in
+    let lent : let a = c.args in IsLent store a.letters a.limit a.keys.now a.heads.now a.links.now a.entries.now a.flags.now = sizes-lent-tables _ _ _ _ (says_yes c.if-not-is_lent.false c.is_lent.ensures) in
     let tested = c in
     let l = lent in
     let settle = c.settle in
     let begun = settled-start l.some_row l.flags_room settle.ensures in
     record {
       ready = keeps-bounds;
-      lent = sizes-lent (record { keys_long = settle.auto.1.1.0; heads_long = settle.auto.0 ∙ c.fill.auto.0; links_long = settle.auto.1.0; entries_long = refl; flags_long = settle.auto.1.1.1.0 }) l;
+      lent = sizes-lent (record { keys_long = settle.auto.keys; heads_long = settle.auto.heads ∙ c.fill.auto.list; links_long = settle.auto.links; entries_long = refl; flags_long = settle.auto.flags }) l;
       tables = begun.0;
       known = begun.1;
     }
@@ -54,9 +53,9 @@ pub returns : goal.returns
 returns c =
     let store : Store = (let a = c.args in
     store_of a.kinds.now a.values.now a.starts.now a.relations.now a.lefts.now a.rights.now a.first_nodes.now a.letter_values.now a.streams a.ahead a.width) in
-    let lent : let a = c.args in IsLent (store) a.letters a.limit a.keys.now a.heads.now a.links.now a.entries.now a.flags.now = sizes-lent-tables _ _ _ _ (says_yes c.if-not-is_lent.false c.is_lent.ensures) in
+    let lent : let a = c.args in IsLent store a.letters a.limit a.keys.now a.heads.now a.links.now a.entries.now a.flags.now = sizes-lent-tables _ _ _ _ (says_yes c.if-not-is_lent.false c.is_lent.ensures) in
     let tested = c in
     let search = c.search-found in
     let settle = c.settle in
-    ready _ _ _ _ (says_yes (not-false tested.is_ready.result tested.if-not-is_ready.false) tested.is_ready.ensures) (says_yes (not-false tested.is_lent.result tested.if-not-is_lent.false) tested.is_lent.ensures) (searched-every c.every_mark-every.ensures search.ensures.0)
-    (λ e. settled-behind (lent).some_row search.ensures.0.searched.known.some_row settle.auto.1.1.1.0 settle.ensures (search.ensures.1 e))
+    ready _ _ _ _ (says_yes tested.if-not-is_ready.false tested.is_ready.ensures) (says_yes tested.if-not-is_lent.false tested.is_lent.ensures) (searched-every c.every_mark-every.ensures search.ensures.searched)
+    (λ e. settled-behind lent.some_row search.ensures.searched.searched.known.some_row settle.auto.flags settle.ensures (search.ensures.kept_behind e))

@@ -7,5 +7,5 @@ use Rattle.explore.proofs.explore_stored.Goals as goal
 pub returns : goal.returns
 returns c =
     let explore = c.explore-found in
-    explored-stored explore.ensures explore.auto.1.1.1.1.1.1.1.1.1.1.1.1.1.1.1.1.0 explore.auto.1.1.1.1.1.1.1.1.1.1.1.1.1.1.1.1.1.0 c.discard.ensures
-    (record { keys_zero = zeroed c.fill.ensures explore.auto.1.1.1.1.1.1.1.1.1.1.1.1.1.0; heads_zero = zeroed c.fill-2.ensures explore.auto.1.1.1.1.1.1.1.1.1.1.1.1.1.1.0; links_zero = zeroed c.fill-3.ensures explore.auto.1.1.1.1.1.1.1.1.1.1.1.1.1.1.1.0 })
+    explored-stored explore.ensures explore.auto.entries explore.auto.flags c.discard.ensures
+    (record { keys_zero = zeroed c.fill.ensures explore.auto.keys; heads_zero = zeroed c.fill-2.ensures explore.auto.heads; links_zero = zeroed c.fill-3.ensures explore.auto.links })

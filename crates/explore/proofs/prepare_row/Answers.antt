@@ -12,5 +12,5 @@ returns c =
     let a = start.args in
     let prepare = c.prepare in
     let is = row-part a.keys.now a.s in
-    subst (λ k. Prepared a.letter_values.now a.dimensions.streams a.dimensions.width a.count k prepare.new.1.1.1.1.0) is
+    subst (λ k. Prepared a.letter_values.now a.dimensions.streams a.dimensions.width a.count k prepare.new.prepared) is
     (prepares_prepared prepare.ensures (subst (λ k. IsPreparable (length a.letter_values.now) a.dimensions.streams a.dimensions.width a.count k (length a.prepared.now)) (sym is) start.requires.0))

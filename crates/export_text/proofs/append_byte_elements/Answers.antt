@@ -1,8 +1,6 @@
 -- `export_text::append_byte_elements` meets its contract: after i turns the first i bytes are appended as elements.
-use Prim.Native.Nat.{◌-◌}
 use native.Mathlib.Omega.{arith}
 use mathlib.Core.Path.{ap}
-use lib.ListN.{take}
 use lib.Seq.{take_all}
 use Rattle.print.specs.Text.{digits}
 use Rattle.print.proofs.Append.{appends_nothing, appends_then, appends_same}

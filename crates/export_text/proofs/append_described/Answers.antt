@@ -18,7 +18,7 @@ slice_bounds-lows-end c =
     omega (arith, c.fewer-count.ensures, lows-long)
 
 pub slice_bounds-append_streams-end-3 : goal.slice_bounds-append_streams-end-3
-slice_bounds-append_streams-end-3 c = sym (length-take-le _ _ (array-share-prefix-lows c))
+slice_bounds-append_streams-end-3 c = sym (length-take-le _ _ (let lows-long : length c.args.streams.lows ≡ 8 = search rules in omega (arith, c.fewer-count.ensures, lows-long)))
 
 pub slice_bounds-highs-end : goal.slice_bounds-highs-end
 slice_bounds-highs-end c =
@@ -26,7 +26,7 @@ slice_bounds-highs-end c =
     omega (arith, c.fewer-count.ensures, highs-long)
 
 pub slice_bounds-append_streams-end-4 : goal.slice_bounds-append_streams-end-4
-slice_bounds-append_streams-end-4 c = sym (length-take-le _ _ (array-share-prefix-highs c))
+slice_bounds-append_streams-end-4 c = sym (length-take-le _ _ (let highs-long : length c.args.streams.highs ≡ 8 = search rules in omega (arith, c.fewer-count.ensures, highs-long)))
 
 pub slice_bounds-kinds-end : goal.slice_bounds-kinds-end
 slice_bounds-kinds-end c =
@@ -34,7 +34,7 @@ slice_bounds-kinds-end c =
     omega (arith, c.fewer-count.ensures, kinds-long)
 
 pub slice_bounds-append_streams-end-5 : goal.slice_bounds-append_streams-end-5
-slice_bounds-append_streams-end-5 c = sym (length-take-le _ _ (array-share-prefix-kinds c))
+slice_bounds-append_streams-end-5 c = sym (length-take-le _ _ (let kinds-long : length c.args.streams.kinds ≡ 8 = search rules in omega (arith, c.fewer-count.ensures, kinds-long)))
 
 pub append_streams-requires : goal.append_streams-requires
 append_streams-requires c = tt

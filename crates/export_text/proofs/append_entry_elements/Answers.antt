@@ -1,8 +1,6 @@
 -- `export_text::append_entry_elements` meets its contract: after i turns the bytes of the first i entries are appended as elements.
-use Prim.Native.Nat.{◌-◌}
 use native.Mathlib.Omega.{arith}
 use mathlib.Core.Path.{ap}
-use lib.ListN.{take}
 use lib.Seq.{take_all}
 use Rattle.stored.specs.Number.{table_bytes}
 use Rattle.step.specs.Step.{entry_width}

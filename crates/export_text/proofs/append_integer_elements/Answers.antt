@@ -1,9 +1,9 @@
 -- `export_text::append_integer_elements` meets its contract: after i turns the first i values are appended as elements.
-use Prim.Native.Nat.{◌<◌, ◌-◌}
+use Prim.Native.Nat.{◌<◌}
 use native.Mathlib.Omega.{arith}
 use mathlib.Core.Path.{ap}
 use lib.IntN.{pos}
-use lib.ListN.{length, get_or, take}
+use lib.ListN.{length, get_or}
 use lib.Seq.{take_all}
 use mir.Syntax.{w64}
 use mir.ValLaws.{to_z-of_z}

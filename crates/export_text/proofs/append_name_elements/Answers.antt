@@ -1,5 +1,4 @@
 -- `export_text::append_name_elements` meets its contract: after i turns the first i names are appended as elements.
-use Prim.Native.Nat.{◌-◌}
 use native.Mathlib.Omega.{arith}
 use mathlib.Core.Path.{◌∙◌, ap}
 use Rattle.print.specs.Lines.{stored_names}

@@ -1,5 +1,5 @@
 -- `export_text::append_rows` meets its contract: before each turn the rows of the states before it are appended, and `start` is where the next row begins.
-use Prim.Native.Nat.{◌+◌, ◌-◌}
+use Prim.Native.Nat.{◌+◌}
 use native.Mathlib.Omega.{arith}
 use mathlib.Core.Path.{ap, ◌∙◌}
 use mathlib.Core.List.{◌++◌}

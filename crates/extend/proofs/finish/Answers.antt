@@ -27,25 +27,25 @@ returns-then-not-judged c =
     c.judge_letter-judged.ensures ∙ ap (λ n. judged_in (store) (view a.window.now a.dimensions.streams a.firsts.now (leb a.size a.dimensions.width)) n a.marks) e) in
     let at = c in
     record {
-      answer = sym c.if-not-judged.true ∙ ap (λ j. j.ok) (judged-is);
+      answer = sym (not-true _ c.if-not-judged.true) ∙ ap (λ j. j.ok) (judged-is);
       new = λ e. not-both e;
       kept = λ e. refl;
     }
 
 pub overflow_cast-count : goal.overflow_cast-count
 overflow_cast-count c =
-    let few : length c.args.letters.now ≤ window_bound = omega (arith, c.requires.0.few_letters, c.requires.1.0) in
+    let few : length c.args.letters.now ≤ window_bound = omega (arith, c.requires.ready.few_letters, c.requires.letters_len_bound.0) in
     omega (arith, few)
 
 pub offset_bounds-letters-from : goal.offset_bounds-letters-from
 offset_bounds-letters-from c =
-    let few : length c.args.letters.now ≤ window_bound = omega (arith, c.requires.0.few_letters, c.requires.1.0) in
+    let few : length c.args.letters.now ≤ window_bound = omega (arith, c.requires.ready.few_letters, c.requires.letters_len_bound.0) in
     omega (arith, few)
 
 pub slice_bounds-write_key-end-2 : goal.slice_bounds-write_key-end-2
 slice_bounds-write_key-end-2 c =
     let after = c.firsts_after-filled in
-    sym (length-take-le after.result after.new.1.1.1.1.1.1.1.1.1.1.1.0 (omega (arith, after.ensures.1, after.auto.1.1.1.1.1.1.1.1.1.1.1.0)))
+    sym (length-take-le after.result after.new.numbers (omega (arith, after.ensures.upper_bound, after.auto.numbers)))
 
 pub write_key-requires : goal.write_key-requires
 write_key-requires c =
@@ -55,11 +55,11 @@ write_key-requires c =
     let from = c.fewer-from in
     let letters = start.args.letters.now in
     let width = start.args.dimensions.width in (
-      start.pre.1.2,
-      omega (arith, kept.ensures, start.pre.0.few_letters),
-      omega (arith, length-take after.result after.new.1.1.1.1.1.1.1.1.1.1.1.0, after.ensures.1),
-      some-kept letters start.args.letter width kept.result from.result start.pre.1.0 kept.ensures from.ensures,
-      none_kept letters start.args.letter width kept.result from.result start.pre.1.0 kept.ensures from.ensures,
+      c.requires.letters_len_bound.2,
+      omega (arith, kept.ensures, c.requires.ready.few_letters),
+      omega (arith, length-take after.result after.new.numbers, after.ensures.upper_bound),
+      some-kept letters start.args.letter width kept.result from.result c.requires.letters_len_bound.0 kept.ensures from.ensures,
+      none_kept letters start.args.letter width kept.result from.result c.requires.letters_len_bound.0 kept.ensures from.ensures,
     )
 
 pub returns : goal.returns
@@ -78,9 +78,9 @@ returns c =
     let judged = judged-is in
     let kept = c.fewer-kept in
     let from = c.fewer-from in
-    let letters = last-letters args.letters.now args.letter args.dimensions.width kept.result from.result start.pre.1.0 kept.ensures from.ensures in
+    let letters = last-letters args.letters.now args.letter args.dimensions.width kept.result from.result c.requires.letters_len_bound.0 kept.ensures from.ensures in
     record {
-      answer = sym c.if-not-judged.false ∙ ap (λ j. j.ok) judged;
-      new = λ e. c.write_key.ensures ∙ (λ i. encoded_key (sym (all-long start) i) (letters i) (c.firsts_after-filled.ensures.0 i) (judged i).marks);
+      answer = sym (not-false _ c.if-not-judged.false) ∙ ap (λ j. j.ok) judged;
+      new = λ e. c.write_key.ensures ∙ (λ i. encoded_key (sym all-long i) (letters i) (c.firsts_after-filled.ensures.numbers_after i) (judged i).marks);
       kept = λ e. not-both (sym e);
     }

@@ -1,5 +1,4 @@
 -- `given_tables::same_streams` meets its contract: before each turn the streams before the place are the same (Streams).
-use Prim.Native.Nat.{◌-◌}
 use native.Mathlib.Omega.{arith}
 use borrow.Author.Count.{below_more}
 use borrow.Author.Rules.{rules}

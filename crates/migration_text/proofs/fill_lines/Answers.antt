@@ -1,5 +1,5 @@
 -- `migration_text::fill_lines` meets its contract: before each line those of the states so far stand there (Text).
-use Prim.Native.Nat.{◌-◌, ◌<◌}
+use Prim.Native.Nat.{◌<◌}
 use native.Mathlib.Omega.{arith}
 use lib.ListN.{get_or}
 use Rattle.migration_text.proofs.Text.{writing_start, writing_long, writing_inside, line-inside, writing_next, writing_end}

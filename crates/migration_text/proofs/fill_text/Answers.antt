@@ -19,7 +19,7 @@ fill_lines-requires c =
     let text = c.text-start in
     let count = c.fewer-count in (
       omega (arith, length-take-le count.result start.args.states.now (omega (arith, count.ensures)), count.ensures),
-      text.auto.1.0 ∙ start.requires,
+      text.auto.out ∙ start.requires,
       omega (arith, (text.ensures.written (omega (arith, start.requires))).1),
     )
 
@@ -29,5 +29,5 @@ returns c =
     let states = start.args.states.now in
     let count = c.fewer-count in
     let lines = c.fill_lines in
-    subst (λ l. Writes (migration_output start.args.refusal l) start.args.out.now lines.new.1.1.0 lines.result) (ap (λ n. take n states) count.ensures ∙ take-fewer most_states states)
+    subst (λ l. Writes (migration_output start.args.refusal l) start.args.out.now lines.new.out lines.result) (ap (λ n. take n states) count.ensures ∙ take-fewer most_states states)
     (given_writes (take count.result states) start.requires c.if-refusal-ne0.false c.text-start.ensures lines.ensures.0 lines.ensures.1)

@@ -1,5 +1,4 @@
 -- `normal_entries::put_spans` meets its contract. The invariant: the first i of the spans' numbers are stored.
-use Prim.Native.Nat.{◌-◌}
 use native.Mathlib.Omega.{arith}
 use mathlib.Core.Path.{refl}
 use Rattle.normal_entries.proofs.Entries.{spans-begin, spans-more, spans-whole}

@@ -1,8 +1,6 @@
 -- `play_text::fill_page` meets its contract: before each turn the bytes hold the lines from `from` to before the place (pages, Lines).
-use Prim.Native.Nat.{◌-◌}
 use native.Mathlib.Omega.{arith}
 use mathlib.Core.Path.{refl, sym, ◌∙◌}
-use lib.ListN.{length}
 use lib.Seq.{length-take-le}
 use Rattle.pages.proofs.Lines.{no_lines, same-room, copied-line, page_full, page_last}
 use Rattle.pages.proofs.Placed.{placed-text}
@@ -27,10 +25,10 @@ pub fewer-requires : goal.fewer-requires
 fewer-requires c = tt
 
 pub slice_bounds-line-end : goal.slice_bounds-line-end
-slice_bounds-line-end c = omega (arith, c.line_at_lem.auto.1.1.1.1.1.1.1.1.1.1.1.0, c.loop-place.invariant.1, c.fewer.ensures, c.if-fewer-length.false)
+slice_bounds-line-end c = omega (arith, c.line_at-length.auto.line, c.loop-place.invariant.1, c.fewer.ensures, c.if-fewer-length.false)
 
 pub slice_bounds-text-end : goal.slice_bounds-text-end
-slice_bounds-text-end c = sym (length-take-le _ _ (array-share-prefix-line c))
+slice_bounds-text-end c = sym (length-take-le _ _ (omega (arith, c.line_at-length.auto.line, c.loop-place.invariant.1, c.fewer.ensures, c.if-fewer-length.false)))
 
 pub slice_bounds-text-count : goal.slice_bounds-text-count
 slice_bounds-text-count c = let t = c.loop-place.invariant.0 in omega (arith, same-room _ t, t.room)
@@ -55,11 +53,11 @@ loop-place-smaller c = omega (arith, c.loop-place-test.true)
 pub loop-place-preserved : goal.loop-place-preserved
 loop-place-preserved c =
     let t = c.loop-place.invariant in
-    let placed = placed-text c.loop-place.out c.loop-place.size c.text.ensures (omega (arith, slice-aggregate-text c, same-room _ t.0, t.0.room, c.fewer.ensures, c.if-fewer-length.false)) in
-    (copied-line _ t.0 c.line_at_lem.ensures c.fewer.ensures c.loop-place-test.true c.if-fewer-length.false placed, c.line_at_lem.auto.1.1.1.1.1.1.1.1.1.1.1.0 ∙ t.1)
+    let placed = placed-text c.loop-place.out c.loop-place.size c.text.ensures (omega (arith, length-take-le c.line_at-length.result c.line_at-length.new.line (omega (arith, c.line_at-length.auto.line, c.loop-place.invariant.1, c.fewer.ensures, c.if-fewer-length.false)), same-room _ t.0, t.0.room, c.fewer.ensures, c.if-fewer-length.false)) in
+    (copied-line _ t.0 c.line_at-length.ensures c.fewer.ensures c.loop-place-test.true c.if-fewer-length.false placed, c.line_at-length.auto.line ∙ t.1)
 
 pub returns-after-loop-place : goal.returns-after-loop-place
 returns-after-loop-place c = page_last _ c.loop-place.invariant.0 c.place_count-count.ensures c.loop-place-test.false
 
 pub returns-then-fewer-length : goal.returns-then-fewer-length
-returns-then-fewer-length c = page_full _ c.loop-place.invariant.0 c.line_at_lem.ensures c.fewer.ensures c.place_count-count.ensures c.if-fewer-length.true
+returns-then-fewer-length c = page_full _ c.loop-place.invariant.0 c.line_at-length.ensures c.fewer.ensures c.place_count-count.ensures c.if-fewer-length.true

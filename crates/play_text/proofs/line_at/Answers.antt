@@ -3,6 +3,7 @@ use native.Mathlib.Omega.{arith}
 use Rattle.print.proofs.Append.{appends_same}
 use Rattle.pages.proofs.Lines.{appended-line}
 use Rattle.pages.proofs.Refused.{refusal-first, first-given}
+use Rattle.play_text.specs.Output.{PlayPrintout}
 use Rattle.play_text.proofs.Output.{refused-place, state-place, held_after}
 use Rattle.play_text.proofs.line_at.Goals as goal
 
@@ -23,4 +24,6 @@ held_line-requires c =
 
 pub returns : goal.returns
 returns c =
-    appended-line c.requires.0 (appends_same c.held_line.ensures (held_after _ c.if-refusal-ne0.false c.if-place-eq0.false))
+    let a = c.args in
+    let printed : PlayPrintout = record { table = record { refusal = a.refusal; states = a.states; names = a.names.now; lengths = a.lengths.now; lows = a.lows.now; highs = a.highs.now; entries = a.entries.now; finals = a.finals.now }; choices = a.choices; play = a.play.now } in
+    appended-line c.requires.0 (appends_same c.held_line.ensures (held_after printed c.if-refusal-ne0.false c.if-place-eq0.false))

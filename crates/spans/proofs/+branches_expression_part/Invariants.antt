@@ -1,9 +1,6 @@
 -- The measure follows the number of bytes left: three times that number for a part, one more for what stands after `if`, which begins with a part,
 -- and two more for an expression.
-use Rattle.std.proofs.Common.{◌≡◌, [], ◌∷◌, suc, ◌+◌, ◌≤◌, ◌<◌, length, ℕ, ◌-◌, ◌*◌}
-use Rattle.spans.specs.Token.{span}
-use Rattle.spans.specs.Spans.{part_span_to, branches_by, expression_span, constraint_span, constraints_to}
-use Rattle.spans.specs.Stored.{span_bound, put_spans, span_table, PlaceIn, StoresSpans}
+use Rattle.std.proofs.Common.{◌+◌, length, ◌-◌, ◌*◌}
 use Rattle.spans.proofs.+branches_expression_part.Given as goal
 
 abbrev pub decreases-branches : goal.decreases-branches

@@ -1,5 +1,4 @@
 -- `spans::constraints` meets its contract. The measure is the number of bytes left.
-use Prim.Native.Nat.{◌-◌}
 use native.Mathlib.Omega.{arith}
 use Rattle.spans.proofs.Loop.{loop_starts, loop_ends, loop_further, loop_goes_on}
 use Rattle.spans.proofs.constraints.Goals as goal

@@ -2,7 +2,6 @@
 use native.Mathlib.Omega.{arith}
 use lib.ListN.{length}
 use borrow.Rule.Slice.PartMut.{mid_len}
-use borrow.Author.Tests.{not-true, not-false}
 use Rattle.print.proofs.Append.{appends_nothing, appends_same, reached}
 use Rattle.pages.proofs.Placed.{placed-line, no_place}
 use Rattle.statistics_text.proofs.Lines.{unknown_line, known-line}
@@ -20,7 +19,7 @@ named_line-requires c = tt
 pub overflow_add-result : goal.overflow_add-result
 overflow_add-result c =
     let a = c.args in
-    omega (arith, reached c.named_line.ensures, c.named_line.auto.1.1.1.0, mid_len a.at (length a.out.now) a.out.now (omega arith), c.if-out-at.false)
+    omega (arith, reached c.named_line.ensures, c.named_line.auto.out, mid_len a.at (length a.out.now) a.out.now (omega arith), c.if-out-at.false)
 
 pub returns : goal.returns
 returns c =
