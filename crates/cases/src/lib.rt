@@ -1,4 +1,4 @@
-// What the programs on stored vectors share: a case read from standard input, counts in tables, and numbers printed to standard output. A case is
+// What the programs on stored vectors share: a case read from a source, such as standard input, counts in tables, and numbers printed to a writer. A case is
 // a heading of numbers of four bytes, low first, and then as many bytes as the heading's first number says.
 #![tactic(auto)]
 
@@ -8,7 +8,7 @@ ghost use Rattle.stored.specs.Number.{number_at};
 ghost use Rattle.cases.specs.Cases.{IsCase, taken, IsTaken, nonzeros, DigitsPrinted};
 
 use basics::fewer;
-use libc::{STDIN_FILENO, STDOUT_FILENO};
+use std::io::{Read, Write};
 
 // ---- a case
 
@@ -55,22 +55,22 @@ fn no_case(space: &[u8]) -> Case
 }
 
 // Reads so many bytes to the front of the space, or as many as it has room for; how many it gets.
-fn fill(space: &mut [u8], size: usize) -> usize
+fn fill<R: Read>(source: &mut R, space: &mut [u8], size: usize) -> usize
     ensures { IsPrefixLen result space.new }
 {
     let room = fewer(size, space.len());
-    io::read_full(STDIN_FILENO, &mut space[..room])
+    input::read_full(source, &mut space[..room])
 }
 
 // Reads a heading of so many bytes, at most 44, and the bytes behind it to the front of the space.
-pub fn read_case(heading_size: usize, space: &mut [u8]) -> Case
+pub fn read_case<R: Read>(source: &mut R, heading_size: usize, space: &mut [u8]) -> Case
     ensures { IsCase space.new result }
 {
     let mut heading = [0u8; 44];
-    if fill(&mut heading, heading_size) < heading_size {
+    if fill(source, &mut heading, heading_size) < heading_size {
         return no_case(space);
     }
-    let size = fill(space, number(&heading, 0) as usize);
+    let size = fill(source, space, number(&heading, 0) as usize);
     if size != number(&heading, 0) as usize {
         return no_case(space);
     }
@@ -180,7 +180,7 @@ pub fn work_room() -> [u32; 4112]
     [7; 4112]
 }
 
-// ---- numbers on standard output: no contract can say what reaches it, so an answer says how much was handed over
+// ---- numbers printed to a writer: no contract can say what reaches standard output, so an answer says how much was handed over
 
 // The magnitude of a number. Below 0 it is one more than -1 less the number, so that no difference leaves the signed numbers.
 fn magnitude(value: i64) -> u64
@@ -193,15 +193,15 @@ fn magnitude(value: i64) -> u64
 }
 
 // Prints a number and what stands after it; how many digits it has, or 0 where a write did not take all of its bytes.
-pub fn print(n: u64, end: &[u8]) -> usize
+pub fn print<W: Write>(out: &mut W, n: u64, end: &[u8]) -> usize
     ensures { DigitsPrinted n result }
 {
     let mut text = [0u8; 20];
     let digits = io::decimal(n, &mut text);
-    if !io::write_all(STDOUT_FILENO, &text[..digits]) {
+    if out.write_all(&text[..digits]).is_err() {
         return 0;
     }
-    if io::write_all(STDOUT_FILENO, end) {
+    if out.write_all(end).is_ok() {
         digits
     } else {
         0
@@ -209,24 +209,24 @@ pub fn print(n: u64, end: &[u8]) -> usize
 }
 
 // The same for a signed number, whose digits stand behind `-` where it is below 0.
-pub fn print_signed(value: i64, end: &[u8]) -> usize
+pub fn print_signed<W: Write>(out: &mut W, value: i64, end: &[u8]) -> usize
     ensures { DigitsPrinted (unsigned_abs value) result }
 {
     if value < 0 {
-        if !io::write_all(STDOUT_FILENO, b"-") {
+        if out.write_all(b"-").is_err() {
             return 0;
         }
     }
-    print(magnitude(value), end)
+    print(out, magnitude(value), end)
 }
 
 // Prints numbers, each with a space after it; how many there are, or as many as stand before the first of which a write did not take all bytes.
-pub fn print_entries(table: &[u16]) -> usize
+pub fn print_entries<W: Write>(out: &mut W, table: &[u16]) -> usize
     ensures { result ≤ length table.now }
 {
     let mut i = 0;
     while i < table.len() {
-        if print(table[i] as u64, b" ") == 0 {
+        if print(out, table[i] as u64, b" ") == 0 {
             return i;
         }
         i += 1;
@@ -234,12 +234,12 @@ pub fn print_entries(table: &[u16]) -> usize
     i
 }
 
-pub fn print_bytes(table: &[u8]) -> usize
+pub fn print_bytes<W: Write>(out: &mut W, table: &[u8]) -> usize
     ensures { result ≤ length table.now }
 {
     let mut i = 0;
     while i < table.len() {
-        if print(table[i] as u64, b" ") == 0 {
+        if print(out, table[i] as u64, b" ") == 0 {
             return i;
         }
         i += 1;

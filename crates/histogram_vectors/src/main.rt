@@ -6,6 +6,7 @@
 ghost use Rattle.std.specs.Prelude.{◌<◌};
 
 use basics::fewer;
+use std::io::{Read, Write};
 use tally::LineCounts;
 
 // The lines of the record in chunks of so many bytes.
@@ -39,7 +40,8 @@ fn count_chunks(
 }
 
 // Writes the lines page by page; no text has more than 16 pages.
-fn write_pages(
+fn write_pages<W: Write>(
+    out: &mut W,
     counted: LineCounts,
     names: &[u8],
     lengths: &[u8],
@@ -47,7 +49,7 @@ fn write_pages(
     highs: &[i64],
     counts: &[u64],
 ) {
-    let mut page = io::buffer();
+    let mut page = [0u8; 4096];
     let mut from = 0;
     for _ in 0..16u32 {
         let filled = histogram_text::fill_page(
@@ -61,12 +63,12 @@ fn write_pages(
             from,
             &mut page,
         );
-        output::write_front(&page, filled.size);
+        output::write_front(out, &page, filled.size);
         from = filled.next;
     }
 }
 
-fn count_record(sheet: reader::StoredSheet, record: &[u8], chunk: usize)
+fn count_record<W: Write>(out: &mut W, sheet: reader::StoredSheet, record: &[u8], chunk: usize)
     requires { 0 < chunk }
 {
     let names = sheet.names;
@@ -85,6 +87,7 @@ fn count_record(sheet: reader::StoredSheet, record: &[u8], chunk: usize)
         &mut counts,
     );
     write_pages(
+        out,
         counted,
         &names,
         &lengths[..streams],
@@ -94,51 +97,53 @@ fn count_record(sheet: reader::StoredSheet, record: &[u8], chunk: usize)
     );
 }
 
-fn write_refusal(refusal: u32) {
+fn write_refusal<W: Write>(out: &mut W, refusal: u32) {
     let mut line = [0u8; 32];
     let size = print::refusal_line(refusal, &mut line);
-    output::write_front(&line, size);
+    output::write_front(out, &line, size);
 }
 
-fn answer(text: &[u8], record: &[u8], chunk: usize)
+fn answer<W: Write>(out: &mut W, text: &[u8], record: &[u8], chunk: usize)
     requires { 0 < chunk }
 {
     let reading = reader::read(text);
     let refusal = reading.refusal;
     if refusal != 0 {
-        write_refusal(refusal);
+        write_refusal(out, refusal);
         return;
     }
     let sheet = reading.sheet;
-    count_record(sheet, record, chunk);
+    count_record(out, sheet, record, chunk);
 }
 
 // One case, the sheet and the record parted by the place where the sheet ends.
-fn count_case(bytes: &[u8], sheet_end: usize) {
+fn count_case<W: Write>(out: &mut W, bytes: &[u8], sheet_end: usize) {
     let end = fewer(sheet_end, bytes.len());
     let text = &bytes[..end];
     let record = &bytes[end..];
-    answer(text, record, 1);
-    answer(text, record, 3);
-    answer(text, record, 64);
+    answer(out, text, record, 1);
+    answer(out, text, record, 3);
+    answer(out, text, record, 64);
 }
 
 // One case; whether there was one.
-fn one() -> bool {
-    let mut space = io::large_buffer();
-    let case = cases::read_case(8, &mut space);
+fn one<R: Read, W: Write>(source: &mut R, out: &mut W) -> bool {
+    let mut space = [0u8; 65536];
+    let case = cases::read_case(source, 8, &mut space);
     let size = case.size;
     let heading = case.heading;
     let sheet_end = cases::number(&heading, 4) as usize;
     if case.found {
-        count_case(&space[..size], sheet_end);
+        count_case(out, &space[..size], sheet_end);
     }
     case.found
 }
 
-fn main() {
+fn main(rt: HostRuntime) {
+    let mut source = rt.stdin();
+    let mut out = rt.stdout();
     for _ in 0..65536u32 {
-        if !one() {
+        if !one(&mut source, &mut out) {
             return;
         }
     }

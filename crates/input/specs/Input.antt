@@ -1,7 +1,12 @@
 -- What reading an input into lent bytes comes to. Which bytes are read is outside the logic.
-use Rattle.std.specs.Prelude.{ℕ, ◌+◌, ◌-◌, ◌≤◌, min, ◌≡◌, true, false, ltb, ℤ, pos, negsuc}
+use Rattle.std.specs.Prelude.{ℕ, ◌+◌, ◌-◌, ◌≤◌, min, ◌≡◌, true, false, ltb, ℤ, pos, negsuc, Result, Ok, Err}
 use Rattle.input.specs.declared.Input.{Input}
 use Rattle.input.specs.declared.Progress.{Progress}
+
+-- What a read answers: the number of bytes that it gave, no more than a signed number holds, or -1 where it failed.
+abbrev pub answer_of : {E : Type 0} → Result ℕ E → ℤ
+answer_of (Ok count) = pos (min count 9223372036854775807)
+answer_of (Err e) = negsuc 0
 
 -- After one read, whose answer is the number of bytes that it gave, 0 at the end of the input, or negative where it failed: "a file it cannot read
 -- counts as empty" (document 02, S-1). There may be more to read where it gave bytes and left room.

@@ -1,10 +1,95 @@
 // Reads a whole input into lent bytes. "a file it cannot read counts as empty" (document 02, S-1): where a read fails, nothing counts as read.
 #![tactic(auto)]
 
-ghost use Rattle.std.specs.Prelude.{◌≡◌, ◌≤◌, length};
-ghost use Rattle.input.specs.Input.{after_read, IsInput};
+ghost use Rattle.std.specs.Prelude.{◌≡◌, ◌≤◌, length, min, pos, negsuc, ◌≤ℤ◌, IsNone};
+ghost use Rattle.io.specs.Counts.{IsPrefixLen};
+ghost use Rattle.input.specs.Input.{answer_of, after_read, IsInput};
 
 use basics::fewer;
+use std::env::{Env, FillError};
+use std::io::Read;
+use std::rt::Files;
+use std::{fs, str};
+
+// ---- one read
+
+// What a read answers: the number of bytes that it gave, 0 at the end of the input, or -1 where it failed.
+fn answer_of(got: std::io::Result<usize>) -> isize
+    ensures { result ≡ answer_of got }
+{
+    match got {
+        Ok(count) => fewer(count, 9223372036854775807) as isize,
+        Err(_) => -1,
+    }
+}
+
+// One read from a source. One that is missing, such as a file that cannot be opened, fails at each read.
+pub fn read_answer<R: Read>(source: &mut Option<R>, bytes: &mut [u8]) -> isize
+    ensures within { result ≤ℤ pos (length bytes.new) }
+    ensures missing { IsNone source.old → result ≡ negsuc 0 }
+{
+    match source {
+        Some(reader) => answer_of(reader.read(bytes)),
+        None => -1,
+    }
+}
+
+// Whether an argument is given, and its length. One that is missing has none, nor has one that is longer than its room.
+#[derive(Clone, Copy)]
+pub struct Argument {
+    pub given: bool,
+    pub size: usize,
+}
+
+// An argument without bytes.
+fn no_bytes(given: bool) -> Argument
+    ensures { (result.given ≡ given) × (result.size ≡ 0) }
+{
+    Argument { given, size: 0 }
+}
+
+// Puts the argument at this place to the front of the bytes.
+pub fn take_argument<E: Env>(rt: &E, place: usize, bytes: &mut [u8]) -> Argument
+    ensures { IsPrefixLen result.size bytes.new }
+{
+    match rt.arg(place, bytes) {
+        Ok(size) => Argument {
+            given: true,
+            size: fewer(size, bytes.len()),
+        },
+        Err(FillError::TooLong) => no_bytes(true),
+        Err(FillError::NotPresent) => no_bytes(false),
+    }
+}
+
+// Opens the file with this path. A path that is no UTF-8 text names none.
+pub fn open_path<F: Files>(files: &F, path: &[u8]) -> Option<F::File> {
+    match str::from_utf8(path) {
+        Ok(text) => fs::open(files, text).ok(),
+        Err(_) => None,
+    }
+}
+
+// Reads to the front of the bytes until they are full, the input ends or a read fails; how many bytes it gets.
+pub fn read_full<R: Read>(source: &mut R, bytes: &mut [u8]) -> usize
+    ensures { IsPrefixLen result bytes.new }
+{
+    let mut size = 0;
+    while size < bytes.len() {
+        match source.read(&mut bytes[size..]) {
+            Ok(count) => {
+                if count == 0 {
+                    break;
+                }
+                size += count;
+            }
+            Err(_) => break,
+        }
+    }
+    size
+}
+
+// ---- a whole input
 
 // How many bytes were read, and whether a read failed.
 #[derive(Clone, Copy)]
@@ -42,14 +127,14 @@ fn after_read(got: isize, size: usize, room: usize) -> Progress
 }
 
 // Reads until the bytes are full, the input ends or a read fails.
-pub fn read_input(descriptor: i32, bytes: &mut [u8]) -> Input
+pub fn read_input<R: Read>(source: &mut Option<R>, bytes: &mut [u8]) -> Input
     ensures { IsInput (length bytes.old) result }
 {
     let mut size = 0;
     let mut failed = false;
     let mut more = 0 < bytes.len();
     while more {
-        let got = libc::read(descriptor, &mut bytes[size..]);
+        let got = read_answer(source, &mut bytes[size..]);
         let after = after_read(got, size, bytes.len());
         size = after.size;
         failed = after.failed;

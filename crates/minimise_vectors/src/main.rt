@@ -5,8 +5,8 @@
 #![tactic(auto)]
 
 use cases::{add_nonzero, number, print, words_lent, work_room};
-use libc::STDOUT_FILENO;
 use minimise::Minimised;
+use std::io::{Read, Write};
 
 // Reads the entries from behind the flags.
 fn read_entries(heading: &[u8], text: &[u8], entries: &mut [u16]) {
@@ -56,18 +56,25 @@ fn minimise_in(
 }
 
 // Prints the answer with the entries and the flags.
-fn print_answer(answer: Minimised, heading: &[u8], entries: &[u16], flags: &[u8]) {
+fn print_answer<W: Write>(
+    out: &mut W,
+    answer: Minimised,
+    heading: &[u8],
+    entries: &[u16],
+    flags: &[u8],
+) {
     let n1 = cases::entries_lent(heading, 12, entries);
     let n2 = cases::bytes_lent(heading, 16, flags);
-    print(answer.refusal as u64, b" ");
-    print(answer.states as u64, b" : ");
-    cases::print_entries(&entries[..n1]);
-    io::write_all(STDOUT_FILENO, b": ");
-    cases::print_bytes(&flags[..n2]);
+    print(out, answer.refusal as u64, b" ");
+    print(out, answer.states as u64, b" : ");
+    cases::print_entries(out, &entries[..n1]);
+    let _ = out.write_all(b": ");
+    cases::print_bytes(out, &flags[..n2]);
 }
 
 // Prints how many numbers of the work tables are not 0.
-fn print_left(
+fn print_left<W: Write>(
+    out: &mut W,
     heading: &[u8],
     live: &[u32; 4112],
     class: &[u32; 4112],
@@ -84,12 +91,12 @@ fn print_left(
         40,
         envelopes,
     );
-    io::write_all(STDOUT_FILENO, b": ");
-    print(third, b"\n");
+    let _ = out.write_all(b": ");
+    print(out, third, b"\n");
 }
 
 // Minimises one graph, whose flags are the first of the bytes behind the heading, and prints the answer.
-fn run_case(heading: &[u8], text: &mut [u8]) {
+fn run_case<W: Write>(out: &mut W, heading: &[u8], text: &mut [u8]) {
     let mut entries = cases::entry_room();
     let mut live = work_room();
     let mut class = work_room();
@@ -109,25 +116,29 @@ fn run_case(heading: &[u8], text: &mut [u8]) {
         &mut links,
         &mut envelopes,
     );
-    print_answer(answer, heading, &entries, text);
-    print_left(heading, &live, &class, &next, &heads, &links, &envelopes);
+    print_answer(out, answer, heading, &entries, text);
+    print_left(
+        out, heading, &live, &class, &next, &heads, &links, &envelopes,
+    );
 }
 
 // One case; whether there was one.
-fn one() -> bool {
-    let mut space = io::large_buffer();
-    let case = cases::read_case(44, &mut space);
+fn one<R: Read, W: Write>(source: &mut R, out: &mut W) -> bool {
+    let mut space = [0u8; 65536];
+    let case = cases::read_case(source, 44, &mut space);
     let size = case.size;
     let heading = case.heading;
     if case.found {
-        run_case(&heading, &mut space[..size]);
+        run_case(out, &heading, &mut space[..size]);
     }
     case.found
 }
 
-fn main() {
+fn main(rt: HostRuntime) {
+    let mut source = rt.stdin();
+    let mut out = rt.stdout();
     for _ in 0..65536u32 {
-        if !one() {
+        if !one(&mut source, &mut out) {
             return;
         }
     }

@@ -1,12 +1,12 @@
-// Writes bytes to standard output and counts them. No contract can say what reaches standard output, so a program that prints a text in parts counts the
-// bytes of the writes that were whole.
+// Writes bytes to a writer, such as standard output, and counts them. No contract can say what reaches standard output, so a program that prints a text in
+// parts counts the bytes of the writes that were whole.
 #![tactic(auto)]
 
 ghost use Rattle.std.specs.Prelude.{take};
 ghost use Rattle.output.specs.Output.{Hands};
 
 use basics::fewer;
-use libc::STDOUT_FILENO;
+use std::io::Write;
 
 // How many bytes were taken by writes, and whether each write took all of its bytes.
 #[derive(Clone, Copy)]
@@ -16,7 +16,7 @@ pub struct Handed {
 }
 
 // Writes the first bytes, so many of them, or all where there are fewer. Those of a write that fails do not count, and no bytes need no write.
-pub fn write_front(bytes: &[u8], size: usize) -> Handed
+pub fn write_front<W: Write>(out: &mut W, bytes: &[u8], size: usize) -> Handed
     ensures { Hands (take size bytes.now) result.size result.whole }
 {
     let count = fewer(size, bytes.len());
@@ -26,7 +26,7 @@ pub fn write_front(bytes: &[u8], size: usize) -> Handed
             whole: true,
         };
     }
-    if !io::write_all(STDOUT_FILENO, &bytes[..count]) {
+    if out.write_all(&bytes[..count]).is_err() {
         return Handed {
             size: 0,
             whole: false,

@@ -1,4 +1,4 @@
-// Writes what `replay` prints for a chunk of a record to standard output. The crate `replaying` gives the bytes; what is left here is the loop that writes
+// Writes what `replay` prints for a chunk of a record to a writer, such as standard output. The crate `replaying` gives the bytes; what is left here is the loop that writes
 // them, by way of lent bytes, and counts those that it hands over.
 #![tactic(auto)]
 
@@ -7,6 +7,7 @@ ghost use Rattle.replaying.specs.Machine.{played_sheet};
 ghost use Rattle.playback.specs.Written.{highest_count, WritesChunk};
 
 use replaying::Replay;
+use std::io::Write;
 
 // Where the reading stands, how many bytes were taken by writes, and whether each write took all of its bytes.
 #[derive(Clone, Copy)]
@@ -27,7 +28,8 @@ fn add_size(size: usize, more: usize) -> usize
 }
 
 // Plays all bytes of a chunk, and writes what they print by way of the lent bytes. Lent bytes without room for a line count as a write that fails.
-pub fn write_chunk(
+pub fn write_chunk<W: Write>(
+    to: &mut W,
     replay: Replay,
     chunk: &[u8],
     names: &[u8],
@@ -53,7 +55,7 @@ pub fn write_chunk(
         playing = advanced.replay;
         at = advanced.next;
         let printed = advanced.size;
-        let handed = output::write_front(out, printed);
+        let handed = output::write_front(to, out, printed);
         size = add_size(size, handed.size);
         whole = handed.whole;
     }

@@ -4,22 +4,31 @@
 #![tactic(auto)]
 
 use cases::{print, print_signed};
-use libc::STDOUT_FILENO;
+use std::io::{Read, Write};
 
 // A space, and a stream's name, low, high and kind.
-fn print_stream(names: &[u8], from: usize, length: u8, low: i64, high: i64, kind: u8) {
+fn print_stream<W: Write>(
+    out: &mut W,
+    names: &[u8],
+    from: usize,
+    length: u8,
+    low: i64,
+    high: i64,
+    kind: u8,
+) {
     let start = cases::bytes_within(from, names);
     let rest = &names[start..];
     let size = cases::bytes_within(length as usize, rest);
-    io::write_all(STDOUT_FILENO, b" ");
-    io::write_all(STDOUT_FILENO, &rest[..size]);
-    io::write_all(STDOUT_FILENO, b" ");
-    print_signed(low, b" ");
-    print_signed(high, b" ");
-    print(kind as u64, b"");
+    let _ = out.write_all(b" ");
+    let _ = out.write_all(&rest[..size]);
+    let _ = out.write_all(b" ");
+    print_signed(out, low, b" ");
+    print_signed(out, high, b" ");
+    print(out, kind as u64, b"");
 }
 
-fn print_streams(
+fn print_streams<W: Write>(
+    out: &mut W,
     names: &[u8; 64],
     lengths: &[u8; 8],
     lows: &[i64; 8],
@@ -34,28 +43,29 @@ fn print_streams(
             let low = lows[i];
             let high = highs[i];
             let kind = stream_kinds[i];
-            print_stream(names, i * 8, length, low, high, kind);
+            print_stream(out, names, i * 8, length, low, high, kind);
         }
         i += 1;
     }
 }
 
-fn print_sheet(text: &[u8]) {
+fn print_sheet<W: Write>(out: &mut W, text: &[u8]) {
     let reading = reader::read(text);
     let sheet = reading.sheet;
-    print(reading.refusal as u64, b" ");
-    print(sheet.streams as u64, b" ");
-    print(sheet.letters as u64, b" ");
-    print(sheet.ahead as u64, b" ");
-    print(sheet.back as u64, b" ");
-    print(sheet.untils as u64, b" ");
-    print(sheet.firsts as u64, b"");
+    print(out, reading.refusal as u64, b" ");
+    print(out, sheet.streams as u64, b" ");
+    print(out, sheet.letters as u64, b" ");
+    print(out, sheet.ahead as u64, b" ");
+    print(out, sheet.back as u64, b" ");
+    print(out, sheet.untils as u64, b" ");
+    print(out, sheet.firsts as u64, b"");
     let names = sheet.names;
     let lengths = sheet.lengths;
     let lows = sheet.lows;
     let highs = sheet.highs;
     let stream_kinds = sheet.stream_kinds;
     print_streams(
+        out,
         &names,
         &lengths,
         &lows,
@@ -63,23 +73,25 @@ fn print_sheet(text: &[u8]) {
         &stream_kinds,
         sheet.streams,
     );
-    io::write_all(STDOUT_FILENO, b"\n");
+    let _ = out.write_all(b"\n");
 }
 
 // One case; whether there was one.
-fn one() -> bool {
-    let mut space = io::large_buffer();
-    let case = cases::read_case(4, &mut space);
+fn one<R: Read, W: Write>(source: &mut R, out: &mut W) -> bool {
+    let mut space = [0u8; 65536];
+    let case = cases::read_case(source, 4, &mut space);
     let size = case.size;
     if case.found {
-        print_sheet(&space[..size]);
+        print_sheet(out, &space[..size]);
     }
     case.found
 }
 
-fn main() {
+fn main(rt: HostRuntime) {
+    let mut source = rt.stdin();
+    let mut out = rt.stdout();
     for _ in 0..65536u32 {
-        if !one() {
+        if !one(&mut source, &mut out) {
             return;
         }
     }

@@ -3,12 +3,11 @@
 // as empty. Failed reads and writes are told on standard error.
 #![tactic(auto)]
 
-use libc::{STDERR_FILENO, STDIN_FILENO};
 use reads::ReadEnd;
 
-fn tell(failed: bool, message: &[u8]) {
+fn tell(rt: &impl Eprint, failed: bool, message: &str) {
     if failed {
-        io::write_all(STDERR_FILENO, message);
+        let _ = rt.eprint(message);
     }
 }
 
@@ -20,16 +19,18 @@ fn is_incomplete(ended: ReadEnd) -> bool {
     }
 }
 
-fn main() {
-    let shown = show_counts::show_input(STDIN_FILENO);
+fn main(rt: HostRuntime) {
+    let shown = show_counts::show_input(&mut Some(rt.stdin()), &mut rt.stdout());
     let ended = shown.ended;
     tell(
+        &rt,
         is_incomplete(ended),
-        b"record_counts: the input cannot be read\n",
+        "record_counts: the input cannot be read\n",
     );
     let handed = shown.handed;
     tell(
+        &rt,
         !handed.whole,
-        b"record_counts: the figures cannot be written\n",
+        "record_counts: the figures cannot be written\n",
     );
 }

@@ -5,9 +5,10 @@
 ghost use Rattle.std.specs.Prelude.{◌<◌};
 
 use basics::fewer;
+use std::io::{Read, Write};
 
 // One input in chunks of so many bytes.
-fn show_chunks(input: &[u8], chunk: usize)
+fn show_chunks<W: Write>(out: &mut W, input: &[u8], chunk: usize)
     requires { 0 < chunk }
 {
     let mut sheet = [0u8; 16385];
@@ -18,25 +19,27 @@ fn show_chunks(input: &[u8], chunk: usize)
         taken = first_line::take_chunk(taken, &input[at..end], &mut sheet);
         at = end;
     }
-    show_counts::show_taken(taken, &sheet);
+    show_counts::show_taken(out, taken, &sheet);
 }
 
 // One input; whether there was one.
-fn one() -> bool {
-    let mut space = io::large_buffer();
-    let case = cases::read_case(4, &mut space);
+fn one<R: Read, W: Write>(source: &mut R, out: &mut W) -> bool {
+    let mut space = [0u8; 65536];
+    let case = cases::read_case(source, 4, &mut space);
     let size = case.size;
     if case.found {
-        show_chunks(&space[..size], 1);
-        show_chunks(&space[..size], 7);
-        show_chunks(&space[..size], 65536);
+        show_chunks(out, &space[..size], 1);
+        show_chunks(out, &space[..size], 7);
+        show_chunks(out, &space[..size], 65536);
     }
     case.found
 }
 
-fn main() {
+fn main(rt: HostRuntime) {
+    let mut source = rt.stdin();
+    let mut out = rt.stdout();
     for _ in 0..65536u32 {
-        if !one() {
+        if !one(&mut source, &mut out) {
             return;
         }
     }

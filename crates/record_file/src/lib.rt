@@ -8,6 +8,8 @@ ghost use Rattle.tally.specs.Machine.{counted_sheet, counting, start_tally, coun
 ghost use Rattle.record_file.specs.Reads.{is_refused_counting, or_unread, CountsFile};
 
 use reads::{ReadEnd, ReadsSoFar};
+use std::io::Read;
+use std::rt::Files;
 use tally::{LineCounts, Tally, TallyStage};
 
 // The most reads of a record: those that a file of the greatest length fills with 65,536 bytes each, and one more that meets its end. A record that goes on
@@ -41,8 +43,8 @@ fn is_refused(tally: Tally) -> bool
 }
 
 // Reads the record chunk by chunk, and counts its lines, up to its end or to a line with a fault.
-fn read_chunks(
-    descriptor: i32,
+fn read_chunks<R: Read>(
+    source: &mut Option<R>,
     names: &[u8],
     lengths: &[u8],
     lows: &[i64],
@@ -51,12 +53,12 @@ fn read_chunks(
 ) -> ReadTally
     ensures { ReadsAll (count_byte (counted_sheet names.now lengths.now lows.now highs.now)) is_refused_counting (counting start_tally counts.old) (counting result.tally counts.new) result.progress }
 {
-    let mut chunk = io::large_buffer();
+    let mut chunk = [0u8; 65536];
     let mut left = READS;
     let mut tally = tally::begin();
     let mut progress = reads::so_far(is_refused(tally), 1, left);
     while progress.more {
-        let answer = libc::read(descriptor, &mut chunk);
+        let answer = input::read_answer(source, &mut chunk);
         let size = io::count(answer, &chunk);
         tally = tally::count_chunk(tally, &chunk[..size], names, lengths, lows, highs, counts);
         left -= 1;
@@ -83,7 +85,8 @@ fn or_unread(tally: Tally, ended: ReadEnd) -> Tally
 }
 
 // Counts the lines of the record in the file with this path.
-pub fn count_file(
+pub fn count_file<F: Files>(
+    files: &F,
     path: &[u8],
     names: &[u8],
     lengths: &[u8],
@@ -93,9 +96,9 @@ pub fn count_file(
 ) -> FileCounts
     ensures { CountsFile (counted_sheet names.now lengths.now lows.now highs.now) counts.old counts.new result }
 {
-    let descriptor = os::open_read(path);
-    let read = read_chunks(descriptor, names, lengths, lows, highs, counts);
-    libc::close(descriptor);
+    let mut source = input::open_path(files, path);
+    let read = read_chunks(&mut source, names, lengths, lows, highs, counts);
+    drop(source);
     let tally = read.tally;
     let progress = read.progress;
     let ended = progress.ended;

@@ -4,9 +4,11 @@
 #![tactic(auto)]
 
 use basics::fewer;
-use libc::STDERR_FILENO;
 use opening::OpenedTable;
 use replaying::{Replay, Stage};
+use std::env::Env;
+use std::io::{Read, Write};
+use std::rt::Files;
 
 // The most reads of a record, so that the loop ends and line numbers fit. Full reads, of 65,536 bytes, come to every length that a file can have; a read
 // may be shorter.
@@ -19,17 +21,17 @@ struct Played {
     failed: bool,
 }
 
-fn tell(failed: bool, message: &[u8]) {
+fn tell(rt: &impl Eprint, failed: bool, message: &str) {
     if failed {
-        io::write_all(STDERR_FILENO, message);
+        let _ = rt.eprint(message);
     }
 }
 
 // Opens the file that an argument names. A missing argument names none, nor does one that is longer than a path.
-fn open_file(argument: usize) -> i32 {
-    let mut path = io::buffer();
-    let size = os::arg(argument, &mut path);
-    os::open_read(&path[..size])
+fn open_file<R: Env + Files>(rt: &R, place: usize) -> Option<R::File> {
+    let mut path = [0u8; 4096];
+    let argument = input::take_argument(rt, place, &mut path);
+    input::open_path(rt, &path[..argument.size])
 }
 
 fn has_ended(replay: Replay) -> bool {
@@ -42,7 +44,8 @@ fn has_ended(replay: Replay) -> bool {
 }
 
 // Ends the record, and writes what its end prints; whether all was written.
-fn write_end(
+fn write_end<W: Write>(
+    out: &mut W,
     replay: Replay,
     names: &[u8],
     lengths: &[u8],
@@ -52,12 +55,13 @@ fn write_end(
 ) -> bool {
     let mut line = [0u8; 32];
     let size = replaying::finish(replay, names, lengths, lows, highs, entries, &mut line);
-    let written = output::write_front(&line, size);
+    let written = output::write_front(out, &line, size);
     written.whole
 }
 
 // Ends the record, behind a barred byte where it was not read whole.
-fn end_record(
+fn end_record<W: Write>(
+    out: &mut W,
     replay: Replay,
     cut: bool,
     names: &[u8],
@@ -67,19 +71,20 @@ fn end_record(
     entries: &[u16],
 ) -> bool {
     if !cut {
-        return write_end(replay, names, lengths, lows, highs, entries);
+        return write_end(out, replay, names, lengths, lows, highs, entries);
     }
     let barred = [0u8];
-    let mut out = [0u8; 32];
+    let mut line = [0u8; 32];
     let written = playback::write_chunk(
-        replay, &barred, names, lengths, lows, highs, entries, &mut out,
+        out, replay, &barred, names, lengths, lows, highs, entries, &mut line,
     );
-    write_end(written.replay, names, lengths, lows, highs, entries)
+    write_end(out, written.replay, names, lengths, lows, highs, entries)
 }
 
 // Reads the record chunk by chunk, and writes what each prints, up to its end or to a refusal.
-fn play(
-    descriptor: i32,
+fn play<R: Read, W: Write>(
+    source: &mut Option<R>,
+    out: &mut W,
     state: u32,
     names: &[u8],
     lengths: &[u8],
@@ -87,19 +92,20 @@ fn play(
     highs: &[i64],
     entries: &[u16],
 ) -> Played {
-    let mut chunk = io::large_buffer();
-    let mut out = io::large_buffer();
+    let mut chunk = [0u8; 65536];
+    let mut page = [0u8; 65536];
     let mut playing = replaying::begin(state);
     let mut failed = false;
     let mut left = READS;
     while 0 < left {
-        let got = libc::read(descriptor, &mut chunk);
+        let got = input::read_answer(source, &mut chunk);
         failed = got < 0;
         let size = io::count(got, &chunk);
         if size == 0 {
             break;
         }
         let written = playback::write_chunk(
+            out,
             playing,
             &chunk[..size],
             names,
@@ -107,7 +113,7 @@ fn play(
             lows,
             highs,
             entries,
-            &mut out,
+            &mut page,
         );
         playing = written.replay;
         if has_ended(playing) | !written.whole {
@@ -120,21 +126,28 @@ fn play(
     }
     let cut = failed & (left < READS);
     Played {
-        whole: end_record(playing, cut, names, lengths, lows, highs, entries),
+        whole: end_record(out, playing, cut, names, lengths, lows, highs, entries),
         failed: failed,
     }
 }
 
 // Plays the record that the second argument names; whether all was written.
-fn play_file(sheet: reader::StoredSheet, state: u32, entries: &[u16]) -> bool {
+fn play_file<R: Env + Files + Eprint, W: Write>(
+    rt: &R,
+    out: &mut W,
+    sheet: reader::StoredSheet,
+    state: u32,
+    entries: &[u16],
+) -> bool {
     let names = sheet.names;
     let lengths = sheet.lengths;
     let lows = sheet.lows;
     let highs = sheet.highs;
     let streams = fewer(sheet.streams, 8);
-    let descriptor = open_file(2);
+    let mut source = open_file(rt, 2);
     let played = play(
-        descriptor,
+        &mut source,
+        out,
         state,
         &names,
         &lengths[..streams],
@@ -142,48 +155,52 @@ fn play_file(sheet: reader::StoredSheet, state: u32, entries: &[u16]) -> bool {
         &highs[..streams],
         entries,
     );
-    libc::close(descriptor);
-    tell(played.failed, b"replay: the record cannot be read\n");
+    drop(source);
+    tell(rt, played.failed, "replay: the record cannot be read\n");
     played.whole
 }
 
 // Writes the line of a refusal; whether all was written.
-fn write_refusal(refusal: u32) -> bool {
+fn write_refusal<W: Write>(out: &mut W, refusal: u32) -> bool {
     let mut line = [0u8; 32];
     let size = print::refusal_line(refusal, &mut line);
-    let written = output::write_front(&line, size);
+    let written = output::write_front(out, &line, size);
     written.whole
 }
 
 // Writes the refusal of the sheet or the start, or plays the record; whether all was written.
-fn answer(table: OpenedTable, entries: &[u16; 32768]) -> bool {
+fn answer<R: Env + Files + Eprint, W: Write>(
+    rt: &R,
+    out: &mut W,
+    table: OpenedTable,
+    entries: &[u16; 32768],
+) -> bool {
     let refusal = table.refusal;
     if refusal != 0 {
-        return write_refusal(refusal);
+        return write_refusal(out, refusal);
     }
     let sheet = table.sheet;
-    play_file(sheet, table.state, entries)
+    play_file(rt, out, sheet, table.state, entries)
 }
 
-fn main() {
+fn main(rt: HostRuntime) {
     let mut text = [0u8; 16385];
-    let descriptor = open_file(1);
-    let input = input::read_input(descriptor, &mut text);
-    libc::close(descriptor);
-    tell(input.failed, b"replay: the sheet cannot be read\n");
+    let mut source = open_file(&rt, 1);
+    let input = input::read_input(&mut source, &mut text);
+    drop(source);
+    tell(&rt, input.failed, "replay: the sheet cannot be read\n");
     let size = input.size;
-    let mut start = io::buffer();
-    let start_size = os::arg(3, &mut start);
-    let given = 3 < os::arg_count();
+    let mut start = [0u8; 4096];
+    let argument = input::take_argument(&rt, 3, &mut start);
     let mut entries = [0u16; 32768];
     let mut finals = [0u8; 256];
     let table = opening::open_table(
         &text[..size],
-        given,
-        &start[..start_size],
+        argument.given,
+        &start[..argument.size],
         &mut entries,
         &mut finals,
     );
-    let whole = answer(table, &entries);
-    tell(!whole, b"replay: the states cannot be written\n");
+    let whole = answer(&rt, &mut rt.stdout(), table, &entries);
+    tell(&rt, !whole, "replay: the states cannot be written\n");
 }

@@ -6,11 +6,12 @@
 ghost use Rattle.std.specs.Prelude.{◌<◌};
 
 use basics::fewer;
-use libc::STDIN_FILENO;
 use opening::OpenedTable;
 use replaying::Replay;
+use std::io::{Read, Write};
 
-fn write_end(
+fn write_end<W: Write>(
+    out: &mut W,
     replay: Replay,
     names: &[u8],
     lengths: &[u8],
@@ -20,11 +21,12 @@ fn write_end(
 ) {
     let mut line = [0u8; 32];
     let size = replaying::finish(replay, names, lengths, lows, highs, entries, &mut line);
-    output::write_front(&line, size);
+    output::write_front(out, &line, size);
 }
 
 // The record in chunks of so many bytes, by way of few lent bytes.
-fn play_chunks(
+fn play_chunks<W: Write>(
+    out: &mut W,
     state: u32,
     record: &[u8],
     chunk: usize,
@@ -36,12 +38,13 @@ fn play_chunks(
 )
     requires { 0 < chunk }
 {
-    let mut out = [0u8; 40];
+    let mut page = [0u8; 40];
     let mut playing = replaying::begin(state);
     let mut at = 0;
     while at < record.len() {
         let end = at + fewer(chunk, record.len() - at);
         let written = playback::write_chunk(
+            out,
             playing,
             &record[at..end],
             names,
@@ -49,26 +52,32 @@ fn play_chunks(
             lows,
             highs,
             entries,
-            &mut out,
+            &mut page,
         );
         playing = written.replay;
         at = end;
     }
-    write_end(playing, names, lengths, lows, highs, entries);
+    write_end(out, playing, names, lengths, lows, highs, entries);
 }
 
-fn write_refusal(refusal: u32) {
+fn write_refusal<W: Write>(out: &mut W, refusal: u32) {
     let mut line = [0u8; 32];
     let size = print::refusal_line(refusal, &mut line);
-    output::write_front(&line, size);
+    output::write_front(out, &line, size);
 }
 
-fn answer(table: OpenedTable, record: &[u8], chunk: usize, entries: &[u16; 32768])
+fn answer<W: Write>(
+    out: &mut W,
+    table: OpenedTable,
+    record: &[u8],
+    chunk: usize,
+    entries: &[u16; 32768],
+)
     requires { 0 < chunk }
 {
     let refusal = table.refusal;
     if refusal != 0 {
-        write_refusal(refusal);
+        write_refusal(out, refusal);
         return;
     }
     let sheet = table.sheet;
@@ -78,6 +87,7 @@ fn answer(table: OpenedTable, record: &[u8], chunk: usize, entries: &[u16; 32768
     let highs = sheet.highs;
     let streams = fewer(sheet.streams, 8);
     play_chunks(
+        out,
         table.state,
         record,
         chunk,
@@ -90,7 +100,7 @@ fn answer(table: OpenedTable, record: &[u8], chunk: usize, entries: &[u16; 32768
 }
 
 // One case, the sheet, the record and the start given by the places where they end.
-fn play_case(bytes: &[u8], text_end: usize, record_end: usize, given: bool) {
+fn play_case<W: Write>(out: &mut W, bytes: &[u8], text_end: usize, record_end: usize, given: bool) {
     let end = fewer(record_end, bytes.len());
     let start = fewer(text_end, end);
     let mut entries = [0u16; 32768];
@@ -103,20 +113,20 @@ fn play_case(bytes: &[u8], text_end: usize, record_end: usize, given: bool) {
         &mut finals,
     );
     let record = &bytes[start..end];
-    answer(table, record, 1, &entries);
-    answer(table, record, 2, &entries);
-    answer(table, record, 3, &entries);
-    answer(table, record, 5, &entries);
-    answer(table, record, 7, &entries);
-    answer(table, record, 64, &entries);
+    answer(out, table, record, 1, &entries);
+    answer(out, table, record, 2, &entries);
+    answer(out, table, record, 3, &entries);
+    answer(out, table, record, 5, &entries);
+    answer(out, table, record, 7, &entries);
+    answer(out, table, record, 64, &entries);
 }
 
 // One case; whether there was one.
-fn one(space: &mut [u8]) -> bool {
+fn one<R: Read, W: Write>(source: &mut R, out: &mut W, space: &mut [u8]) -> bool {
     if space.len() < 16 {
         return false;
     }
-    let n = io::read_full(STDIN_FILENO, &mut space[..16]);
+    let n = input::read_full(source, &mut space[..16]);
     if n < 16 {
         return false;
     }
@@ -127,19 +137,21 @@ fn one(space: &mut [u8]) -> bool {
     if space.len() < size {
         return false;
     }
-    let m = io::read_full(STDIN_FILENO, &mut space[..size]);
+    let m = input::read_full(source, &mut space[..size]);
     if m < size {
         return false;
     }
-    play_case(&space[..size], text_end, record_end, given);
+    play_case(out, &space[..size], text_end, record_end, given);
     true
 }
 
-fn main() {
-    let mut space = io::large_buffer();
+fn main(rt: HostRuntime) {
+    let mut space = [0u8; 65536];
+    let mut source = rt.stdin();
+    let mut out = rt.stdout();
     let mut left: u32 = 65536;
     while 0 < left {
-        if !one(&mut space) {
+        if !one(&mut source, &mut out, &mut space) {
             return;
         }
         left -= 1;

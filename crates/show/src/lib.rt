@@ -10,6 +10,7 @@ ghost use Rattle.show.specs.Answer.{printout_of, PrintsAll, CompiledWith, Shown}
 
 use basics::fewer;
 use pages::Page;
+use std::io::Write;
 
 // The number of the refusal that is printed, or 0; how many bytes were taken by writes, and whether each write took all of its bytes.
 #[derive(Clone, Copy)]
@@ -52,7 +53,8 @@ fn next_page(
 }
 
 // Writes all lines, page by page, and stops at a write that fails.
-fn write_pages(
+fn write_pages<W: Write>(
+    out: &mut W,
     sheet: reader::StoredSheet,
     refusal: u32,
     states: u32,
@@ -62,10 +64,10 @@ fn write_pages(
     requires { HasRanges sheet × (length entries.now ≤ 32768) }
     ensures { PrintsAll (printout_of sheet refusal states entries.now finals.now) result }
 {
-    let mut page = io::large_buffer();
+    let mut page = [0u8; 65536];
     let mut size: usize = 0;
     let mut from: usize = 0;
-    loop {
+    'pages: loop {
         let filled = next_page(sheet, refusal, states, entries, finals, from, &mut page);
         let count = filled.size;
         if count == 0 {
@@ -75,7 +77,7 @@ fn write_pages(
                 whole: true,
             };
         }
-        let handed = output::write_front(&page, count);
+        let handed = output::write_front(out, &page, count);
         if !handed.whole {
             return Printed {
                 refusal: refusal,
@@ -89,7 +91,7 @@ fn write_pages(
 }
 
 // Compiles the text in the rows lent for the sheet's letters, and prints the table or the refusal. What stands behind the rows lent is not printed.
-fn show_sheet(text: &[u8], sheet: reader::StoredSheet) -> Printed
+fn show_sheet<W: Write>(out: &mut W, text: &[u8], sheet: reader::StoredSheet) -> Printed
     requires { HasRanges sheet }
     ensures { CompiledWith text.now sheet result }
 {
@@ -97,15 +99,22 @@ fn show_sheet(text: &[u8], sheet: reader::StoredSheet) -> Printed
     let mut finals = [0u8; 256];
     let letters = sheet.letters as usize;
     let compiled = lend::compile_lent(text, letters, &mut entries, &mut finals);
-    write_pages(sheet, compiled.refusal, compiled.states, &entries, &finals)
+    write_pages(
+        out,
+        sheet,
+        compiled.refusal,
+        compiled.states,
+        &entries,
+        &finals,
+    )
 }
 
 // "a program `sluice` that reads a sheet from standard input and prints its table", for the bytes that were read. Gives the number of the refusal
 // that it printed, or 0 where it printed a table. A text that is no sheet has no letters, and its compile meets the same refusal.
-pub fn show(text: &[u8]) -> Printed
+pub fn show<W: Write>(out: &mut W, text: &[u8]) -> Printed
     ensures { Shown text.now result }
 {
     let reading = reader::read(text);
     let sheet = reading.sheet;
-    show_sheet(text, sheet)
+    show_sheet(out, text, sheet)
 }

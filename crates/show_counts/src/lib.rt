@@ -16,6 +16,7 @@ use first_line::{LineNumber, Taken};
 use opening::OpenedTable;
 use output::Handed;
 use reads::{ReadEnd, ReadsSoFar};
+use std::io::{Read, Write};
 
 // The most reads of an input: those that a file of the greatest length fills with 65,536 bytes each, and one more that meets its end. An input that goes on
 // behind them counts as one that cannot be read.
@@ -86,46 +87,46 @@ fn find_figures(
     19
 }
 
-fn write_refusal(refusal: u32) -> Handed
+fn write_refusal<W: Write>(out: &mut W, refusal: u32) -> Handed
     ensures { Hands (refusal_line refusal) result.size result.whole }
 {
     let mut line = [0u8; 32];
     let size = print::refusal_line(refusal, &mut line);
-    output::write_front(&line, size)
+    output::write_front(out, &line, size)
 }
 
 // Writes the lines of figures, at most 65 of them.
-fn write_lines(figures: &[u64], final_figures: &[u64]) -> Handed
+fn write_lines<W: Write>(out: &mut W, figures: &[u64], final_figures: &[u64]) -> Handed
     requires { length figures.now ≤ 65 }
     ensures { Hands (listed_text figures.now final_figures.now (min (length figures.now) (length final_figures.now))) result.size result.whole }
 {
-    let mut out = [0u8; 4096];
-    let size = counts_text::write_figures(figures, final_figures, &mut out);
-    output::write_front(&out, size)
+    let mut page = [0u8; 4096];
+    let size = counts_text::write_figures(figures, final_figures, &mut page);
+    output::write_front(out, &page, size)
 }
 
 // Prints the figures of a sheet, compiled in the rows that `sluice` lends, or the refusal. The lists have room for the figures of 64 letters, so that a larger
 // number is 19.
-pub fn show_counts(number: LineNumber, text: &[u8]) -> Handed
+pub fn show_counts<W: Write>(out: &mut W, number: LineNumber, text: &[u8]) -> Handed
     ensures { ShowsRecordCounts (number_given number) text.now result }
 {
     let mut figures = [0u64; 65];
     let mut final_figures = [0u64; 65];
     let refusal = find_figures(number, text, &mut figures, &mut final_figures);
     if refusal != 0 {
-        return write_refusal(refusal);
+        return write_refusal(out, refusal);
     }
     let count = fewer(number.value as usize, 64) + 1;
-    write_lines(&figures[..count], &final_figures[..count])
+    write_lines(out, &figures[..count], &final_figures[..count])
 }
 
 // The same for what was taken of an input: the number of its line, and the bytes of the sheet in the lent ones.
-pub fn show_taken(taken: Taken, sheet: &[u8]) -> Handed
+pub fn show_taken<W: Write>(out: &mut W, taken: Taken, sheet: &[u8]) -> Handed
     ensures { ShowsRecordCounts (number_given (number_line_end taken.line)) (take taken.size sheet.now) result }
 {
     let line = taken.line;
     let size = fewer(taken.size, sheet.len());
-    show_counts(first_line::line_number(line), &sheet[..size])
+    show_counts(out, first_line::line_number(line), &sheet[..size])
 }
 
 // Whether as many bytes are kept as tell that the sheet has too many.
@@ -136,15 +137,15 @@ fn is_full(taken: Taken, sheet: &[u8]) -> bool
 }
 
 // Takes the input chunk by chunk, up to its end or to more bytes than a sheet may have, which are refused whatever follows.
-fn take_input(descriptor: i32, sheet: &mut [u8]) -> TakenInput
+fn take_input<R: Read>(source: &mut Option<R>, sheet: &mut [u8]) -> TakenInput
     ensures { ReadsAll keep_byte is_full (keeping taken_start sheet.old) (keeping result.taken sheet.new) result.progress }
 {
-    let mut chunk = io::large_buffer();
+    let mut chunk = [0u8; 65536];
     let mut left = READS;
     let mut taken = first_line::take_start();
     let mut progress = reads::so_far(is_full(taken, sheet), 1, left);
     while progress.more {
-        let answer = libc::read(descriptor, &mut chunk);
+        let answer = input::read_answer(source, &mut chunk);
         let size = io::count(answer, &chunk);
         taken = first_line::take_chunk(taken, &chunk[..size], sheet);
         left -= 1;
@@ -168,16 +169,16 @@ fn or_nothing(taken: Taken, ended: ReadEnd) -> Taken
 }
 
 // Reads an input and prints the figures of its sheet, up to the number in the line before it, or the refusal.
-pub fn show_input(descriptor: i32) -> ShownInput
+pub fn show_input<R: Read, W: Write>(source: &mut Option<R>, out: &mut W) -> ShownInput
     ensures { ShowsInput result }
 {
     let mut sheet = [0u8; 16385];
-    let input = take_input(descriptor, &mut sheet);
-    let progress = input.progress;
+    let read = take_input(source, &mut sheet);
+    let progress = read.progress;
     let ended = progress.ended;
-    let taken = input.taken;
+    let taken = read.taken;
     let kept = or_nothing(taken, ended);
-    let handed = show_taken(kept, &sheet);
+    let handed = show_taken(out, kept, &sheet);
     ShownInput {
         handed: handed,
         ended: ended,

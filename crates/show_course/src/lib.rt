@@ -14,6 +14,7 @@ use basics::fewer;
 use course::CourseAnswer;
 use opening::OpenedTable;
 use output::Handed;
+use std::io::Write;
 
 // The course from the state with which a table was opened, along the used rows. It has fewer letters than there are rows, so the list has room for it.
 fn find_course(
@@ -48,7 +49,8 @@ fn find_course(
 }
 
 // Writes all lines, page by page, and stops at a write that fails.
-fn write_pages(
+fn write_pages<W: Write>(
+    out: &mut W,
     refusal: u32,
     names: &[u8],
     lengths: &[u8],
@@ -59,10 +61,10 @@ fn write_pages(
     requires { AllFit lows.now × AllFit highs.now × (length course.now ≤ 256) }
     ensures { Hands (course_output (record { refusal = refusal; names = names.now; lengths = lengths.now; lows = lows.now; highs = highs.now; course = course.now })) result.size result.whole }
 {
-    let mut page = io::buffer();
+    let mut page = [0u8; 4096];
     let mut size: usize = 0;
     let mut from: usize = 0;
-    loop {
+    'pages: loop {
         let filled = course_text::fill_page(
             refusal, names, lengths, lows, highs, course, from, &mut page,
         );
@@ -73,7 +75,7 @@ fn write_pages(
                 whole: true,
             };
         }
-        let handed = output::write_front(&page, count);
+        let handed = output::write_front(out, &page, count);
         if !handed.whole {
             return Handed {
                 size: size,
@@ -86,7 +88,12 @@ fn write_pages(
 }
 
 // Writes the refusal, or the course that stands at the front of the list, with the sheet's names and ranges.
-fn print_course(sheet: reader::StoredSheet, answer: CourseAnswer, list: &[u32]) -> Handed
+fn print_course<W: Write>(
+    out: &mut W,
+    sheet: reader::StoredSheet,
+    answer: CourseAnswer,
+    list: &[u32],
+) -> Handed
     requires { HasRanges sheet × (length list.now ≡ 256) }
     ensures { Hands (course_output (course_printout sheet answer.refusal (take (min answer.count 256) list.now))) result.size result.whole }
 {
@@ -97,6 +104,7 @@ fn print_course(sheet: reader::StoredSheet, answer: CourseAnswer, list: &[u32]) 
     let streams = fewer(sheet.streams, 8);
     let count = fewer(answer.count as usize, 256);
     write_pages(
+        out,
         answer.refusal,
         &names,
         &lengths,
@@ -107,7 +115,7 @@ fn print_course(sheet: reader::StoredSheet, answer: CourseAnswer, list: &[u32]) 
 }
 
 // Prints the best course from a state of the sheet's table to a final state, or the refusal of the sheet or the state. Without a state given it is 0.
-pub fn show_course(text: &[u8], given: bool, start: &[u8]) -> Handed
+pub fn show_course<W: Write>(out: &mut W, text: &[u8], given: bool, start: &[u8]) -> Handed
     ensures { ShowsCourse text.now (start_text given start.now) result }
 {
     let mut entries = [0u16; 32768];
@@ -117,5 +125,5 @@ pub fn show_course(text: &[u8], given: bool, start: &[u8]) -> Handed
     let mut work = [0u16; 32768];
     let answer = find_course(table, &entries, &finals, &mut list, &mut work);
     let sheet = table.sheet;
-    print_course(sheet, answer, &list)
+    print_course(out, sheet, answer, &list)
 }

@@ -12,6 +12,7 @@ use compiled_sheet::stored_streams;
 use opened_tables::{used_entries, used_rows};
 use opening::OpenedTable;
 use output::Handed;
+use std::io::Write;
 
 // Fills the front of the page with what is printed of a table that was opened for the text: the header of its used rows, or the line of its refusal. Gives its
 // length.
@@ -43,7 +44,7 @@ fn fill_opened(
 }
 
 // Prints the header of the sheet's table, compiled in the rows that `sluice` lends, or the refusal.
-pub fn show_export(text: &[u8]) -> Handed
+pub fn show_export<W: Write>(out: &mut W, text: &[u8]) -> Handed
     ensures { ShowsExport text.now result }
 {
     let mut entries = [0u16; 32768];
@@ -51,5 +52,5 @@ pub fn show_export(text: &[u8]) -> Handed
     let table = opening::open_table(text, false, b"", &mut entries, &mut finals);
     let mut page = [0u8; 344064];
     let size = fill_opened(text, table, &entries, &finals, &mut page);
-    output::write_front(&page, size)
+    output::write_front(out, &page, size)
 }

@@ -14,6 +14,8 @@ use basics::fewer;
 use output::Handed;
 use reader::StoredSheet;
 use reads::ReadEnd;
+use std::io::Write;
+use std::rt::Files;
 
 // How many bytes were taken by writes, and how the reading of the record ended; where the sheet is refused the record is not opened, since nothing of it
 // matters.
@@ -24,7 +26,8 @@ pub struct ShownCounts {
 }
 
 // Writes all lines, page by page, and stops at a write that fails.
-fn write_pages(
+fn write_pages<W: Write>(
+    out: &mut W,
     refusal: u32,
     total: u64,
     names: &[u8],
@@ -36,10 +39,10 @@ fn write_pages(
     requires { AllFit lows.now × AllFit highs.now }
     ensures { Hands (histogram_output (record { refusal = refusal; total = total; names = names.now; lengths = lengths.now; lows = lows.now; highs = highs.now; counts = counts.now })) result.size result.whole }
 {
-    let mut page = io::buffer();
+    let mut page = [0u8; 4096];
     let mut size: usize = 0;
     let mut from: usize = 0;
-    loop {
+    'pages: loop {
         let filled = histogram_text::fill_page(
             refusal, total, names, lengths, lows, highs, counts, from, &mut page,
         );
@@ -50,7 +53,7 @@ fn write_pages(
                 whole: true,
             };
         }
-        let handed = output::write_front(&page, count);
+        let handed = output::write_front(out, &page, count);
         if !handed.whole {
             return Handed {
                 size: size,
@@ -63,7 +66,12 @@ fn write_pages(
 }
 
 // Counts the lines of the record, and prints the counts or the refusal.
-fn show_counts(sheet: StoredSheet, path: &[u8]) -> ShownCounts
+fn show_counts<F: Files, W: Write>(
+    files: &F,
+    out: &mut W,
+    sheet: StoredSheet,
+    path: &[u8],
+) -> ShownCounts
     requires { HasRanges sheet }
     ensures { ShowsCounts sheet result }
 {
@@ -74,6 +82,7 @@ fn show_counts(sheet: StoredSheet, path: &[u8]) -> ShownCounts
     let streams = fewer(sheet.streams, 8);
     let mut counts = [0u64; 1024];
     let file = record_file::count_file(
+        files,
         path,
         &names,
         &lengths[..streams],
@@ -83,6 +92,7 @@ fn show_counts(sheet: StoredSheet, path: &[u8]) -> ShownCounts
     );
     let counted = file.counted;
     let handed = write_pages(
+        out,
         counted.refusal,
         counted.total,
         &names,
@@ -99,28 +109,33 @@ fn show_counts(sheet: StoredSheet, path: &[u8]) -> ShownCounts
 }
 
 // Writes the line of the sheet's refusal.
-fn show_refusal(refusal: u32) -> Handed
+fn show_refusal<W: Write>(out: &mut W, refusal: u32) -> Handed
     ensures { Hands (refusal_line refusal) result.size result.whole }
 {
     let mut line = [0u8; 32];
     let size = print::refusal_line(refusal, &mut line);
-    output::write_front(&line, size)
+    output::write_front(out, &line, size)
 }
 
 // Prints how many value lines of the record in the file with this path hold each value, or the refusal of the sheet or the record. The file is opened where the
 // sheet is not refused.
-pub fn show_histogram(text: &[u8], path: &[u8]) -> ShownCounts
+pub fn show_histogram<F: Files, W: Write>(
+    files: &F,
+    out: &mut W,
+    text: &[u8],
+    path: &[u8],
+) -> ShownCounts
     ensures { ShowsHistogram text.now result }
 {
     let reading = reader::read(text);
     let refusal = reading.refusal;
     if refusal != 0 {
-        let handed = show_refusal(refusal);
+        let handed = show_refusal(out, refusal);
         return ShownCounts {
             handed: handed,
             ended: ReadEnd::Stopped,
         };
     }
     let sheet = reading.sheet;
-    show_counts(sheet, path)
+    show_counts(files, out, sheet, path)
 }

@@ -16,6 +16,7 @@ use join_tables::JoinAnswer;
 use opened_tables::{used_entries, used_rows};
 use opening::OpenedTable;
 use output::Handed;
+use std::io::Write;
 use streams::StreamsDescription;
 
 // Joins two tables in lent tables of so many rows.
@@ -65,7 +66,8 @@ fn join_in_rows(
 
 // Joins two tables in the rows lent for the joined letters, and prints the joined table or the refusal. Streams that are refused have no letters, and their join
 // meets the same refusal.
-fn show_tables(
+fn show_tables<W: Write>(
+    out: &mut W,
     left_entries: &[u16],
     left_finals: &[u8],
     left_letters: usize,
@@ -102,6 +104,7 @@ fn show_tables(
         &mut finals[..rows],
     );
     table_pages::write_table(
+        out,
         answer.streams,
         answer.letters as usize,
         answer.refusal,
@@ -112,12 +115,13 @@ fn show_tables(
 }
 
 // Writes the line of a refusal.
-fn write_refusal(refusal: u32) -> Handed
+fn write_refusal<W: Write>(out: &mut W, refusal: u32) -> Handed
     ensures { refusal ≢ 0 → Hands (refusal_line refusal) result.size result.whole }
 {
     let entries = [0u16; 32768];
     let finals = [0u8; 256];
     table_pages::write_table(
+        out,
         joined_streams::no_streams(),
         0,
         refusal,
@@ -128,7 +132,8 @@ fn write_refusal(refusal: u32) -> Handed
 }
 
 // The refusal with which the first or the second table was opened, or what is printed of both.
-fn show_both(
+fn show_both<W: Write>(
+    out: &mut W,
     first: OpenedTable,
     entries: &[u16],
     finals: &[u8],
@@ -140,10 +145,10 @@ fn show_both(
     ensures { ShowsBoth first second (opened_given first entries.now finals.now) (opened_given second second_entries.now second_finals.now) result }
 {
     if first.refusal != 0 {
-        return write_refusal(first.refusal);
+        return write_refusal(out, first.refusal);
     }
     if second.refusal != 0 {
-        return write_refusal(second.refusal);
+        return write_refusal(out, second.refusal);
     }
     let sheet = first.sheet;
     let rows = used_rows(first);
@@ -152,6 +157,7 @@ fn show_both(
     let second_rows = used_rows(second);
     let second_used = used_entries(second);
     show_tables(
+        out,
         &entries[..used],
         &finals[..rows],
         sheet.letters as usize,
@@ -164,7 +170,13 @@ fn show_both(
 }
 
 // The same for a first table that was opened.
-fn show_from(first: OpenedTable, entries: &[u16], finals: &[u8], second: &[u8]) -> Handed
+fn show_from<W: Write>(
+    out: &mut W,
+    first: OpenedTable,
+    entries: &[u16],
+    finals: &[u8],
+    second: &[u8],
+) -> Handed
     requires { (length entries.now ≡ 32768) × (length finals.now ≡ 256) }
     ensures { ShowsFrom first entries.now finals.now second.now result }
 {
@@ -172,6 +184,7 @@ fn show_from(first: OpenedTable, entries: &[u16], finals: &[u8], second: &[u8]) 
     let mut second_finals = [0u8; 256];
     let opened = opening::open_table(second, false, b"", &mut second_entries, &mut second_finals);
     show_both(
+        out,
         first,
         entries,
         finals,
@@ -182,11 +195,11 @@ fn show_from(first: OpenedTable, entries: &[u16], finals: &[u8], second: &[u8]) 
 }
 
 // Prints the joined table of two sheets, or the refusal of the first, of the second, or of the join.
-pub fn show_join(first: &[u8], second: &[u8]) -> Handed
+pub fn show_join<W: Write>(out: &mut W, first: &[u8], second: &[u8]) -> Handed
     ensures { ShowsJoin first.now second.now result }
 {
     let mut entries = [0u16; 32768];
     let mut finals = [0u8; 256];
     let opened = opening::open_table(first, false, b"", &mut entries, &mut finals);
-    show_from(opened, &entries, &finals, second)
+    show_from(out, opened, &entries, &finals, second)
 }

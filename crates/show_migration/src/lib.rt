@@ -12,6 +12,7 @@ use compiled_sheet::stored_streams;
 use opened_tables::{used_entries, used_rows};
 use opening::OpenedTable;
 use output::Handed;
+use std::io::Write;
 
 // The refusal with which a table was opened, or that of the call for the states between the used rows of both, or 0 with the states in the list.
 fn find_states(
@@ -52,16 +53,22 @@ fn find_states(
 }
 
 // Writes the refusal, or the states.
-fn write_states(refusal: u32, states: &[u16]) -> Handed
+fn write_states<W: Write>(out: &mut W, refusal: u32, states: &[u16]) -> Handed
     ensures { Hands (migration_output refusal (take most_states states.now)) result.size result.whole }
 {
-    let mut page = io::buffer();
+    let mut page = [0u8; 4096];
     let size = migration_text::fill(refusal, states, &mut page);
-    output::write_front(&page, size)
+    output::write_front(out, &page, size)
 }
 
 // The same for an old table that was opened.
-fn show_opened(old: OpenedTable, entries: &[u16], finals: &[u8], new: &[u8]) -> Handed
+fn show_opened<W: Write>(
+    out: &mut W,
+    old: OpenedTable,
+    entries: &[u16],
+    finals: &[u8],
+    new: &[u8],
+) -> Handed
     requires { (length entries.now ≡ 32768) × (length finals.now ≡ most_states) }
     ensures { ShowsFrom old entries.now finals.now new.now result }
 {
@@ -79,16 +86,16 @@ fn show_opened(old: OpenedTable, entries: &[u16], finals: &[u8], new: &[u8]) -> 
         &mut list,
     );
     let rows = used_rows(old);
-    write_states(refusal, &list[..rows])
+    write_states(out, refusal, &list[..rows])
 }
 
 // Prints for each state of the old sheet's table the state of the new sheet's table to go on from, or the refusal of the old sheet, of the new one, or of the
 // change.
-pub fn show_migration(old: &[u8], new: &[u8]) -> Handed
+pub fn show_migration<W: Write>(out: &mut W, old: &[u8], new: &[u8]) -> Handed
     ensures { ShowsMigration old.now new.now result }
 {
     let mut entries = [0u16; 32768];
     let mut finals = [0u8; 256];
     let opened = opening::open_table(old, false, b"", &mut entries, &mut finals);
-    show_opened(opened, &entries, &finals, new)
+    show_opened(out, opened, &entries, &finals, new)
 }

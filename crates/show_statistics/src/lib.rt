@@ -12,6 +12,7 @@ use compiled::Compiled;
 use output::Handed;
 use reader::StoredSheet;
 use statistics_text::Statistics;
+use std::io::Write;
 
 // How many situations a stored sheet has, in tables of as many rows as are lent.
 fn count_situations(sheet: StoredSheet) -> usize
@@ -68,18 +69,18 @@ fn find_statistics(text: &[u8]) -> Statistics
 }
 
 // Writes the lines, for which there is room in 256 bytes.
-fn write_statistics(statistics: Statistics) -> Handed
+fn write_statistics<W: Write>(out: &mut W, statistics: Statistics) -> Handed
     ensures { Hands (statistics_text statistics) result.size result.whole }
 {
-    let mut out = [0u8; 256];
-    let size = statistics_text::fill(statistics, &mut out);
-    output::write_front(&out, size)
+    let mut page = [0u8; 256];
+    let size = statistics_text::fill(statistics, &mut page);
+    output::write_front(out, &page, size)
 }
 
 // Prints the sizes of a sheet, or the refusal of a text that is none.
-pub fn show_statistics(text: &[u8]) -> Handed
+pub fn show_statistics<W: Write>(out: &mut W, text: &[u8]) -> Handed
     ensures { ShowsStatistics text.now result }
 {
     let statistics = find_statistics(text);
-    write_statistics(statistics)
+    write_statistics(out, statistics)
 }

@@ -15,6 +15,7 @@ use basics::fewer;
 use compiled_sheet::CompiledSheet;
 use output::Handed;
 use pages::Page;
+use std::io::Write;
 
 // Compiles the text with a play table in tables of so many rows.
 fn force_in_rows(
@@ -87,7 +88,8 @@ fn next_page(
 }
 
 // Writes all lines, page by page, and stops at a write that fails.
-fn write_pages(
+fn write_pages<W: Write>(
+    out: &mut W,
     sheet: reader::StoredSheet,
     refusal: u32,
     states: u32,
@@ -99,10 +101,10 @@ fn write_pages(
     requires { HasRanges sheet × (length entries.now ≤ 32768) × (length play.now ≤ 32768) }
     ensures { Hands (play_output (play_printout sheet refusal states choices entries.now finals.now play.now)) result.size result.whole }
 {
-    let mut page = io::large_buffer();
+    let mut page = [0u8; 65536];
     let mut size: usize = 0;
     let mut from: usize = 0;
-    loop {
+    'pages: loop {
         let filled = next_page(
             sheet, refusal, states, choices, entries, finals, play, from, &mut page,
         );
@@ -113,7 +115,7 @@ fn write_pages(
                 whole: true,
             };
         }
-        let handed = output::write_front(&page, count);
+        let handed = output::write_front(out, &page, count);
         if !handed.whole {
             return Handed {
                 size: size,
@@ -126,7 +128,8 @@ fn write_pages(
 }
 
 // Compiles the text in tables of so many rows, and prints the play table or the refusal.
-fn show_in_rows(
+fn show_in_rows<W: Write>(
+    out: &mut W,
     text: &[u8],
     sheet: reader::StoredSheet,
     rows: usize,
@@ -140,6 +143,7 @@ fn show_in_rows(
 {
     let told = force_in_rows(text, rows, entries, finals, play);
     write_pages(
+        out,
         sheet,
         told.refusal,
         told.states,
@@ -152,7 +156,7 @@ fn show_in_rows(
 
 // Prints the play table of a sheet, compiled in the rows that `sluice` lends, with as many rows for the play table; or the refusal. A text that is no sheet has no
 // letters, and its compile meets the same refusal.
-pub fn show_strategy(text: &[u8]) -> Handed
+pub fn show_strategy<W: Write>(out: &mut W, text: &[u8]) -> Handed
     ensures { ShowsStrategy text.now result }
 {
     let reading = reader::read(text);
@@ -166,6 +170,7 @@ pub fn show_strategy(text: &[u8]) -> Handed
     let mut finals = [0u8; 256];
     let mut play = [0u16; 32768];
     show_in_rows(
+        out,
         text,
         sheet,
         rows,

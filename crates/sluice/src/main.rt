@@ -2,22 +2,22 @@
 // A sheet that cannot be read whole counts as empty; this, and a table that cannot be written whole, is told on standard error.
 #![tactic(auto)]
 
-use libc::{STDERR_FILENO, STDIN_FILENO};
-
-fn tell(failed: bool, message: &[u8]) {
+fn tell(rt: &impl Eprint, failed: bool, message: &str) {
     if failed {
-        io::write_all(STDERR_FILENO, message);
+        let _ = rt.eprint(message);
     }
 }
 
-fn main() {
+fn main(rt: HostRuntime) {
     let mut text = [0u8; 16385];
-    let input = input::read_input(STDIN_FILENO, &mut text);
-    tell(input.failed, b"sluice: the sheet cannot be read\n");
+    let mut source = Some(rt.stdin());
+    let input = input::read_input(&mut source, &mut text);
+    tell(&rt, input.failed, "sluice: the sheet cannot be read\n");
     let size = input.size;
-    let printed = show::show(&text[..size]);
+    let printed = show::show(&mut rt.stdout(), &text[..size]);
     tell(
+        &rt,
         !printed.whole,
-        b"sluice: the table cannot be written whole\n",
+        "sluice: the table cannot be written whole\n",
     );
 }

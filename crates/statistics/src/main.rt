@@ -2,31 +2,33 @@
 // error.
 #![tactic(auto)]
 
-use libc::STDERR_FILENO;
+use std::env::Env;
+use std::rt::Files;
 
-fn tell(failed: bool, message: &[u8]) {
+fn tell(rt: &impl Eprint, failed: bool, message: &str) {
     if failed {
-        io::write_all(STDERR_FILENO, message);
+        let _ = rt.eprint(message);
     }
 }
 
 // Opens the file that the first argument names. A missing argument names none, nor does one that is longer than a path.
-fn open_sheet() -> i32 {
-    let mut path = io::buffer();
-    let size = os::arg(1, &mut path);
-    os::open_read(&path[..size])
+fn open_sheet<R: Env + Files>(rt: &R) -> Option<R::File> {
+    let mut path = [0u8; 4096];
+    let argument = input::take_argument(rt, 1, &mut path);
+    input::open_path(rt, &path[..argument.size])
 }
 
-fn main() {
+fn main(rt: HostRuntime) {
     let mut text = [0u8; 16385];
-    let descriptor = open_sheet();
-    let input = input::read_input(descriptor, &mut text);
-    libc::close(descriptor);
-    tell(input.failed, b"statistics: the sheet cannot be read\n");
+    let mut source = open_sheet(&rt);
+    let input = input::read_input(&mut source, &mut text);
+    drop(source);
+    tell(&rt, input.failed, "statistics: the sheet cannot be read\n");
     let size = input.size;
-    let printed = show_statistics::show_statistics(&text[..size]);
+    let printed = show_statistics::show_statistics(&mut rt.stdout(), &text[..size]);
     tell(
+        &rt,
         !printed.whole,
-        b"statistics: the sizes cannot be written whole\n",
+        "statistics: the sizes cannot be written whole\n",
     );
 }

@@ -3,36 +3,39 @@
 #![tactic(auto)]
 
 use cases::{number, print};
+use std::io::{Read, Write};
 use step::Place;
 
 // The step that the heading gives, on this table.
-fn answer(heading: &[u8], table: &[u8]) {
+fn answer<W: Write>(out: &mut W, heading: &[u8], table: &[u8]) {
     let place = Place {
         state: number(heading, 12),
         steps: number(heading, 16),
     };
     let after = step::step_place(place, table, number(heading, 4), number(heading, 8));
     let reached = after.place;
-    print(after.answer as u64, b" ");
-    print(reached.state as u64, b" ");
-    print(reached.steps as u64, b"\n");
+    print(out, after.answer as u64, b" ");
+    print(out, reached.state as u64, b" ");
+    print(out, reached.steps as u64, b"\n");
 }
 
 // One case; whether there was one.
-fn one() -> bool {
-    let mut space = io::large_buffer();
-    let case = cases::read_case(20, &mut space);
+fn one<R: Read, W: Write>(source: &mut R, out: &mut W) -> bool {
+    let mut space = [0u8; 65536];
+    let case = cases::read_case(source, 20, &mut space);
     let size = case.size;
     let heading = case.heading;
     if case.found {
-        answer(&heading, &space[..size]);
+        answer(out, &heading, &space[..size]);
     }
     case.found
 }
 
-fn main() {
+fn main(rt: HostRuntime) {
+    let mut source = rt.stdin();
+    let mut out = rt.stdout();
     for _ in 0..65536u32 {
-        if !one() {
+        if !one(&mut source, &mut out) {
             return;
         }
     }

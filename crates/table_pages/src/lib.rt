@@ -11,6 +11,7 @@ ghost use Rattle.table_pages.specs.Printout.{described_printout, RangesHeld, Wri
 use basics::fewer;
 use output::Handed;
 use pages::Page;
+use std::io::Write;
 use streams::StreamsDescription;
 
 // The next lines, from a line's number on.
@@ -45,7 +46,8 @@ fn next_page(
 }
 
 // Writes all lines, page by page, and stops at a write that fails.
-fn write_pages(
+fn write_pages<W: Write>(
+    out: &mut W,
     streams: StreamsDescription,
     refusal: u32,
     states: u32,
@@ -55,10 +57,10 @@ fn write_pages(
     requires { RangesHeld streams × (length entries.now ≤ 32768) }
     ensures { Hands (output_text (described_printout streams refusal states entries.now finals.now)) result.size result.whole }
 {
-    let mut page = io::large_buffer();
+    let mut page = [0u8; 65536];
     let mut size: usize = 0;
     let mut from: usize = 0;
-    loop {
+    'pages: loop {
         let filled = next_page(streams, refusal, states, entries, finals, from, &mut page);
         let count = filled.size;
         if count == 0 {
@@ -67,7 +69,7 @@ fn write_pages(
                 whole: true,
             };
         }
-        let handed = output::write_front(&page, count);
+        let handed = output::write_front(out, &page, count);
         if !handed.whole {
             return Handed {
                 size: size,
@@ -81,7 +83,8 @@ fn write_pages(
 
 // Writes the line of the refusal; or, where the streams are those that an accepted sheet could have and make so many letters, the table of so many states in
 // the first rows of the arrays.
-pub fn write_table(
+pub fn write_table<W: Write>(
+    out: &mut W,
     streams: StreamsDescription,
     letters: usize,
     refusal: u32,
@@ -101,7 +104,7 @@ pub fn write_table(
     };
     let fit = streams::streams_fit(streams, letters);
     if refusal != 0 {
-        return write_pages(none, refusal, 0, entries, finals);
+        return write_pages(out, none, refusal, 0, entries, finals);
     }
     if !fit {
         return Handed {
@@ -109,5 +112,5 @@ pub fn write_table(
             whole: true,
         };
     }
-    write_pages(streams, refusal, states, entries, finals)
+    write_pages(out, streams, refusal, states, entries, finals)
 }

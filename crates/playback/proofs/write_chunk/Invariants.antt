@@ -1,12 +1,12 @@
--- `playback::write_chunk` meets its contract: before each turn the bytes before the place are played (Chunk), and a turn goes on, since there is room.
-use Prim.Native.Nat.{◌-◌}
-use lib.ListN.{length}
+-- Before each turn the bytes before the place are played (Chunk).
+use Rattle.std.proofs.Common.{◌-◌, length}
 use Rattle.replaying.specs.Machine.{played_sheet}
 use Rattle.playback.proofs.Chunk.{PlayedTo}
 use Rattle.playback.proofs.write_chunk.Given as goal
 
 abbrev pub invariant-loop-whole : goal.invariant-loop-whole
-invariant-loop-whole l = PlayedTo (played_sheet l.names l.lengths l.lows l.highs l.entries) l.initial.playing l.chunk l.initial.out l.out l.playing l.at l.size l.whole
+invariant-loop-whole g l =
+    PlayedTo (played_sheet l.names l.lengths l.lows l.highs l.entries) l.initial.playing l.chunk l.initial.out l.out l.playing l.at l.size l.whole
 
 abbrev pub decreases-loop-whole : goal.decreases-loop-whole
-decreases-loop-whole l = length l.chunk - l.at
+decreases-loop-whole g l = length l.chunk - l.at

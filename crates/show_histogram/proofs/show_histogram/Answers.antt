@@ -1,13 +1,11 @@
--- `show_histogram::show_histogram` meets its contract: what the calls print is what the texts print (Printing).
-use Prim.Native.Nat.{◌<◌}
-use native.Mathlib.Omega.{arith}
-use mathlib.Core.List.{[]}
+-- A text that is no sheet prints its refusal, and the record of a sheet is counted (Printing).
+use Rattle.std.proofs.Common.{◌<◌, [], arith}
 use Rattle.stored_ranges.proofs.Ranges.{read_ranges}
 use Rattle.show_histogram.proofs.Printing.{sheet-refused, shows-counts}
 use Rattle.show_histogram.proofs.show_histogram.Goals as goal
 
 pub returns-then-refusal-ne0 : goal.returns-then-refusal-ne0
-returns-then-refusal-ne0 c =
+returns-then-refusal-ne0 g c =
     let h : 0 < c.read-reading.result.refusal = omega (arith, c.if-refusal-ne0.true) in
     record {
       reads = [];
@@ -19,7 +17,7 @@ returns-then-refusal-ne0 c =
     }
 
 pub show_counts-requires : goal.show_counts-requires
-show_counts-requires c = read_ranges _ c.read-reading.ensures
+show_counts-requires g c = read_ranges _ c.read-reading.ensures
 
 pub returns : goal.returns
-returns c = shows-counts _ c.read-reading.ensures c.if-refusal-ne0.false c.show_counts.ensures
+returns g c = shows-counts _ c.read-reading.ensures c.if-refusal-ne0.false c.show_counts.ensures

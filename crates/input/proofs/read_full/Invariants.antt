@@ -1,0 +1,9 @@
+-- Before each turn the bytes that were read lie within the room.
+use Rattle.std.proofs.Common.{◌-◌, ◌≤◌, length}
+use Rattle.input.proofs.read_full.Given as goal
+
+abbrev pub invariant-loop-size : goal.invariant-loop-size
+invariant-loop-size g l = l.size ≤ length l.bytes
+
+abbrev pub decreases-loop-size : goal.decreases-loop-size
+decreases-loop-size g l = length l.initial.bytes - l.size
