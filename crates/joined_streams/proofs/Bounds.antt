@@ -8,13 +8,13 @@ use mathlib.Core.List.{List, Memᴰ}
 use lib.ListN.{length, take}
 use Rattle.meaning.specs.Expression.{Stream}
 use Rattle.meaning.specs.Letter.{letter_count}
-use Rattle.sheet.specs.Refusal.{stream_bound, letter_bound}
+use Rattle.sheet.specs.Refusal.{letter_bound}
 use Rattle.sheet.specs.Names.{ShortNames}
 use Rattle.letters.specs.Described.{described, cut_count}
 use Rattle.streams.specs.Description.{stream_in, description_of, StreamsFit}
 use Rattle.streams.specs.declared.StreamsDescription.{StreamsDescription}
 use Rattle.streams.proofs.Fit.{streams-length, stream-member, stream_origin, letters-made}
-use Rattle.joined_streams.specs.Joined.{other_streams, joined_streams, IsAlike, SharedAlike, WithinBounds, Covers}
+use Rattle.joined_streams.specs.Joined.{other_streams, IsAlike, SharedAlike, WithinBounds, Covers}
 use Rattle.joined_streams.specs.Describing.{describe, joined_description, AlikeAt, CanCut}
 use Rattle.joined_streams.specs.Outcome.{Joinable, streams_together}
 use Rattle.joined_streams.proofs.Joining.{append-split, other-member, covers-left, covers-right}

@@ -1,10 +1,10 @@
 -- The number that a joined letter's cut has: the values of the letter at the places of a sheet's own streams are a letter of these. From the places of names
 -- and the laws of letters.
-use Prim.Native.Nat.{ℕ, zero, suc, ◌+◌, ◌≤◌, ◌<◌}
+use Prim.Native.Nat.{ℕ, zero, suc, ◌≤◌, ◌<◌}
 use native.Mathlib.Omega.{arith}
 use mathlib.Core.Path.{◌≡◌, refl, sym, ap, ap₂, subst, ◌∙◌}
-use mathlib.Core.Bool.{Bool, true, false, cond, ◌&&◌}
-use mathlib.Core.List.{List, [], ◌∷◌, ◌++◌, map, Memᴰ}
+use mathlib.Core.Bool.{Bool, true, cond, ◌&&◌}
+use mathlib.Core.List.{List, [], ◌∷◌, ◌++◌, Memᴰ}
 use lib.Dec.{leb}
 use lib.IntN.{ℤ, pos}
 use lib.ListN.{length, get_or, take, drop, replicate, length-map, length-replicate, get_or-append}
@@ -12,11 +12,10 @@ use lib.Seq.{ext_get_or, get_or-take, length-take-le}
 use borrow.Author.Tests.{le-leb}
 use Rattle.basics.proofs.Lists.{get_d_map}
 use Rattle.basics.proofs.Reflects.{to_true}
-use Rattle.meaning.specs.Arithmetic.{Interval, Within}
+use Rattle.meaning.specs.Arithmetic.{Within}
 use Rattle.meaning.specs.Expression.{Stream, absent_stream}
 use Rattle.meaning.specs.Letter.{Letter, IsLetter, none, more, letter_count, letter_number, letter_of}
 use Rattle.meaning.proofs.Letter.{letter_number-bound, letter_of-letter}
-use Rattle.nodes.specs.Bounds.{lows_of, highs_of}
 use Rattle.nodes.proofs.Record.{letter-length}
 use Rattle.sheet.specs.Refusal.{letter_bound}
 use Rattle.letters.specs.Described.{described, is_letter, number_of, has_letter, with_letter}
@@ -25,7 +24,7 @@ use Rattle.streams.specs.Description.{stream_in, description_of}
 use Rattle.streams.specs.declared.StreamsDescription.{StreamsDescription}
 use Rattle.streams.proofs.Fit.{streams-length, stream-member, lows-from, highs-from}
 use Rattle.joined_streams.specs.Joined.{place_of, cut_letter, cut_number, Covers}
-use Rattle.joined_streams.specs.Describing.{ArePlaces, ArePicked, CanCut, HoldsCuts}
+use Rattle.joined_streams.specs.Describing.{ArePlaces, ArePicked, CanCut}
 use Rattle.joined_streams.proofs.Places.{stream_at}
 
 -- ---- the cut of a letter is a letter

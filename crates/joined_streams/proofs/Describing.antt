@@ -2,20 +2,20 @@
 -- padded lists (header) and of described streams (streams).
 use Prim.Native.Nat.{ℕ, zero, suc, ◌+◌, ◌-◌, ◌*◌, ◌≤◌, ◌<◌, min}
 use native.Mathlib.Omega.{arith}
-use mathlib.Core.Path.{◌≡◌, refl, sym, ap, ap₂, subst, ◌∙◌}
+use mathlib.Core.Path.{◌≡◌, refl, sym, ap, subst, ◌∙◌}
 use mathlib.Core.Bool.{Bool, true, false, cond}
 use mathlib.Core.List.Memᴰ
 use mathlib.Core.List.{List, [], ◌∷◌, ◌++◌, map, map-append, append-nil, append_assoc, Memᴰ}
 use lib.Dec.{eqb, ltb}
-use lib.IntN.{ℤ, pos}
-use lib.ListN.{length, get_or, take, drop, set, replicate, length-map, length-append, length-drop, length-replicate}
+use lib.IntN.{pos}
+use lib.ListN.{length, get_or, drop, set, replicate, length-map, length-append, length-drop, length-replicate}
 use lib.Seq.{sets, append_snoc, length-take-le}
 use borrow.Author.Tests.{lt-ltb}
-use Rattle.meaning.specs.Expression.{StreamKind, read_kind, set_kind, Stream}
+use Rattle.meaning.specs.Expression.{Stream}
 use Rattle.meaning.specs.Window.{join_over}
 use Rattle.nodes.specs.Code.{stream_kind_code}
 use Rattle.nodes.specs.Bounds.{lows_of, highs_of}
-use Rattle.sheet.specs.Names.{eight_bytes, ShortNames, name_in}
+use Rattle.sheet.specs.Names.{eight_bytes, ShortNames}
 use Rattle.header.specs.Streams.{padded, name_bytes, name_lengths, stream_kind_codes}
 use Rattle.header.proofs.Streams.{padded-set, padded_sets, padded-further}
 use Rattle.streams.specs.Description.{kind_with, stream_in, described_from, description_of}

@@ -4,24 +4,23 @@ use Prim.Native.Nat.{ℕ, zero, suc, ◌+◌, ◌-◌, ◌*◌, ◌≤◌, ◌<�
 use native.Mathlib.Omega.{arith}
 use native.Mathlib.Decide.{ℕ_discrete}
 use mathlib.Core.Path.{◌≡◌, refl, sym, ap, ap₂, subst, ◌∙◌}
-use mathlib.Core.Bool.{Bool, true, false, cond}
-use mathlib.Core.List.{List, [], ◌∷◌, map, Memᴰ}
-use lib.ListN.{length, get_or, take, drop, set, length-map}
+use mathlib.Core.Bool.{Bool, cond}
+use mathlib.Core.List.{List, [], ◌∷◌, Memᴰ}
+use lib.ListN.{length, get_or, take, drop, set}
 use lib.Seq.{sets, take-suc, get_or-drop, length-take-le, get_or-set_same, get_or-set_other}
 use Rattle.basics.specs.Answers.{Says}
 use Rattle.basics.proofs.Answers.{says_either}
-use Rattle.basics.proofs.Lists.{get_d_map, sets_append}
+use Rattle.basics.proofs.Lists.{sets_append}
 use Rattle.basics.proofs.Reflects.{to_true, to_false, from_true, from_false}
 use Rattle.text.specs.Bytes.{Token}
 use Rattle.text.specs.Token.{same_bytes}
 use Rattle.text.proofs.Token.{same_bytes_reflects}
-use Rattle.meaning.specs.Expression.{Stream, absent_stream}
+use Rattle.meaning.specs.Expression.{Stream}
 use Rattle.sheet.specs.Vocabulary.{name_place}
 use Rattle.sheet.specs.Form.{names_of}
 use Rattle.sheet.specs.Names.{name_in}
 use Rattle.streams.specs.Description.{stream_in, described_from, description_of}
 use Rattle.streams.specs.declared.StreamsDescription.{StreamsDescription}
-use Rattle.streams.proofs.Fit.{streams-length}
 use Rattle.streams.proofs.Names.{name-part}
 use Rattle.joined_streams.specs.Joined.{place_of}
 

@@ -1,13 +1,12 @@
 -- The parts of a stored sheet: each list is what it holds and room beyond it. Cut to its count it is what it holds; the nodes stay uncut, with blank
 -- ones behind them.
-use Prim.Native.Nat.{ℕ, zero, suc, ◌+◌, ◌-◌, ◌≤◌, min}
+use Prim.Native.Nat.{ℕ, zero, suc, ◌+◌, ◌-◌, min}
 use native.Mathlib.Omega.{arith}
 use mathlib.Core.Path.{◌≡◌, refl, sym, ◌∙◌, ap}
 use mathlib.Core.List.{List, ◌∷◌, ◌++◌, map, map-append}
 use lib.IntN.{ℤ, pos}
 use lib.ListN.{length, take, replicate, length-map}
-use lib.Seq.{take_at, length-take-le}
-use borrow.Author.Rules.{length_unmapped}
+use lib.Seq.{take_at}
 use Rattle.nodes.proofs.Postfix.{stored-length}
 use Rattle.meaning.specs.Expression.{Sheet}
 use Rattle.meaning.specs.Letter.{letter_count}
@@ -39,14 +38,6 @@ module _ {X : Type 0} {count : ℕ} {list held : List X} (p : IsPadded count lis
 
   cut_held : {n : ℕ} → n ≡ count → take n list ≡ held
   cut_held e = ap (λ n. take n list) e ∙ part_held
-
--- A part of an array that is no longer than the array's room is as long as it says. The room is known of the array's numbers as they are stored.
-module _ {X : Type 0} (list : List X) (count : ℕ) {n room : ℕ} (cut : n ≡ min count room) (long : length (map (λ (v : X). v) list) ≡ room) where
-  pub cut_fits : n ≤ length list
-  cut_fits = omega (arith, cut, length_unmapped X list room long)
-
-  pub cut_long : n ≡ length (take n list)
-  cut_long = sym (length-take-le n list cut_fits)
 
 map-replicate : {X Y : Type 0} (f : X → Y) (n : ℕ) (x : X) → map f (replicate n x) ≡ replicate n (f x)
 map-replicate f zero x = refl

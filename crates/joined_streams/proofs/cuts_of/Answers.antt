@@ -1,8 +1,8 @@
 -- `cuts_of` meets its contract: before each turn the cuts of the letters before it are listed, and behind them the list is 0.
-use Prim.Native.Nat.{ℕ, ◌-◌, ◌<◌}
+use Prim.Native.Nat.{ℕ, ◌<◌}
 use mathlib.Core.Path.{◌≡◌, ◌∙◌}
 use native.Mathlib.Omega.{arith}
-use lib.ListN.{length, get_or, length-set, length-replicate}
+use lib.ListN.{length, length-set, length-replicate}
 use lib.Seq.{get_or-set_other}
 use Rattle.basics.proofs.Clearing.{zeros}
 use Rattle.streams.specs.Description.{description_of}

@@ -1,8 +1,8 @@
 -- `places_of` meets its contract: before each turn the places before it are found.
-use Prim.Native.Nat.{ℕ, ◌-◌, ◌<◌}
+use Prim.Native.Nat.{ℕ, ◌<◌}
 use mathlib.Core.Path.{◌≡◌, refl, ◌∙◌}
 use native.Mathlib.Omega.{arith}
-use lib.ListN.{length, set, length-set}
+use lib.ListN.{length, length-set}
 use Rattle.basics.proofs.Clearing.{zeros}
 use Rattle.streams.specs.Description.{stream_in, description_of}
 use Rattle.streams.proofs.Fit.{streams-length, stream-member}

@@ -1,5 +1,5 @@
 -- `shared_alike` meets its contract: before each turn the streams before the place are alike those with their names.
-use Prim.Native.Nat.{ℕ, ◌-◌}
+use Prim.Native.Nat.{ℕ}
 use native.Mathlib.Omega.{arith}
 use borrow.Author.Count.{below_more}
 use Rattle.basics.proofs.Answers.{says_yes, says_no}

@@ -1,7 +1,7 @@
 -- `with_name` meets its contract: before each turn the bytes before the place are copied (Places).
 use Prim.Native.Nat.{◌-◌, ◌≤◌}
 use mathlib.Core.Path.{◌≡◌}
-use lib.ListN.{length, set, take, drop}
+use lib.ListN.{length, take, drop}
 use lib.Seq.{sets}
 use Rattle.joined_streams.proofs.with_name.Given as goal
 

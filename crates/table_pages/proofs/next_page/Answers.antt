@@ -14,7 +14,7 @@ slice_bounds-lows-end c =
     omega (arith, c.fewer-count.ensures, lows-long)
 
 pub slice_bounds-fill_page-end-3 : goal.slice_bounds-fill_page-end-3
-slice_bounds-fill_page-end-3 c = sym (length-take-le _ _ (array-share-prefix-lows c))
+slice_bounds-fill_page-end-3 c = sym (length-take-le _ _ (let lows-long : length c.args.streams.lows ≡ 8 = search rules in omega (arith, c.fewer-count.ensures, lows-long)))
 
 pub slice_bounds-highs-end : goal.slice_bounds-highs-end
 slice_bounds-highs-end c =
@@ -22,7 +22,7 @@ slice_bounds-highs-end c =
     omega (arith, c.fewer-count.ensures, highs-long)
 
 pub slice_bounds-fill_page-end-4 : goal.slice_bounds-fill_page-end-4
-slice_bounds-fill_page-end-4 c = sym (length-take-le _ _ (array-share-prefix-highs c))
+slice_bounds-fill_page-end-4 c = sym (length-take-le _ _ (let highs-long : length c.args.streams.highs ≡ 8 = search rules in omega (arith, c.fewer-count.ensures, highs-long)))
 
 pub returns : goal.returns
 returns c =

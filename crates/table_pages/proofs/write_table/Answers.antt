@@ -1,6 +1,5 @@
 -- The ranges of streams that fit are numbers of the machine (Pages), and with a refusal its line alone is written.
 use Rattle.std.proofs.Common.{◌≡◌, length, replicate, pos, subst, rules}
-use borrow.Author.Tests.{not-false}
 use Rattle.output.specs.Output.{Hands}
 use Rattle.basics.proofs.Answers.{says_yes}
 use Rattle.streams.specs.declared.StreamsDescription.{StreamsDescription}
@@ -20,4 +19,4 @@ pub write_pages-requires-2 : goal.write_pages-requires-2
 write_pages-requires-2 g c =
     let lows : length c.args.streams.lows ≡ 8 = search rules in
     let highs : length c.args.streams.highs ≡ 8 = search rules in
-    (fit-held c.args.streams lows highs (says_yes {b = c.streams_fit-fit.result} (not-false _ c.if-not-fit.false) c.streams_fit-fit.ensures), search rules)
+    (fit-held c.args.streams lows highs (says_yes {b = c.streams_fit-fit.result} c.if-not-fit.false c.streams_fit-fit.ensures), search rules)
