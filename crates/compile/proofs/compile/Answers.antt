@@ -22,7 +22,7 @@ returns c =
     (text-outcome d.read-reading.ensures d.answered-answer.ensures
     (λ s accepted same.
     let fits = limit_fits args.entries.now args.finals.now args.keys.now args.live.now args.class.now args.next.now args.heads.now args.links.now args.envelopes.now accepted (sheet-letters s same) work rows limit in
-    calls_outcome args.entries.now args.finals.now args.keys.now args.live.now args.class.now args.next.now args.heads.now args.links.now args.envelopes.now accepted (sheet-letters s same) work rows limit found.kept.1.1.0 found.kept.1.1.1.0 found.kept.1.1.1.1.1.0 found.kept.1.1.1.1.1.1.0 leaves.work_zero.keys_zero leaves.within (explored-situations found.ensures s accepted same fits) table d.made.ensures)
-    (calls_cleared args.entries.now args.finals.now args.keys.now args.live.now args.class.now args.next.now args.heads.now args.links.now args.envelopes.now found.kept.1.1.0 found.kept.1.1.1.0 found.kept.1.1.1.1.1.0 found.kept.1.1.1.1.1.1.0 leaves.work_zero.keys_zero table))
+    calls_outcome args.entries.now args.finals.now args.keys.now args.live.now args.class.now args.next.now args.heads.now args.links.now args.envelopes.now accepted (sheet-letters s same) work rows limit found.auto.entries found.auto.finals found.auto.heads found.auto.links leaves.work_zero.keys_zero leaves.within (explored-situations found.ensures s accepted same fits) table d.made.ensures)
+    (calls_cleared args.entries.now args.finals.now args.keys.now args.live.now args.class.now args.next.now args.heads.now args.links.now args.envelopes.now found.auto.entries found.auto.finals found.auto.heads found.auto.links leaves.work_zero.keys_zero table))
     (ap (λ y. y.sheet) d.read-reading.ensures)
     c.with_sheet.ensures
