@@ -26,41 +26,8 @@ work_room-links-requires c = tt
 pub work_room-envelopes-requires : goal.work_room-envelopes-requires
 work_room-envelopes-requires c = tt
 
-pub slice_bounds-compile-end : goal.slice_bounds-compile-end
-slice_bounds-compile-end c = sym (length-take-le _ _ (array-borrow-prefix-keys c))
-
-pub slice_bounds-compile-end-2 : goal.slice_bounds-compile-end-2
-slice_bounds-compile-end-2 c = sym (length-take-le _ _ (array-borrow-prefix-live c))
-
-pub slice_bounds-compile-end-3 : goal.slice_bounds-compile-end-3
-slice_bounds-compile-end-3 c = sym (length-take-le _ _ (array-borrow-prefix-class c))
-
-pub slice_bounds-compile-end-4 : goal.slice_bounds-compile-end-4
-slice_bounds-compile-end-4 c = sym (length-take-le _ _ (array-borrow-prefix-next c))
-
-pub slice_bounds-compile-end-5 : goal.slice_bounds-compile-end-5
-slice_bounds-compile-end-5 c = sym (length-take-le _ _ (array-borrow-prefix-heads c))
-
-pub slice_bounds-compile-end-6 : goal.slice_bounds-compile-end-6
-slice_bounds-compile-end-6 c = sym (length-take-le _ _ (array-borrow-prefix-links c))
-
-pub slice_bounds-compile-end-7 : goal.slice_bounds-compile-end-7
-slice_bounds-compile-end-7 c = sym (length-take-le _ _ (array-borrow-prefix-envelopes c))
-
 pub compile-compiled-requires : goal.compile-compiled-requires
 compile-compiled-requires c = tt
 
 pub answer-requires : goal.answer-requires
 answer-requires c = tt
-
-pub returns : goal.returns
-returns c =
-    in_rows
-    (slice-aggregate-compile c)
-    (slice-aggregate-compile-2 c)
-    (slice-aggregate-compile-3 c)
-    (slice-aggregate-compile-4 c)
-    (slice-aggregate-compile-5 c)
-    (slice-aggregate-compile-6 c)
-    (slice-aggregate-compile-7 c)
-    (call-answer c.compile-compiled.ensures c.answer.ensures)

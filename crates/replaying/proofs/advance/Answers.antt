@@ -1,6 +1,6 @@
 -- `replaying::advance` meets its contract: before each turn the bytes so far are played, and a turn plays a part more, to the end of the chunk or
 -- until there is no room (Plays).
-use Prim.Native.Nat.{◌-◌, ◌≤◌}
+use Prim.Native.Nat.{◌≤◌}
 use native.Mathlib.Omega.{arith}
 use mathlib.Core.Path.{sym, ◌∙◌, ap, subst}
 use lib.ListN.{length, length-drop}

@@ -1,13 +1,14 @@
 -- `replaying::advance_values` meets its contract: before each turn the bytes so far are played, and what they print stands at the front of the lent
 -- bytes; a turn plays one line, or its bytes to the end of the chunk (Lines). The first turn finds room, so that a byte is played.
-use Prim.Native.Nat.{◌-◌, ◌≤◌, ◌<◌}
+use Prim.Native.Nat.{◌≤◌, ◌<◌}
 use native.Mathlib.Omega.{arith}
 use mathlib.Core.Path.{refl, sym, ◌∙◌, ap, subst}
-use mathlib.Core.Logic.{◌⊎◌, inl, inr, ⊎_elim}
+use mathlib.Core.Logic.{inl, inr, ⊎_elim}
 use mathlib.Core.List.{[]}
 use lib.ListN.{length, length-drop}
 use Rattle.replaying.proofs.Plays.{plays-nothing, same-room, lent-rest}
 use Rattle.replaying.proofs.Lines.{from-values, values-bytes, values-state, values-refused}
+use Rattle.replaying.proofs.advance_values.Goals.{else-loop-at-test, then-loop-at-test+then-out-size-lt32}
 use Rattle.replaying.proofs.advance_values.Goals as goal
 
 pub loop-at-init : goal.loop-at-init
@@ -92,6 +93,8 @@ returns c =
     let p = t.invariant.0 [] [] in
     let e = c.values_at.ensures in
     let n = ap (λ x. x.next) e in
-    let onward : b.args.from < t.at =
-    ⊎_elim (λ x. omega (arith, x.left, b.requires.2)) (λ x. ⊎_elim (λ h. h) (λ z. absurd (omega (arith, z, x.1.true, same-room _ _ p, b.requires.3))) t.invariant.1) c.loop-at-test.branch in
+    let onward : b.args.from < t.at = elim c.loop-at-test.branch [
+      | else-loop-at-test w ↦ omega (arith, w.loop-at-test.false, b.requires.2)
+      | then-loop-at-test+then-out-size-lt32 w ↦ ⊎_elim (λ h. h) (λ z. absurd (omega (arith, z, w.if-out-size-lt32.true, same-room _ _ p, b.requires.3))) t.invariant.1
+    ] in
     (omega (arith, n, onward), λ ns ls. from-values b.args.replay b.requires.0 e (t.invariant.0 ns ls))
