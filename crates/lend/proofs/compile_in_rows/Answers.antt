@@ -1,33 +1,20 @@
 -- `lend::compile_in_rows` meets its contract: the work tables, cut to the rows, are the room of these rows, and the compile leaves them zero.
-use mathlib.Core.Path.{sym}
+use mathlib.Core.Path.{◌≡◌, sym}
+use native.Mathlib.Omega.{arith}
+use Prim.Native.Nat.{◌*◌}
+use lib.ListN.{length, take}
 use lib.Seq.{length-take-le}
 use Rattle.compiled_sheet.proofs.Told.{call-answer}
 use Rattle.lend.proofs.Room.{in_rows}
 use Rattle.lend.proofs.compile_in_rows.Goals as goal
 
-pub key_room-keys-requires : goal.key_room-keys-requires
-key_room-keys-requires c = tt
-
-pub work_room-live-requires : goal.work_room-live-requires
-work_room-live-requires c = tt
-
-pub work_room-class-requires : goal.work_room-class-requires
-work_room-class-requires c = tt
-
-pub work_room-next-requires : goal.work_room-next-requires
-work_room-next-requires c = tt
-
-pub work_room-heads-requires : goal.work_room-heads-requires
-work_room-heads-requires c = tt
-
-pub work_room-links-requires : goal.work_room-links-requires
-work_room-links-requires c = tt
-
-pub work_room-envelopes-requires : goal.work_room-envelopes-requires
-work_room-envelopes-requires c = tt
-
-pub compile-compiled-requires : goal.compile-compiled-requires
-compile-compiled-requires c = tt
-
-pub answer-requires : goal.answer-requires
-answer-requires c = tt
+pub returns : goal.returns
+returns c =
+    let keys : c.args.rows * 16 ≡ length (take (c.args.rows * 16) c.key_room-keys.result) = sym (length-take-le _ _ (omega (arith, c.requires, c.key_room-keys.ensures))) in
+    let live : c.args.rows ≡ length (take c.args.rows c.work_room-live.result) = sym (length-take-le _ _ (omega (arith, c.requires, c.work_room-live.ensures))) in
+    let class : c.args.rows ≡ length (take c.args.rows c.work_room-class.result) = sym (length-take-le _ _ (omega (arith, c.requires, c.work_room-class.ensures))) in
+    let next : c.args.rows ≡ length (take c.args.rows c.work_room-next.result) = sym (length-take-le _ _ (omega (arith, c.requires, c.work_room-next.ensures))) in
+    let heads : c.args.rows ≡ length (take c.args.rows c.work_room-heads.result) = sym (length-take-le _ _ (omega (arith, c.requires, c.work_room-heads.ensures))) in
+    let links : c.args.rows ≡ length (take c.args.rows c.work_room-links.result) = sym (length-take-le _ _ (omega (arith, c.requires, c.work_room-links.ensures))) in
+    let envelopes : c.args.rows ≡ length (take c.args.rows c.work_room-envelopes.result) = sym (length-take-le _ _ (omega (arith, c.requires, c.work_room-envelopes.ensures))) in
+    in_rows keys live class next heads links envelopes (call-answer c.compile-compiled.ensures c.answer.ensures)
