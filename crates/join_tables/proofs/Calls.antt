@@ -3,36 +3,36 @@
 use Prim.Native.Nat.{ℕ, ◌*◌, ◌/◌, ◌≤◌, ◌<◌, min}
 use native.Mathlib.Omega.{arith}
 use native.Mathlib.Nat.{div-one, le_refl}
-use mathlib.Core.Path.{◌≡◌, refl, sym, ap, subst, ◌∙◌}
+use mathlib.Core.Path.{◌≡◌, sym, ap, subst, ◌∙◌}
 use mathlib.Core.Bool.{Bool, true, false, cond}
-use mathlib.Core.Logic.{◌⊎◌, inl, inr, ◌≢◌}
+use mathlib.Core.Logic.{inl, inr, ◌≢◌}
 use mathlib.Core.List.{List, [], ◌∷◌}
 use lib.Dec.{eqb}
 use lib.ListN.{length}
-use borrow.Author.Tests.{eq-eqb, ne_eqb}
+use borrow.Author.Tests.{ne_eqb}
 use Rattle.basics.specs.Answers.{Says}
 use Rattle.basics.specs.Lists.{at}
 use Rattle.meaning.specs.Letter.{letter_count}
 use Rattle.automaton.specs.Stored.{final_at}
-use Rattle.automaton.specs.WellFormed.{most_rows, IsWellFormed}
+use Rattle.automaton.specs.WellFormed.{IsWellFormed}
 use Rattle.streams.specs.Description.{description_of}
 use Rattle.streams.specs.declared.StreamsDescription.{StreamsDescription}
-use Rattle.outcome.specs.Room.{zeros, zero_tables}
-use Rattle.outcome.specs.Compile.{CompileAnswer, situation_bound, Room, room_rows, Tables, all_zero}
+use Rattle.outcome.specs.Room.{zeros}
+use Rattle.outcome.specs.Compile.{situation_bound, Room, room_rows, all_zero}
 use Rattle.outcome.proofs.CompileTotal.{rows_fit}
-use Rattle.minimise.specs.Outcome.{GraphTables, cleared, IsRefusal, MinimiseOutcome}
+use Rattle.minimise.specs.Outcome.{GraphTables, IsRefusal, MinimiseOutcome}
 use Rattle.minimise.specs.declared.Minimised.{Minimised}
-use Rattle.given_tables.specs.Given.{GivenTable, table_entry, IsFitTable}
+use Rattle.given_tables.specs.Given.{GivenTable, table_entry}
 use Rattle.joined_streams.specs.Joined.{cut_number}
 use Rattle.joined_streams.specs.declared.JoinedStreams.{JoinedStreams}
 use Rattle.joined_streams.specs.Outcome.{IsJoined, JoinedStreamsOutcome, unfit, clash, bounded, BoundsOutcome, over_bounds, joined}
-use Rattle.pairs.specs.Rows.{tables_over, HasPairRoom}
+use Rattle.pairs.specs.Rows.{tables_over}
 use Rattle.pairs.specs.Found.{PairTables, pair_tables, IsPairRoom, PairWorkZero, PairsOutcome, found, none}
-use Rattle.pair_outcome.specs.Outcome.{join_room, pair_answer, PairTableOutcome}
+use Rattle.pair_outcome.specs.Outcome.{join_room, pair_answer}
 use Rattle.pair_outcome.proofs.Agree.{pairs-agree}
 use Rattle.pair_outcome.proofs.Made.{calls_outcome}
 use Rattle.join_tables.specs.declared.JoinAnswer.{JoinAnswer}
-use Rattle.join_tables.specs.Outcome.{river_streams, tables_together, CanJoin, refused_join, told_of, told_by, JoinOutcome, JoinOutcome.unfit as tables-unfit, JoinOutcome.clash as names-clash, JoinOutcome.over_bounds as too_large, JoinOutcome.together as together}
+use Rattle.join_tables.specs.Outcome.{river_streams, CanJoin, refused_join, told_of, told_by, JoinOutcome, JoinOutcome.unfit as tables-unfit, JoinOutcome.clash as names-clash, JoinOutcome.over_bounds as too_large, JoinOutcome.together as together}
 use Rattle.join_tables.proofs.Fit.{states-below, some_letter}
 
 -- ---- the refusal of the tables and streams

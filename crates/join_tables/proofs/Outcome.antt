@@ -6,7 +6,7 @@ use native.Mathlib.Decide.{ℕ_discrete, dec_le, map_dec}
 use mathlib.Core.Path.{◌≡◌, refl, sym, ap, subst, ◌∙◌}
 use mathlib.Core.HLevel.{Discrete}
 use mathlib.Core.Logic.Dec
-use mathlib.Core.List.{List, Memᴰ, List-discrete}
+use mathlib.Core.List.{List, List-discrete}
 use lib.IntN.{ℤ_discrete}
 use lib.ListN.{length, take}
 use Rattle.basics.proofs.Lists.{below_decided}
@@ -19,7 +19,7 @@ use Rattle.automaton.proofs.WellFormed.{used_well_formed}
 use Rattle.streams.specs.Description.{stream_in, description_of}
 use Rattle.streams.specs.declared.StreamsDescription.{StreamsDescription}
 use Rattle.streams.proofs.Fit.{stream_origin, stream-member}
-use Rattle.outcome.specs.Compile.{CompileAnswer, Room, Tables, WordsOutcome, too_many_situations, too_few_rows, no_solution, compiled}
+use Rattle.outcome.specs.Compile.{CompileAnswer, Room, Tables, too_many_situations, too_few_rows, no_solution, compiled}
 use Rattle.given_tables.specs.Given.{GivenTable, IsFitTable}
 use Rattle.given_tables.proofs.Fit.{table_decided, kind_discrete}
 use Rattle.joined_streams.specs.Joined.{IsAlike, SharedAlike, WithinBounds}
