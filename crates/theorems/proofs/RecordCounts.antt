@@ -43,7 +43,7 @@ use Rattle.theorems.proofs.Demands.{ReadAs, table-stored}
 
 module _ {X Y : Type 0} {P : X → Type 0} {Q : Y → Type 0} (to : X → Y) (from : Y → X) (there : (x : X) → P x → Q (to x)) (back : (y : Y) → Q y → P (from y))
     (same : (x : X) → P x → from (to x) ≡ x) (again : (y : Y) → Q y → to (from y) ≡ y) where
-  mapped : {xs : List X} {x : X} → Memᴰ x xs → Memᴰ (to x) (map to xs)
+  mapped : {x : X} {xs : List X} → Memᴰ x xs → Memᴰ (to x) (map to xs)
   mapped (Memᴰ.head e) = Memᴰ.head (ap to e)
   mapped (Memᴰ.tail m) = Memᴰ.tail (mapped m)
 

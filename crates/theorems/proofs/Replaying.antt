@@ -161,6 +161,7 @@ module _ (ss : List Stream) (entries : List ℕ) where
 -- ---- the table of an accepted sheet
 
 letters_record : (ss : List Stream) (ls : List (List ℕ)) → AreLetters ss ls → OfLetters ss (record_of_lines ls)
+letters_record ss [] h m x'' = elim x'' [ ]
 letters_record ss (l ∷ ls) h m (Memᴰ.head e) = subst (IsLetter ss) (sym e) (letter-line ss l h.0).0
 letters_record ss (l ∷ ls) h m (Memᴰ.tail p) = letters_record ss ls h.1 m p
 
