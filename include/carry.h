@@ -1,6 +1,6 @@
 /* carry.h: go on in the table of a new rule sheet, without closing the weir, from a C program.
  *
- * Link with the archive that `rt staticlib carry_c` writes, target/staticlib/libcarry_c.a. It is for x86-64 Linux and needs `memcpy` and `memset`
+ * Link with the archive that `tools/build carry_c` writes, target/staticlib/libcarry_c.a. It is for x86-64 Linux and needs `memcpy` and `memset`
  * of the C library, no mathematics library and no threads. It allocates nothing, keeps no state of its own, and always returns.
  * examples/change_over.c is a whole program.
  *

@@ -1,6 +1,6 @@
 /* compile.h: compile a rule sheet into a table from a C program.
  *
- * Link with the archive that `rt staticlib compile_c` writes, target/staticlib/libcompile_c.a. It is for x86-64 Linux and
+ * Link with the archive that `tools/build compile_c` writes, target/staticlib/libcompile_c.a. It is for x86-64 Linux and
  * needs `memcpy` and `memset` of the C library, no mathematics library and no threads. It allocates nothing, keeps no
  * state of its own, and always returns. examples/desk.c is a whole program.
  *

@@ -1,6 +1,6 @@
 /* course.h: the shortest course to a final state, with the fewest changes of set streams, from a C program.
  *
- * Link with the archive that `rt staticlib course_c` writes, target/staticlib/libcourse_c.a. It is for x86-64 Linux and
+ * Link with the archive that `tools/build course_c` writes, target/staticlib/libcourse_c.a. It is for x86-64 Linux and
  * needs `memset` of the C library, no mathematics library and no threads. It allocates nothing, keeps no state of its own,
  * and always returns. examples/desk.c calls it after a compile.
  *

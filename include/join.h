@@ -1,6 +1,6 @@
 /* join.h: join the tables of two rule sheets on one river from a C program.
  *
- * Link with the archive that `rt staticlib join_c` writes, target/staticlib/libjoin_c.a. It is for x86-64 Linux and needs `memcpy` and `memset`
+ * Link with the archive that `tools/build join_c` writes, target/staticlib/libjoin_c.a. It is for x86-64 Linux and needs `memcpy` and `memset`
  * of the C library, no mathematics library and no threads. It allocates nothing, keeps no state of its own, and always returns.
  *
  *

@@ -1,6 +1,6 @@
 /* normal_form.h: the normal form of a rule sheet from a C program.
  *
- * Link with the archive that `rt staticlib normal_c` writes, target/staticlib/libnormal_c.a. It is for x86-64 Linux and
+ * Link with the archive that `tools/build normal_c` writes, target/staticlib/libnormal_c.a. It is for x86-64 Linux and
  * needs `memcpy` and `memset` of the C library, no mathematics library and no threads. It allocates nothing, keeps no
  * state of its own, and always returns. A call takes at most NORMAL_FORM_STACK bytes of the caller's stack, measured on
  * the sheets that go deepest; on less the caller crashes.

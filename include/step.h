@@ -1,6 +1,6 @@
 /* step.h: follow a table of states, letter by letter, from a C program.
  *
- * Link with the archive that `rt staticlib step` writes, target/staticlib/libstep.a. It is for x86-64 Linux, needs no
+ * Link with the archive that `tools/build step` writes, target/staticlib/libstep.a. It is for x86-64 Linux, needs no
  * other library, allocates nothing, keeps no state of its own, and always returns. A call takes at most STEP_STACK bytes
  * of the caller's stack.
  *

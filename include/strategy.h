@@ -1,6 +1,6 @@
 /* strategy.h: compile a rule sheet into a table and a play table from a C program.
  *
- * Link with the archive that `rt staticlib game_c` writes, target/staticlib/libgame_c.a. It needs what the archive of compile.h needs,
+ * Link with the archive that `tools/build game_c` writes, target/staticlib/libgame_c.a. It needs what the archive of compile.h needs,
  * allocates nothing, keeps no state of its own, and always returns.
  *
  *

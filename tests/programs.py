@@ -39,10 +39,10 @@ ssize_t read(int file, void *bytes, size_t count) {
 
 
 def built(name):
-    """The program of this name, which `rt check` makes."""
+    """The program of this name, which `tools/build` makes."""
     program = ROOT / "target" / "bin" / name
     if not program.exists():
-        sys.exit("%s is missing: run `rt check %s` first" % (program, name))
+        sys.exit("%s is missing: run `tools/build %s` first" % (program, name))
     return str(program)
 
 
@@ -168,7 +168,7 @@ def full_device(runs, cases, not_written):
 
 
 def add_program(arguments, name):
-    """The argument --program, where it is not the program that `rt check` makes."""
+    """The argument --program, where it is not the program that `tools/build` makes."""
     arguments.add_argument("--program", metavar="PROGRAM", help="the program (target/bin/%s)" % name)
 
 

@@ -3,7 +3,7 @@
     python3 tests/explain/run.py [--write] [--seed SEED] [--program PROGRAM] [NAME ..]
 
 Each tests/explain/cases/CASE.sheet must be explained as CASE.told says. PROGRAM is target/bin/sluice, which
-`rt check sluice` makes; where it is not there, its numbers are not compared. --write writes the stored texts anew.
+`tools/build sluice` makes; where it is not there, its numbers are not compared. --write writes the stored texts anew.
 """
 
 import pathlib

@@ -5,7 +5,7 @@
 The stored sheets and the examples, of which `examples/cabinet.h` is stored; random sheets of
 each release, with and without kinds; a long header; files that cannot be read, a read
 and a write that fail. The headers of the examples are also read back by their form, and their
-tables are those that `sluice` prints. PROGRAM is target/bin/export, which `rt check export` makes. CC may name
+tables are those that `sluice` prints. PROGRAM is target/bin/export, which `tools/build export` makes. CC may name
 another C compiler.
 """
 

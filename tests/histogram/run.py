@@ -4,7 +4,7 @@
 
 The stored cases, the example, a year of lines at each minute and the same year in two parts,
 files that cannot be read, a pipe without a writer, a read and a write that fail, and a record that is
-not read to its end. PROGRAM is target/bin/histogram, which `rt check histogram`
+not read to its end. PROGRAM is target/bin/histogram, which `tools/build histogram`
 makes. CC may name another C compiler.
 """
 

@@ -23,11 +23,13 @@ PLAIN_PATH = "/usr/bin:/bin"
 SECTIONS = ["NAME", "SYNOPSIS", "DESCRIPTION", "EXIT STATUS", "EXAMPLES", "SEE ALSO"]
 SHEET = ROOT / "examples" / "rise.sheet"
 LONGEST_RUN = 300
-# Makes what `rt check NAME` and `rt staticlib NAME` make, in the folder where it is called.
+# Makes what `rt run` and `rt lib` make, in the crate's folder where it is called.
 STAND_IN = """#!/bin/sh
+name=$(basename "$PWD")
+mkdir -p out
 case $1 in
-check) mkdir -p target/bin; printf '#!/bin/sh\\necho %s\\n' "$2" >target/bin/$2; chmod +x target/bin/$2 ;;
-staticlib) mkdir -p target/staticlib; echo "$2" >target/staticlib/lib$2.a ;;
+run) printf '#!/bin/sh\\necho %s\\n' "$name" >out/$name; chmod +x out/$name ;;
+lib) echo "$name" >out/lib$name.a ;;
 esac
 """
 
@@ -118,6 +120,13 @@ def built_first():
         folder = pathlib.Path(name)
         for part in ("tools", "include", "man", "enumerator"):
             shutil.copytree(ROOT / part, folder / "tree" / part, ignore=shutil.ignore_patterns("__pycache__"))
+        archives = set(re.findall(r"lib[a-z_]*\.a", "".join(path.read_text() for path in (ROOT / "include").glob("*.h"))))
+        # The archive of the step has the name of its header, and its crate is step_c.
+        libraries = ["step_c" if archive == "libstep.a" else archive[3:-2] for archive in archives]
+        (folder / "tree/crates.txt").write_text("".join("%s:\n" % program for program in programs()) + "".join("%s staticlib: basics\n" % crate for crate in libraries))
+        for source in ["%s/src/main.rt" % program for program in programs()] + ["%s/src/lib.rt" % crate for crate in libraries]:
+            (folder / "tree/crates" / source).parent.mkdir(parents=True)
+            (folder / "tree/crates" / source).write_text("")
         (folder / "bin").mkdir()
         stand_in = folder / "bin" / "rt"
         stand_in.write_text(STAND_IN)
@@ -126,7 +135,6 @@ def built_first():
         done = run([folder / "tree/tools/install", folder / "prefix"], env=path)
         expect("an install that builds", (done.returncode, done.stderr), (0, ""))
         expect("the programs", sorted(path.name for path in (folder / "prefix/bin").iterdir()), programs())
-        archives = set(re.findall(r"lib[a-z_]*\.a", "".join(path.read_text() for path in (ROOT / "include").glob("*.h"))))
         expect("the archives", {path.name for path in (folder / "prefix/lib").glob("*.a")}, archives)
         expect("a program", run([folder / "prefix/bin/sluice"], env=path).stdout, "sluice\n")
         shutil.rmtree(folder / "tree/target")

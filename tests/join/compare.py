@@ -3,7 +3,7 @@
     python3 tests/join/compare.py [--program PROGRAM] COUNT [SEED]
 
 Gives the program COUNT drawn pairs of sheets, one run each. PROGRAM is target/bin/join, which
-`rt check join` makes.
+`tools/build join` makes.
 """
 
 import pathlib

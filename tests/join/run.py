@@ -5,7 +5,7 @@
 The stored pairs of sheets and that of the examples; each stored sheet joined with itself, which prints what
 `sluice` prints; single sheets with the rules of both, printed by `sluice`; files that
 cannot be read, a read and a write that fail. PROGRAM is target/bin/join; it and
-target/bin/sluice are made by `rt check join sluice`. CC may name another C compiler.
+target/bin/sluice are made by `tools/build join sluice`. CC may name another C compiler.
 """
 
 import pathlib

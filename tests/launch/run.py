@@ -2,7 +2,7 @@
 
     python3 tests/launch/run.py [NAME ..]
 
-Uses target/bin/sluice, which `rt check sluice` makes, and target/bin/replay, histogram, shortest, export, strategy, statistics, join, migrate and record_counts
+Uses target/bin/sluice, which `tools/build sluice` makes, and target/bin/replay, histogram, shortest, export, strategy, statistics, join, migrate and record_counts
 where they are there. How a program is built, what is passed on and how long it is kept is tested in a folder of its own, with stand-ins for `rt` and for the program.
 """
 
@@ -94,7 +94,7 @@ def plain_tools(folder):
     """A folder with the system's tools and without `rt`, to stand alone on the PATH."""
     tools = folder / "plain"
     tools.mkdir()
-    for name in ["bash", "cat", "chmod", "dirname", "find", "mkdir", "readlink", "sed", "seq", "sleep", "tail", "tee", "touch"]:
+    for name in ["bash", "cat", "chmod", "cp", "dirname", "find", "mkdir", "mv", "readlink", "rm", "sed", "seq", "sleep", "tail", "tee", "touch"]:
         (tools / name).symlink_to(shutil.which(name))
     return str(tools)
 
@@ -281,10 +281,11 @@ def stand_in(path, text):
 
 def stand_in_cases(folder):
     """A folder with the tools and stand-ins for `rt` and the program."""
-    for part in ["tools", "crates", "bin"]:
+    for part in ["tools", "crates", "bin", "crates/sluice", "crates/sluice/src"]:
         (folder / part).mkdir()
-    (folder / "crates.txt").write_text("")
-    for name in ["launch", "sluice"]:
+    (folder / "crates.txt").write_text("sluice:\n")
+    (folder / "crates" / "sluice" / "src" / "main.rt").write_text("")
+    for name in ["launch", "sluice", "build"]:
         shutil.copy(ROOT / "tools" / name, folder / "tools" / name)
     tool = folder / "tools" / "sluice"
     program = folder / "target" / "bin" / "sluice"
@@ -292,15 +293,17 @@ def stand_in_cases(folder):
     path = {"PATH": f"{folder / 'bin'}:{plain}"}
 
     expect("no rt and no program", run([tool], env={"PATH": plain}), "", 2, "'rt' is needed")
-    stand_in(folder / "bin" / "rt", "echo 'rt: basics proved (3 s)'; echo 'error: no'; exit 1")
-    expect("a proof that fails", run([tool], env=path), "", 2, "basics proved (3 s)")
+    proved = "echo 'crate %s: modules loaded=0 checked=5' >&2; echo 'logic=proved functions=3 sum=0' >&2; "
+    stand_in(folder / "bin" / "rt", proved % "basics" + "echo 'error: no' >&2; exit 1")
+    expect("a proof that fails", run([tool], env=path), "", 2, "basics proved\n")
     stand_in(
         folder / "bin" / "rt",
-        "[ \"$*\" = 'check sluice' ] || exit 1; mkdir -p target/bin; printf '#!/bin/sh\\ncat\\n' >target/bin/sluice; chmod +x target/bin/sluice\n"
-        "cat; echo 'rt: basics proved (3 s)'; echo 'fn basics::fewer: proved'; echo 'rt: text proved (unchanged since it was last proved)'\n",
+        "[ \"$* ${PWD##*/}\" = 'run sluice' ] || exit 1; mkdir -p out; printf '#!/bin/sh\\ncat\\n' >out/sluice; chmod +x out/sluice\n"
+        "cat; echo 'fn basics::fewer: proved' >&2; " + proved % "basics" + "echo 'rt: text: begins with what a check kept in /unchanged/crates/text' >&2\n"
+        "echo 'rt: running out/sluice' >&2; echo refused 3; exit 5\n",
     )
     first = run([tool], text="state\n1\n", env=path)
-    expect("the first call", first, "state\n1\n", 0, "basics proved (3 s)")
+    expect("the first call", first, "state\n1\n", 0, "basics proved\n")
     if "fewer" in first.stderr or "unchanged" in first.stderr:
         sys.exit(f"tests/launch/run.py: the first call tells too much: {first.stderr!r}")
     stand_in(folder / "bin" / "rt", "exit 1")
@@ -325,11 +328,11 @@ def stand_in_cases(folder):
     if (line, rest, running.returncode) != ("first\n", "last\n", 0):
         sys.exit(f"tests/launch/run.py: a line is passed on as it comes: {line!r}, {rest!r}, status {running.returncode}")
 
-    stand_in(folder / "bin" / "rt", "echo 'rt: text proved (1 s)'; printf '#!/bin/sh\\necho anew\\n' >target/bin/sluice")
+    stand_in(folder / "bin" / "rt", proved % "text" + "printf '#!/bin/sh\\necho anew\\n' >out/sluice; chmod +x out/sluice")
     later = time.time() + 10
     (folder / "crates" / "lib.rt").write_text("")
     os.utime(folder / "crates" / "lib.rt", (later, later))
-    expect("a source that changed", run([tool], env=path), "anew\n", 0, "text proved (1 s)")
+    expect("a source that changed", run([tool], env=path), "anew\n", 0, "text proved\n")
 
 
 def build():

@@ -3,7 +3,7 @@
     python3 tests/migrate/compare.py [--program PROGRAM] COUNT [SEED]
 
 Gives the program COUNT drawn pairs of sheets, one run each. PROGRAM is target/bin/migrate, which
-`rt check migrate` makes.
+`tools/build migrate` makes.
 """
 
 import pathlib

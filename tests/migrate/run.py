@@ -5,7 +5,7 @@
 The stored pairs of sheets and that of the examples; each stored sheet to itself, to its streams without rules, and
 back; records of drawn pairs, played by `replay` along both sheets; files that cannot be
 read, a read and a write that fail. PROGRAM is target/bin/migrate; it and target/bin/replay
-are made by `rt check migrate replay`. CC may name another C compiler.
+are made by `tools/build migrate replay`. CC may name another C compiler.
 """
 
 import pathlib

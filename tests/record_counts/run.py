@@ -5,7 +5,7 @@
 The stored cases, whole and in pieces; the stored sheets and the examples with drawn
 numbers of letters; a line before the sheet that is longer than any buffer; an input
 that cannot be read, reads that fail later, and a write that fails. PROGRAM is
-target/bin/record_counts, which `rt check record_counts` makes. CC may name another C
+target/bin/record_counts, which `tools/build record_counts` makes. CC may name another C
 compiler.
 """
 

@@ -4,7 +4,7 @@
 
 The stored cases, a year of hourly lines, a record cut in two, files that cannot
 be read, a read and a write that fail, and a record that is not read to its end.
-PROGRAM is target/bin/replay, which `rt check replay` makes. CC may name another
+PROGRAM is target/bin/replay, which `tools/build replay` makes. CC may name another
 C compiler.
 """
 

@@ -5,7 +5,7 @@
 The stored cases, every stored sheet from state 0 and from its last state, what
 is printed played as a record by `replay`, texts that are no state, missing
 arguments, files that cannot be read, a read and a write that fail. PROGRAM is
-target/bin/shortest; it and target/bin/replay are made by `rt check shortest
+target/bin/shortest; it and target/bin/replay are made by `tools/build shortest
 replay`. CC may name another C compiler.
 """
 

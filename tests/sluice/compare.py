@@ -4,7 +4,7 @@
 
 Gives the program COUNT random sheets, a quarter as many with divisions, a quarter
 as many damaged ones, the sheets at the bounds and those with many situations, one run each, and compares every
-byte that it prints. PROGRAM is target/bin/sluice, which `rt check sluice` makes.
+byte that it prints. PROGRAM is target/bin/sluice, which `tools/build sluice` makes.
 An endless input must be refused too, and not be read to its end.
 """
 

@@ -4,7 +4,7 @@
 
 A read that fails in the middle of a sheet leaves an empty one: `refused 3`, and a
 line on standard error. A write that fails stops the printing, with a line on
-standard error. PROGRAM is target/bin/sluice, which `rt check sluice` makes.
+standard error. PROGRAM is target/bin/sluice, which `tools/build sluice` makes.
 """
 
 import os

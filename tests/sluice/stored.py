@@ -2,7 +2,7 @@
 
     python3 tests/sluice/stored.py [--program PROGRAM]
 
-PROGRAM is target/bin/sluice, which `rt check sluice` makes.
+PROGRAM is target/bin/sluice, which `tools/build sluice` makes.
 """
 
 import pathlib

@@ -4,7 +4,7 @@
 
 The stored sheets, with every refusal but 8, for which too few rows are lent; the examples
 and random sheets; files that cannot be read, a read and a write that fail. PROGRAM is
-target/bin/statistics, which `rt check statistics` makes. CC may name another C compiler.
+target/bin/statistics, which `tools/build statistics` makes. CC may name another C compiler.
 """
 
 import pathlib

@@ -3,7 +3,7 @@
     python3 tests/strategy/compare.py [--program PROGRAM] COUNT [SEED]
 
 Gives the program COUNT drawn sheets with kinds, a quarter as many other random sheets and
-as many with divisions, one run each. PROGRAM is target/bin/strategy, which `rt check
+as many with divisions, one run each. PROGRAM is target/bin/strategy, which `tools/build
 strategy` makes.
 """
 

@@ -6,7 +6,7 @@ The stored cases, whose answer is settled; the sheets of the stored games, all o
 stored sheets and the examples, whose play tables are judged, since which letters they
 hold is free; plays along what is printed, by drawn choices of the river, played as
 records by `replay`; files that cannot be read, a read and a write that fail. PROGRAM is
-target/bin/strategy; it and target/bin/replay are made by `rt check strategy replay`. CC
+target/bin/strategy; it and target/bin/replay are made by `tools/build strategy replay`. CC
 may name another C compiler.
 """
 
