@@ -1,11 +1,11 @@
 -- What is kept or cleared, and what the parts of `make_play` make together. From the definitions.
-use Prim.Native.Nat.{ℕ, ◌+◌, ◌-◌, ◌≤◌, ◌<◌, min}
+use Prim.Native.Nat.{ℕ, min}
 use native.Mathlib.Omega.{arith}
-use mathlib.Core.Path.{◌≡◌, refl, sym, ◌∙◌, ap, ap₂, subst}
+use mathlib.Core.Path.{◌≡◌, sym, ◌∙◌, ap, ap₂, subst}
 use mathlib.Core.Bool.{Bool, true, false}
-use mathlib.Core.List.{List, [], ◌∷◌, ◌++◌}
-use lib.ListN.{length, take, drop, replicate, length-drop, length-replicate, replicate-append-replicate}
-use lib.Seq.{length-take-le, get_or-drop}
+use mathlib.Core.List.{List, ◌++◌}
+use lib.ListN.{length, take, drop, replicate}
+use lib.Seq.{length-take-le}
 use Rattle.basics.specs.Clearing.{ClearedFrom}
 use Rattle.basics.proofs.Clearing.{cleared-all}
 use Rattle.outcome.specs.Room.{zeros}
@@ -27,14 +27,14 @@ pub made : {told : CompiledSheet} {entries finals live play choice ranks' play' 
     → letters ≡ min told.letters 1024 → states ≡ min told.states (length live) → ChoicesCounted told.streams choices → ChoicesFilled told.streams (replicate 1024 0) is_filled choice
     → PlayOutcome entries finals (take letters choice) choices (length (take states live)) (length play) forced play' × (ranks' ≡ replicate (length (take states live)) 0)
     → (entries' ≡ kept_if forced entries) × (finals' ≡ kept_if forced finals) → r ≡ told_with_play told forced → PlayMade told entries finals live play r entries' finals' (ranks' ++ drop states live) play'
-made {told} {entries} {finals} {live} {play} {choice} {play' = play'} {letters} {states} {choices} {forced = forced} l s counted filled played kept answer =
+made {told} {entries} {finals} {live} {play} {choice} {play' = play'} {letters} {states} {choices} {forced = forced} l s counts fills played kept answer =
     let long : length (take states live) ≡ min told.states (length live) = length-take-le states live (omega (arith, s)) ∙ s in
     record {
       choices = choices;
-      counted = counted;
+      counted = counts;
       is_filled = _;
       choice = choice;
-      filled = filled;
+      filled = fills;
       forced = forced;
       played =
           subst (λ n. PlayOutcome entries finals (take n choice) choices (min told.states (length live)) (length play) forced play') l

@@ -1,6 +1,6 @@
 -- The rows of a sheet's entries are the constraints of its normal form, one by one and in order, where a node stands for its expression. So there are as
 -- many entries as constraints. (Saying shows the same of the records, from the text.)
-use Prim.Native.Nat.{ℕ, suc, ◌+◌, ◌-◌}
+use Prim.Native.Nat.{ℕ, suc, ◌+◌}
 use native.Mathlib.Omega.{arith}
 use mathlib.Core.Path.{◌≡◌, refl, sym, ◌∙◌, ap, ap₂}
 use mathlib.Core.Bool.{cond}
@@ -158,7 +158,7 @@ module _ (s : Sheet) where
   own_say p n (c ∷ cs) h =
       let g = sides_stand L p c cs h in
       let w = line-says p c g.0 g.1 in
-      ap₂ ◌∷◌ (w.own n) (own_say _ _ cs g.2 ∙ ap (λ k. all_rewritten (n + k) cs) w.count)
+      ap₂ ◌∷◌ (w.own n) (own_say (p + node_count (left_side c) + node_count (right_side c)) _ cs g.2 ∙ ap (λ k. all_rewritten (n + k) cs) w.count)
 
   pub added_say : (p n : ℕ) (cs : List Constraint) → Stand L p (node_expressions cs) → map says (added_rows n (rewriting_lines p cs)) ≡ all_entries n cs
   unfolding rewriting_lines added_rows all_entries
@@ -167,7 +167,7 @@ module _ (s : Sheet) where
       let g = sides_stand L p c cs h in
       let w = line-says p c g.0 g.1 in
       map-append says ((line_at p c).adds.rows n) _
-      ∙ ap₂ ◌++◌ (w.entries n) (added_say _ _ cs g.2 ∙ ap (λ k. all_entries (n + k) cs) w.count)
+      ∙ ap₂ ◌++◌ (w.entries n) (added_say (p + node_count (left_side c) + node_count (right_side c)) _ cs g.2 ∙ ap (λ k. all_entries (n + k) cs) w.count)
 
   all_say : map says (normal_rows s) ≡ (normal_form s).constraints
   unfolding normal_form
@@ -182,7 +182,7 @@ module _ (s : Sheet) where
   streams-counted p n (c ∷ cs) h =
       let g = sides_stand L p c cs h in
       let w = line-says p c g.0 g.1 in
-      streams-counted _ _ cs g.2 ∙ omega (arith, w.count, length-append (added_by c) (all_added cs))
+      streams-counted (p + node_count (left_side c) + node_count (right_side c)) _ cs g.2 ∙ omega (arith, w.count, length-append (added_by c) (all_added cs))
 
 -- Decoded one by one, the rows are the constraints of the normal form.
 pub rows_decoded : (s : Sheet) → map (decoded s) (normal_rows s) ≡ (normal_form s).constraints

@@ -226,8 +226,8 @@ module _ (rows : List Row) (range : ℕ → Range) (interval : ℕ → Interval)
   end_out j h = stored_out no_ends (ends_up_to range (numbers_with rows) (length rows)) (pos 0) ends_fit j (omega (arith, length-ends_up_to range (numbers_with rows) (length rows))) ∙ zeros-at 8256 j (pos 0)
 
   -- The row that is read.
-  row_in : (i : ℕ) → i < length rows → row_in numbers i ≡ get_or rows i no_row
-  row_in i h =
+  row_within : (i : ℕ) → i < length rows → row_in numbers i ≡ get_or rows i no_row
+  row_within i h =
       let e : i * 7 ≡ i * 7 + 0 = omega arith in
       let field : (k : ℕ) → k < 7 → get_or numbers (i * 7 + k) 0 ≡ get_or (numbers_of (get_or rows i no_row)) k 0 = λ k l. has.same (i * 7 + k) (omega arith) ∙ number_at rows fits i k h l in
       λ j. record {
@@ -258,7 +258,7 @@ module _ (rows : List Row) (range : ℕ → Range) (interval : ℕ → Interval)
       let f : i * 2 ≡ i * 2 + 0 = omega arith in
       let low = ap (λ j. get_or ends j (pos 0)) f ∙ end_at i 0 h (omega arith) in
       let high = end_at i 1 h (omega arith) in
-      sym (entry-within numbers ends i (omega arith)) ∙ (λ j. entry_with (λ e. has.spans e j) (row_in i h j) (low j) (high j))
+      sym (entry-within numbers ends i (omega arith)) ∙ (λ j. entry_with (λ e. has.spans e j) (row_within i h j) (low j) (high j))
 
   entry_out : (i : ℕ) → length rows ≤ i → stored_entry numbers ends i ≡ blank
   entry_out i h = by (dec_lt i row_bound)

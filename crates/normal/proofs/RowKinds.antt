@@ -59,9 +59,9 @@ module _ (p : ℕ) (c : Constraint) (n : ℕ) where
 pub own-lines : (p n : ℕ) (cs : List Constraint) → All IsLine (own_rows n (rewriting_lines p cs))
 unfolding rewriting_lines own_rows
 own-lines p n [] = tt
-own-lines p n (c ∷ cs) = (own_line p c n, own-lines _ _ cs)
+own-lines p n (c ∷ cs) = (own_line p c n, own-lines (p + node_count (left_side c) + node_count (right_side c)) _ cs)
 
 pub adds-added : (p n : ℕ) (cs : List Constraint) → All IsAdded (added_rows n (rewriting_lines p cs))
 unfolding rewriting_lines added_rows
 adds-added p n [] = tt
-adds-added p n (c ∷ cs) = (All-append IsAdded ((line_at p c).adds.rows n) _).1 (adds-line p c n, adds-added _ _ cs)
+adds-added p n (c ∷ cs) = (All-append IsAdded ((line_at p c).adds.rows n) _).1 (adds-line p c n, adds-added (p + node_count (left_side c) + node_count (right_side c)) _ cs)

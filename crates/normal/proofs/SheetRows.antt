@@ -196,7 +196,7 @@ lines_few p n (c ∷ cs) =
 pub length_lines_of : (p : ℕ) (cs : List Constraint) → length (rewriting_lines p cs) ≡ length cs
 unfolding rewriting_lines
 length_lines_of p [] = refl
-length_lines_of p (c ∷ cs) = ap suc (length_lines_of _ cs)
+length_lines_of p (c ∷ cs) = ap suc (length_lines_of (p + node_count (left_side c) + node_count (right_side c)) cs)
 
 -- There is a node for each expression of the sheet.
 pub nodes-total : (n f : ℕ) (cs : List Constraint) → length (all_nodes n f cs) ≡ length (all_expressions cs)

@@ -1,7 +1,7 @@
 -- The numbers of an accepted sheet's entries fit their fields: there are at most 32 + 4 · 1,024 entries, 8 + 3 · 1,024 streams and 1,024 nodes, so
 -- every stream's number and every node's place is below 65,536; spans are places of the text, of at most 16,384 bytes; and the ranges are within the
 -- magnitude bound.
-use Prim.Native.Nat.{ℕ, zero, suc, ◌+◌, ◌*◌, ◌-◌, ◌≤◌, ◌<◌}
+use Prim.Native.Nat.{ℕ, zero, suc, ◌+◌, ◌*◌, ◌≤◌, ◌<◌}
 use native.Mathlib.Omega.{arith}
 use mathlib.Core.Path.{sym, subst}
 use mathlib.Core.Bool.{Bool, true, false, cond}

@@ -1,6 +1,6 @@
 -- The spans of the text of an accepted sheet: one for each node, and the text of each is read as the expression of its node. From the laws of `spans`, since an
 -- accepted text is short.
-use Prim.Native.Nat.{ℕ, ◌+◌, ◌≤◌}
+use Prim.Native.Nat.{ℕ, ◌≤◌}
 use native.Mathlib.Omega.{arith}
 use native.Mathlib.Decide.{dec_le}
 use mathlib.Core.Path.{◌≡◌, refl, sym, ◌∙◌, subst}

@@ -1,5 +1,4 @@
 -- `make_play::keep_if` meets its contract: both lists are cleared, or none.
-use borrow.Author.Tests.{not-true, not-false}
 use Rattle.make_play.proofs.Parts.{list-cleared, list-kept}
 use Rattle.make_play.proofs.keep_if.Goals as goal
 

@@ -125,7 +125,8 @@ make-requires c =
     let s = c in
     let read = c.read-reading in
     let got = reading_sheet s.args.text.now read.ensures c.if-reading-ne0.false in
-    read_asked got
+    let asked = read_asked got in
+    record { has_lines = asked.0; lines_have_room = asked.1 }
 
 pub returns : goal.returns
 returns c =

@@ -1,5 +1,5 @@
 -- `normal::write_ends` meets its contract. The invariant: the ends of the ranges of the rows passed stand in the table.
-use Prim.Native.Nat.{◌-◌, ◌*◌}
+use Prim.Native.Nat.{◌*◌}
 use native.Mathlib.Omega.{arith}
 use mathlib.Core.Path.{◌≡◌, ◌∙◌, ap, ap₂}
 use mathlib.Core.List.{[], ◌∷◌}
@@ -44,7 +44,7 @@ loop-i-preserved c =
     let range = range_before (stored s.args.kinds.now s.args.values.now s.args.starts.now) s.args.lows.now s.args.highs.now in (
       omega arith,
       more-ends range s.args.numbers.now s.args.ends.now o.i o.invariant.1 (c.range_before-range.ensures ∙ ap range c.wide-source.ensures) (c.put_range.ensures
-          ∙ ap₂ (λ x y. sets o.ends (o.i * 2) (x ∷ y ∷ [])) (to_z-of_z w64 r.low (record { sfits = omega (arith, c.type_inv.range) })) (to_z-of_z w64 r.high (record { sfits = omega (arith, c.type_inv.range) }))),
+          ∙ ap₂ (λ x y. sets o.ends (o.i * 2) (x ∷ y ∷ [])) (to_z-of_z w64 r.low (record { sfits = omega arith })) (to_z-of_z w64 r.high (record { sfits = omega arith }))),
     )
 
 pub returns : goal.returns

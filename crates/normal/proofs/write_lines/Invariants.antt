@@ -3,13 +3,13 @@ use Prim.Native.Nat.{ℕ, ◌-◌, ◌≤◌}
 use mathlib.Core.List.{List}
 use lib.ListN.{length, drop}
 use Rattle.normal.specs.Rows.{Line}
-use Rattle.normal.specs.Stored.{stored_line, stored_lines}
+use Rattle.normal.specs.Stored.{stored_lines}
 use Rattle.normal.specs.Table.{WroteLines, LinesHaveRoom}
 use Rattle.normal.specs.declared.RowsWritten.{RowsWritten}
 use Rattle.normal.proofs.write_lines.Given as goal
 
 -- The lines from the one with the number j on.
-abbrev rest : List ℕ → List ℕ → List ℕ → List ℕ → List ℕ → ℕ → List Line
+abbrev pub rest : List ℕ → List ℕ → List ℕ → List ℕ → List ℕ → ℕ → List Line
 rest kinds starts relations lefts rights j = stored_lines kinds starts (drop j relations) (drop j lefts) (drop j rights)
 
 abbrev pub invariant-loop-j : goal.invariant-loop-j
