@@ -1,5 +1,6 @@
 -- What is printed of the input that was read, or of an empty one where it was not read whole (Reading).
-use Rattle.std.proofs.Common.{ℕ, take, replicate, refl, subst, length-replicate}
+use Rattle.std.proofs.Common.{ℕ, take, replicate, refl, subst}
+use Rattle.std.proofs.lemmas.List.{length-replicate}
 use Rattle.first_line.specs.Machine.{number_line_end}
 use Rattle.show_counts.specs.Shows.{number_given, ShowsRecordCounts}
 use Rattle.show_counts.proofs.Reading.{input-shown}

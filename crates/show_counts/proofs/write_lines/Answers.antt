@@ -1,5 +1,6 @@
 -- The lines have room (counts_text, Lines), and all of them are written.
-use Rattle.std.proofs.Common.{ℕ, min, length, subst, arith, length-replicate}
+use Rattle.std.proofs.Common.{ℕ, min, length, subst, arith}
+use Rattle.std.proofs.lemmas.List.{length-replicate}
 use Rattle.output.specs.Output.{Hands}
 use Rattle.counts_text.proofs.Lines.{listed-short}
 use Rattle.pages.proofs.Lines.{front-text}

@@ -1,5 +1,6 @@
 -- The line stands at the front of the room (pages, Lines), and all of it is written.
-use Rattle.std.proofs.Common.{ℕ, subst, arith, length-replicate}
+use Rattle.std.proofs.Common.{ℕ, subst, arith}
+use Rattle.std.proofs.lemmas.List.{length-replicate}
 use Rattle.output.specs.Output.{Hands}
 use Rattle.print.proofs.Lengths.{refusal-length}
 use Rattle.pages.proofs.Lines.{front-text}

@@ -1,5 +1,6 @@
 -- The lines have room in 256 bytes (statistics_text, Lines), and all of them are written.
-use Rattle.std.proofs.Common.{ℕ, subst, arith, length-replicate}
+use Rattle.std.proofs.Common.{ℕ, subst, arith}
+use Rattle.std.proofs.lemmas.List.{length-replicate}
 use Rattle.output.specs.Output.{Hands}
 use Rattle.pages.proofs.Lines.{front-text}
 use Rattle.statistics_text.proofs.Lines.{text-short}

@@ -1,0 +1,9 @@
+-- Each chunk lies within the input, and is not empty.
+use Rattle.std.proofs.Common.{◌-◌, ◌≤◌, length}
+use Rattle.record_counts_vectors.proofs.show_chunks.Given as goal
+
+abbrev pub invariant-loop-at : goal.invariant-loop-at
+invariant-loop-at g l = l.at ≤ length l.input
+
+abbrev pub decreases-loop-at : goal.decreases-loop-at
+decreases-loop-at g l = length l.input - l.at
