@@ -1,11 +1,11 @@
 -- A compile with no more final bytes than the rows that a play table holds is the compile with the play table among the lent tables: it counts the same rows,
 -- and what it leaves is the same, with zeros behind the final bytes. From the definitions.
-use Prim.Native.Nat.{ℕ, ◌+◌, ◌-◌, ◌/◌, ◌≤◌, ◌<◌, min}
+use Prim.Native.Nat.{ℕ, ◌+◌, ◌-◌, ◌/◌, min}
 use native.Mathlib.Omega.{arith}
 use native.Mathlib.Nat.{div-one}
 use mathlib.Core.Path.{◌≡◌, refl, sym, ◌∙◌, ap, ap₂, subst}
 use mathlib.Core.List.{List, [], ◌∷◌, ◌++◌}
-use lib.ListN.{length, drop, length-append, length-replicate, replicate-append-replicate, get_or-append}
+use lib.ListN.{length-append, length-replicate, replicate-append-replicate, get_or-append}
 use lib.Seq.{drop-append-le}
 use Rattle.basics.specs.Count.{MoreThan}
 use Rattle.automaton.specs.Words.{Word}

@@ -1,10 +1,9 @@
 -- The play table that is made of a sheet's table is one of the sheet: a ranking of the lent rows is one of the sheet's game, where the list of the letters'
 -- choices holds those of the sheet. From the laws of rankings (automaton) and of outcomes (outcome).
-use Prim.Native.Nat.{ℕ, ◌-◌, ◌*◌, ◌≤◌, ◌<◌}
+use Prim.Native.Nat.{ℕ, ◌-◌, ◌*◌, ◌<◌}
 use native.Mathlib.Omega.{arith}
-use native.Mathlib.Nat.{le_trans}
-use mathlib.Core.Path.{◌≡◌, refl, sym, ◌∙◌, ap, ap₂, subst}
-use mathlib.Core.Bool.{Bool, true, false, cond}
+use mathlib.Core.Path.{◌≡◌, subst}
+use mathlib.Core.Bool.{Bool, cond}
 use mathlib.Core.List.{List}
 use lib.ListN.{length, get_or, drop}
 use Rattle.automaton.specs.Stored.{entry_at, final_at}

@@ -10,14 +10,8 @@ use Rattle.show.proofs.next_page.Goals as goal
 pub slice_bounds-lows-end : goal.slice_bounds-lows-end
 slice_bounds-lows-end c = omega (arith, c.fewer-streams.ensures, c.requires.low_count)
 
-pub slice_bounds-fill_page-end-3 : goal.slice_bounds-fill_page-end-3
-slice_bounds-fill_page-end-3 c = sym (length-take-le _ _ (array-share-prefix-lows c))
-
 pub slice_bounds-highs-end : goal.slice_bounds-highs-end
 slice_bounds-highs-end c = omega (arith, c.fewer-streams.ensures, c.requires.high_count)
-
-pub slice_bounds-fill_page-end-4 : goal.slice_bounds-fill_page-end-4
-slice_bounds-fill_page-end-4 c = sym (length-take-le _ _ (array-share-prefix-highs c))
 
 pub returns : goal.returns
 returns c =

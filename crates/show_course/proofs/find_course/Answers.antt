@@ -17,14 +17,3 @@ slice_bounds-course-end-2 c = sym (length-take-le _ _ c.requires.0)
 
 pub stored_streams-requires : goal.stored_streams-requires
 stored_streams-requires c = tt
-
-pub returns : goal.returns
-returns c =
-    let start = c in
-    let a = start.args in
-    let streams = c.stored_streams.ensures in
-    let called = c.course in
-    record {
-      refused = λ h. absurd (h c.if-refusal-ne0.false);
-      found = λ z. transport (λ i. BestCourse a.table.sheet.letters (take (a.table.states * a.table.sheet.letters) a.entries.now) (take a.table.states a.finals.now) (streams i) a.table.state (start.requires.2 i) (start.requires.3 i) called.result.refusal called.result.count called.new.1.1.1.1.1.0) called.ensures.outcome;
-    }
