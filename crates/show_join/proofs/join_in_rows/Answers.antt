@@ -1,62 +1,18 @@
 -- `show_join::join_in_rows` meets its contract: the work tables, cut to the rows, are the room of these rows, and the join leaves them zero.
-use mathlib.Core.Path.{sym}
+use mathlib.Core.Path.{◌≡◌, sym}
+use native.Mathlib.Omega.{arith}
+use lib.ListN.{length, take}
 use lib.Seq.{length-take-le}
 use Rattle.show_join.proofs.Printing.{in_rows}
 use Rattle.show_join.proofs.join_in_rows.Goals as goal
 
-pub work_room-keys-requires : goal.work_room-keys-requires
-work_room-keys-requires c = tt
-
-pub work_room-live-requires : goal.work_room-live-requires
-work_room-live-requires c = tt
-
-pub work_room-class-requires : goal.work_room-class-requires
-work_room-class-requires c = tt
-
-pub work_room-next-requires : goal.work_room-next-requires
-work_room-next-requires c = tt
-
-pub work_room-heads-requires : goal.work_room-heads-requires
-work_room-heads-requires c = tt
-
-pub work_room-links-requires : goal.work_room-links-requires
-work_room-links-requires c = tt
-
-pub work_room-envelopes-requires : goal.work_room-envelopes-requires
-work_room-envelopes-requires c = tt
-
-pub slice_bounds-join_tables-end : goal.slice_bounds-join_tables-end
-slice_bounds-join_tables-end c = sym (length-take-le _ _ (array-borrow-prefix-keys c))
-
-pub slice_bounds-join_tables-end-2 : goal.slice_bounds-join_tables-end-2
-slice_bounds-join_tables-end-2 c = sym (length-take-le _ _ (array-borrow-prefix-live c))
-
-pub slice_bounds-join_tables-end-3 : goal.slice_bounds-join_tables-end-3
-slice_bounds-join_tables-end-3 c = sym (length-take-le _ _ (array-borrow-prefix-class c))
-
-pub slice_bounds-join_tables-end-4 : goal.slice_bounds-join_tables-end-4
-slice_bounds-join_tables-end-4 c = sym (length-take-le _ _ (array-borrow-prefix-next c))
-
-pub slice_bounds-join_tables-end-5 : goal.slice_bounds-join_tables-end-5
-slice_bounds-join_tables-end-5 c = sym (length-take-le _ _ (array-borrow-prefix-heads c))
-
-pub slice_bounds-join_tables-end-6 : goal.slice_bounds-join_tables-end-6
-slice_bounds-join_tables-end-6 c = sym (length-take-le _ _ (array-borrow-prefix-links c))
-
-pub slice_bounds-join_tables-end-7 : goal.slice_bounds-join_tables-end-7
-slice_bounds-join_tables-end-7 c = sym (length-take-le _ _ (array-borrow-prefix-envelopes c))
-
-pub join_tables-requires : goal.join_tables-requires
-join_tables-requires c = tt
-
 pub returns : goal.returns
 returns c =
-    in_rows
-    (slice-aggregate-join-tables c)
-    (slice-aggregate-join-tables-2 c)
-    (slice-aggregate-join-tables-3 c)
-    (slice-aggregate-join-tables-4 c)
-    (slice-aggregate-join-tables-5 c)
-    (slice-aggregate-join-tables-6 c)
-    (slice-aggregate-join-tables-7 c)
-    c.join_tables.ensures
+    let keys : c.args.rows ≡ length (take c.args.rows c.work_room-keys.result) = sym (length-take-le _ _ (omega (arith, c.requires, c.work_room-keys.ensures))) in
+    let live : c.args.rows ≡ length (take c.args.rows c.work_room-live.result) = sym (length-take-le _ _ (omega (arith, c.requires, c.work_room-live.ensures))) in
+    let class : c.args.rows ≡ length (take c.args.rows c.work_room-class.result) = sym (length-take-le _ _ (omega (arith, c.requires, c.work_room-class.ensures))) in
+    let next : c.args.rows ≡ length (take c.args.rows c.work_room-next.result) = sym (length-take-le _ _ (omega (arith, c.requires, c.work_room-next.ensures))) in
+    let heads : c.args.rows ≡ length (take c.args.rows c.work_room-heads.result) = sym (length-take-le _ _ (omega (arith, c.requires, c.work_room-heads.ensures))) in
+    let links : c.args.rows ≡ length (take c.args.rows c.work_room-links.result) = sym (length-take-le _ _ (omega (arith, c.requires, c.work_room-links.ensures))) in
+    let envelopes : c.args.rows ≡ length (take c.args.rows c.work_room-envelopes.result) = sym (length-take-le _ _ (omega (arith, c.requires, c.work_room-envelopes.ensures))) in
+    in_rows keys live class next heads links envelopes c.join_tables.ensures

@@ -25,17 +25,3 @@ slice_bounds-carry-end-3 c = sym (length-take-le _ _ (omega (arith, c.used_entri
 
 pub slice_bounds-carry-end-4 : goal.slice_bounds-carry-end-4
 slice_bounds-carry-end-4 c = sym (length-take-le _ _ (omega (arith, c.used_rows-new_rows.ensures, c.requires)))
-
-pub returns : goal.returns
-returns c =
-    let a = c.args in
-    let answer = c.carry in
-    let rows = c.used_rows-rows.ensures in
-    let used = c.used_entries-used.ensures in
-    let streams = c.stored_streams.ensures in
-    let new-rows = c.used_rows-new_rows.ensures in
-    let new-used = c.used_entries-new_used.ensures in
-    let new-streams = c.stored_streams-2.ensures in
-    found c.if-old-ne0.false c.if-new-ne0.false
-    (transport (λ i. CarryOutcome (given_table (take (used i) a.entries.now) (take (rows i) a.finals.now) a.old.sheet.letters (streams i)) (given_table (take (new-used i) a.new_entries.now) (take (new-rows i) a.new_finals.now) a.new.sheet.letters (new-streams i)) (length a.list.now) answer.result answer.new.1.1.1.1.1.1.1.1.0)
-    answer.ensures)

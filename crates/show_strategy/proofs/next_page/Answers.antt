@@ -23,14 +23,8 @@ cut_to sheet refusal states choices entries finals play streams =
 pub slice_bounds-lows-end : goal.slice_bounds-lows-end
 slice_bounds-lows-end c = omega (arith, c.fewer-streams.ensures, c.requires.low_count)
 
-pub slice_bounds-fill_page-end-3 : goal.slice_bounds-fill_page-end-3
-slice_bounds-fill_page-end-3 c = sym (length-take-le _ _ (array-share-prefix-lows c))
-
 pub slice_bounds-highs-end : goal.slice_bounds-highs-end
 slice_bounds-highs-end c = omega (arith, c.fewer-streams.ensures, c.requires.high_count)
-
-pub slice_bounds-fill_page-end-4 : goal.slice_bounds-fill_page-end-4
-slice_bounds-fill_page-end-4 c = sym (length-take-le _ _ (array-share-prefix-highs c))
 
 pub returns : goal.returns
 returns c =
