@@ -26,3 +26,6 @@ returns g c =
           shown.prints);
       hands = shown.hands;
     }
+
+pub returns-then-second-ne0 : goal.returns-then-second-ne0
+returns-then-second-ne0 g c = record { bytes = _; prints = second_is c.if-first-ne0.false c.if-second-ne0.true; hands = c.write_refusal-then-second-ne0.ensures c.if-second-ne0.true }

@@ -1,13 +1,17 @@
-use Rattle.std.proofs.Common.{rules, ◌≡◌, ◌≢◌, ◌≤◌, length, ℕ, ◌+◌, ◌-◌, ◌*◌, ◌<◌, ◌/◌, ◌%◌, Bool, true, false, nat_eq, nat_lt, List, [], ◌∷◌, ◌++◌, slice_index_or, slice_set, bit_and, bit_or, Fits, w8, w32, w64, Bor, MutBor}
-use Rattle.print.specs.Text.{refusal_line}
-use Rattle.output.specs.Output.{Hands}
-use Rattle.given_tables.specs.Given.{given_table}
-use Rattle.join_tables.specs.Outcome.{JoinOutcome}
-use Rattle.opened_tables.specs.Used.{opened_given}
-use Rattle.show_join.specs.Prints.{join_room_of_rows, join_tables_of_rows}
-use Rattle.show_join.specs.Shows.{ShowsTables, ShowsBoth, ShowsFrom, ShowsJoin}
+-- `show_join::show_tables` meets its contract: the rows lent for the joined letters fit the arrays, and what is written of the join is what the two tables print
+-- (Printing).
+use Prim.Native.Nat.{ℕ, ◌*◌, ◌≤◌}
+use native.Mathlib.Omega.{arith}
+use mathlib.Core.Path.{sym, subst}
+use lib.Seq.{length-take-le}
+use Rattle.std.proofs.lemmas.List.{length-replicate}
+use Rattle.lend.proofs.Rows.{lent-entries}
+use Rattle.show_join.proofs.Printing.{shown-tables}
 use Rattle.show_join.proofs.show_tables.Goals as goal
 
--- src/lib.rt:69:1
 pub returns : goal.returns
-returns g c = ?
+returns g c =
+    let letters = c.join_streams-streams.result.letters in
+    let fits : c.rows_lent-rows.result * letters ≤ 32768 = subst (λ n. n * letters ≤ 32768) (sym c.rows_lent-rows.ensures) (lent-entries letters) in
+    shown-tables c.join_streams-streams.ensures c.rows_lent-rows.ensures _ _ (sym (length-take-le _ _ (omega (arith, fits, length-replicate {A = ℕ} 32768 0))))
+    (sym (length-take-le _ _ (omega (arith, c.rows_lent-rows.ensures, length-replicate {A = ℕ} 256 0)))) c.join_in_rows-answer.ensures c.write_table.ensures

@@ -1,17 +1,31 @@
-use Rattle.std.proofs.Common.{rules, ◌≤◌, length, ◌≡◌, ℕ, ◌+◌, ◌-◌, ◌*◌, ◌<◌, ◌/◌, ◌%◌, Bool, true, false, nat_eq, nat_lt, List, [], ◌∷◌, ◌++◌, slice_index_or, slice_set, bit_and, bit_or, Fits, w8, w32, w64, Bor, MutBor}
-use Rattle.pages.specs.Lines.{IsPage}
-use Rattle.output.specs.Output.{Hands}
-use Rattle.lend.specs.Lend.{room_of_rows, tables_of_rows}
-use Rattle.stored_ranges.specs.Ranges.{HasRanges}
-use Rattle.game.specs.Call.{ForceSheetCall}
-use Rattle.play_text.specs.Output.{play_at, play_output}
-use Rattle.show_strategy.specs.Shows.{play_printout, play_places_of, ShownIn, ShowsStrategy}
+-- `show_strategy::show_strategy` meets its contract: the rows lent fit the arrays, the sheet that was read has ranges of the machine, and what is printed is what the
+-- text prints (Printing).
+use Prim.Native.Nat.{ℕ, ◌*◌, ◌≤◌}
+use native.Mathlib.Omega.{arith}
+use mathlib.Core.Path.{sym, ◌∙◌, subst}
+use lib.Seq.{length-take-le}
+use Rattle.std.proofs.lemmas.List.{length-replicate}
+use Rattle.lend.proofs.Rows.{lent-entries}
+use Rattle.choices.specs.Counted.{ChoicesCounted}
+use Rattle.stored_ranges.proofs.Ranges.{read_ranges}
+use Rattle.show_strategy.proofs.Printing.{shown_strategy}
 use Rattle.show_strategy.proofs.show_strategy.Goals as goal
 
--- src/lib.rt:172:5
 pub show_in_rows-requires : goal.show_in_rows-requires
-show_in_rows-requires g c = ?
+show_in_rows-requires g c =
+    let letters = c.read-reading.result.sheet.letters in
+    let fits : c.rows_lent-rows.result * letters ≤ 32768 = subst (λ n. n * letters ≤ 32768) (sym c.rows_lent-rows.ensures) (lent-entries letters) in (
+      read_ranges _ c.read-reading.ensures,
+      omega (arith, c.rows_lent-rows.ensures),
+      subst (λ n. n ≤ 32768) (sym (length-take-le _ _ (omega (arith, fits, length-replicate {A = ℕ} 32768 0)))) fits,
+      subst (λ n. n ≤ 32768) (sym (length-take-le _ _ (omega (arith, c.fewer-play_room.ensures, length-replicate {A = ℕ} 32768 0)))) (omega (arith, c.fewer-play_room.ensures)),
+    )
 
--- src/lib.rt:159:1
 pub returns : goal.returns
-returns g c = ?
+returns g c =
+    let letters = c.read-reading.result.sheet.letters in
+    let fits : c.rows_lent-rows.result * letters ≤ 32768 = subst (λ n. n * letters ≤ 32768) (sym c.rows_lent-rows.ensures) (lent-entries letters) in
+    shown_strategy _ c.read-reading.ensures c.rows_lent-rows.ensures (subst (λ s. ChoicesCounted s c.choice_count-choices.result) c.stored_streams.ensures c.choice_count-choices.ensures)
+    (length-take-le _ _ (omega (arith, fits, length-replicate {A = ℕ} 32768 0)))
+    (length-take-le _ _ (omega (arith, c.rows_lent-rows.ensures, length-replicate {A = ℕ} 256 0)))
+    (length-take-le _ _ (omega (arith, c.fewer-play_room.ensures, length-replicate {A = ℕ} 32768 0)) ∙ c.fewer-play_room.ensures) c.show_in_rows.ensures
