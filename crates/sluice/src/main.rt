@@ -1,0 +1,23 @@
+// Reads a sheet from standard input and prints its table. One byte more than a sheet may have is enough to refuse it, so that no more is read.
+// A sheet that cannot be read whole counts as empty; this, and a table that cannot be written whole, is told on standard error.
+#![tactic(auto)]
+
+fn tell(rt: &impl Eprint, failed: bool, message: &str) {
+    if failed {
+        let _ = rt.eprint(message);
+    }
+}
+
+fn main(rt: HostRuntime) {
+    let mut text = [0u8; 16385];
+    let mut source = Some(rt.stdin());
+    let input = input::read_input(&mut source, &mut text);
+    tell(&rt, input.failed, "sluice: the sheet cannot be read\n");
+    let size = input.size;
+    let printed = show::show(&mut rt.stdout(), &text[..size]);
+    tell(
+        &rt,
+        !printed.whole,
+        "sluice: the table cannot be written whole\n",
+    );
+}
