@@ -8,6 +8,7 @@ ghost use Rattle.stored.specs.Number.{number_at};
 ghost use Rattle.cases.specs.Cases.{IsCase, taken, IsTaken, nonzeros, DigitsPrinted};
 
 use basics::fewer;
+use output::write_whole;
 use std::io::{Read, Write};
 
 // ---- a case
@@ -198,14 +199,10 @@ pub fn print<W: Write>(out: &mut W, n: u64, end: &[u8]) -> usize
 {
     let mut text = [0u8; 20];
     let digits = io::decimal(n, &mut text);
-    if out.write_all(&text[..digits]).is_err() {
+    if !write_whole(out, &text[..digits]) {
         return 0;
     }
-    if out.write_all(end).is_ok() {
-        digits
-    } else {
-        0
-    }
+    if write_whole(out, end) { digits } else { 0 }
 }
 
 // The same for a signed number, whose digits stand behind `-` where it is below 0.
@@ -213,7 +210,7 @@ pub fn print_signed<W: Write>(out: &mut W, value: i64, end: &[u8]) -> usize
     ensures { DigitsPrinted (unsigned_abs value) result }
 {
     if value < 0 {
-        if out.write_all(b"-").is_err() {
+        if !write_whole(out, b"-") {
             return 0;
         }
     }

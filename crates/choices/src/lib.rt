@@ -53,7 +53,8 @@ fn choice_of(streams: StreamsDescription, letter: u32) -> ChoiceRead
     while 0 < i {
         i -= 1;
         let size = values_in(streams, i);
-        if kinds[i] == nodes::READ_STREAM {
+        let is_read = kinds[i] == nodes::READ_STREAM;
+        if is_read {
             number += rest % size * count;
             count *= size;
         }

@@ -3,14 +3,13 @@
 use Prim.Native.Nat.{ℕ, ◌-◌}
 use mathlib.Core.Path.{◌≡◌, refl, sym, ap, subst, ◌∙◌}
 use mathlib.Core.Bool.{cond}
-use mathlib.Core.List.{List, map}
+use mathlib.Core.List.{List}
 use lib.IntN.{pos}
 use lib.ListN.{length, replicate}
 use borrow.Author.Tests.{eq-eqb}
 use Rattle.meaning.specs.Expression.{Stream, Sheet}
 use Rattle.meaning.specs.Letter.{letter_count}
 use Rattle.sheet.specs.Refusal.{sheet, AnswerTo}
-use Rattle.sheet.specs.Reading.{answer_to}
 use Rattle.sheet.specs.Accepted.{Accepted}
 use Rattle.sheet.proofs.Reading.{answer-complete}
 use Rattle.sheet.proofs.Accepted.{accepted_facts}

@@ -68,7 +68,7 @@ fn print_answer<W: Write>(
     print(out, answer.refusal as u64, b" ");
     print(out, answer.states as u64, b" : ");
     cases::print_entries(out, &entries[..n1]);
-    let _ = out.write_all(b": ");
+    let _ = output::write_whole(out, b": ");
     cases::print_bytes(out, &flags[..n2]);
 }
 
@@ -91,7 +91,7 @@ fn print_left<W: Write>(
         40,
         envelopes,
     );
-    let _ = out.write_all(b": ");
+    let _ = output::write_whole(out, b": ");
     print(out, third, b"\n");
 }
 

@@ -2,7 +2,8 @@
 // parts counts the bytes of the writes that were whole.
 #![tactic(auto)]
 
-ghost use Rattle.std.specs.Prelude.{take};
+ghost use Rattle.std.specs.Prelude.{◌≡◌, take, true};
+ghost use Rattle.std.specs.Io.KnownBytes.{Appends};
 ghost use Rattle.output.specs.Output.{Hands};
 
 use basics::fewer;
@@ -13,6 +14,21 @@ use std::io::Write;
 pub struct Handed {
     pub size: usize,
     pub whole: bool,
+}
+
+// Writes all of the bytes; whether each write took some of those that were left. A write that fails is not made again, nor is one that a signal cut short.
+pub fn write_whole<W: Write>(out: &mut W, bytes: &[u8]) -> bool
+    ensures { result ≡ true → Appends (W.contents out.old) (W.contents out.new) bytes.now }
+{
+    let mut done = 0;
+    while done < bytes.len() {
+        match out.write(&bytes[done..]) {
+            Ok(0) => return false,
+            Ok(count) => done += count,
+            Err(_) => return false,
+        }
+    }
+    true
 }
 
 // Writes the first bytes, so many of them, or all where there are fewer. Those of a write that fails do not count, and no bytes need no write.
@@ -26,7 +42,7 @@ pub fn write_front<W: Write>(out: &mut W, bytes: &[u8], size: usize) -> Handed
             whole: true,
         };
     }
-    if out.write_all(&bytes[..count]).is_err() {
+    if !write_whole(out, &bytes[..count]) {
         return Handed {
             size: 0,
             whole: false,

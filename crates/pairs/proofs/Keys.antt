@@ -1,7 +1,7 @@
 -- The keys of pairs of entries, and the row of a key: found, new, or without room. From the laws of chains.
 use Prim.Native.Nat.{ℕ, ◌+◌, ◌-◌, ◌*◌, ◌≤◌, ◌<◌}
 use native.Mathlib.Omega.{arith}
-use native.Mathlib.Nat.{not-suc-le-zero}
+use native.Mathlib.Nat.{mod-lt, not-suc-le-zero}
 use native.Mathlib.Decide.{dec_lt}
 use mathlib.Core.Path.{◌≡◌, refl, sym, ◌∙◌, ap}
 use mathlib.Core.Bool.{true, false, cond, ◌&&◌}
@@ -101,3 +101,9 @@ none-chained heads heads' links keys some e =
       keys_room = omega arith;
       chained = chain_none heads' links (λ i. pair_bucket (length heads') (at keys i)) (λ k. ap (λ l. get_or l k 0) e ∙ zeros (length heads) k);
     }
+
+-- ---- buckets
+
+pub bucket_below : (m key : ℕ) → 0 < m → pair_bucket m key < m
+unfolding pair_bucket
+bucket_below m key h = mod-lt _ h

@@ -58,7 +58,7 @@ fn print_constraint<W: Write>(out: &mut W, names: &[u8], line: &[u8]) {
     print(out, read.firsts as u64, b" ");
     print_flag(out, read.beyond);
     print_nodes(out, &kinds, &values, &starts, read.next);
-    let _ = out.write_all(b"\n");
+    let _ = output::write_whole(out, b"\n");
 }
 
 fn print_all<W: Write>(out: &mut W, text: &[u8]) {

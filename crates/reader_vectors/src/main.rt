@@ -19,9 +19,9 @@ fn print_stream<W: Write>(
     let start = cases::bytes_within(from, names);
     let rest = &names[start..];
     let size = cases::bytes_within(length as usize, rest);
-    let _ = out.write_all(b" ");
-    let _ = out.write_all(&rest[..size]);
-    let _ = out.write_all(b" ");
+    let _ = output::write_whole(out, b" ");
+    let _ = output::write_whole(out, &rest[..size]);
+    let _ = output::write_whole(out, b" ");
     print_signed(out, low, b" ");
     print_signed(out, high, b" ");
     print(out, kind as u64, b"");
@@ -73,7 +73,7 @@ fn print_sheet<W: Write>(out: &mut W, text: &[u8]) {
         &stream_kinds,
         sheet.streams,
     );
-    let _ = out.write_all(b"\n");
+    let _ = output::write_whole(out, b"\n");
 }
 
 // One case; whether there was one.

@@ -1,11 +1,10 @@
 -- The reads of an input, one after the other: a machine takes their bytes, there are no more than so many, and what the reading has come to is told by the last
 -- answer. From the law of texts in parts (text, Lines) and the definitions.
-use Prim.Native.Nat.{ℕ, zero, suc, ◌+◌, ◌-◌, ◌*◌, ◌≤◌, ◌<◌}
+use Prim.Native.Nat.{ℕ, zero, suc, ◌-◌, ◌*◌, ◌≤◌, ◌<◌}
 use native.Mathlib.Omega.{arith}
 use mathlib.Core.Path.{◌≡◌, refl, sym, ◌∙◌, ap}
-use mathlib.Core.Logic.{◌⊎◌, inl, inr}
 use mathlib.Core.Bool.{Bool, true, false}
-use mathlib.Core.List.{List, [], ◌∷◌, ◌++◌}
+use mathlib.Core.List.{List, [], ◌∷◌}
 use lib.Dec.{ltb}
 use lib.IntN.{ℤ, pos, negsuc}
 use lib.ListN.{length, length-append}
@@ -16,7 +15,7 @@ use Rattle.text.specs.Fold.{run_bytes}
 use Rattle.text.proofs.Lines.{run-append}
 use Rattle.reads.specs.declared.ReadEnd.TheVariants.{Complete, Stopped, Incomplete}
 use Rattle.reads.specs.declared.ReadsSoFar.{ReadsSoFar}
-use Rattle.reads.specs.Chunks.{most_reads, ChunkRead, read_text, last_answer, AllGaveBytes, ended_as, reads_so_far, ReadsUntilStop, ReadTo, ReadsAll}
+use Rattle.reads.specs.Chunks.{most_reads, ChunkRead, read_text, last_answer, AllGaveBytes, reads_so_far, ReadsUntilStop, ReadTo, ReadsAll}
 
 -- ---- how many bytes
 

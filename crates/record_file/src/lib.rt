@@ -57,7 +57,7 @@ fn read_chunks<R: Read>(
     let mut left = READS;
     let mut tally = tally::begin();
     let mut progress = reads::so_far(is_refused(tally), 1, left);
-    while progress.more {
+    'chunks: while progress.more {
         let answer = input::read_answer(source, &mut chunk);
         let size = io::count(answer, &chunk);
         tally = tally::count_chunk(tally, &chunk[..size], names, lengths, lows, highs, counts);

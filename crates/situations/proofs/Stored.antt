@@ -1,12 +1,13 @@
 -- The parts of a stored sheet: each list is what it holds and room beyond it. Cut to its count it is what it holds; the nodes stay uncut, with blank
 -- ones behind them.
-use Prim.Native.Nat.{ℕ, zero, suc, ◌+◌, ◌-◌, min}
+use Prim.Native.Nat.{ℕ, zero, suc, ◌+◌, ◌-◌, ◌≤◌, min}
 use native.Mathlib.Omega.{arith}
 use mathlib.Core.Path.{◌≡◌, refl, sym, ◌∙◌, ap}
 use mathlib.Core.List.{List, ◌∷◌, ◌++◌, map, map-append}
 use lib.IntN.{ℤ, pos}
 use lib.ListN.{length, take, replicate, length-map}
-use lib.Seq.{take_at}
+use lib.Seq.{take_at, length-take-le}
+use borrow.Author.Rules.{length_unmapped}
 use Rattle.nodes.proofs.Postfix.{stored-length}
 use Rattle.meaning.specs.Expression.{Sheet}
 use Rattle.meaning.specs.Letter.{letter_count}
@@ -127,3 +128,11 @@ module _ (s : Sheet) {x : StoredSheet} (same : x ≡ stored_sheet s) where
         let starts = ap (λ y. y.starts) same ∙ padded-nodes 1024 (λ y. y.start) blank_node nodes in
         parts-stored s behind K (λ i. stored (kinds i) (values i) (starts i)) (cut_held relations-part same-constraints) (cut_held lefts-part same-constraints) (cut_held rights-part same-constraints)
         (cut_held first-nodes-part same-firsts) (same_streams ∙ ap (λ y. y.streams) same) a (λ i. a i + b i) letters
+
+-- A part of an array that is no longer than the array's room is as long as it says. The room is known of the array's numbers as they are stored.
+module _ {X : Type 0} (list : List X) (count : ℕ) {n room : ℕ} (cut : n ≡ min count room) (long : length (map (λ (v : X). v) list) ≡ room) where
+  pub cut_fits : n ≤ length list
+  cut_fits = omega (arith, cut, length_unmapped X list room long)
+
+  pub cut_long : n ≡ length (take n list)
+  cut_long = sym (length-take-le n list cut_fits)

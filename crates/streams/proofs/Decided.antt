@@ -6,7 +6,6 @@ use mathlib.Core.Path.{◌≡◌, refl}
 use mathlib.Core.Logic.Dec
 use mathlib.Core.Bool.{Bool, true, false, true≢false}
 use mathlib.Core.List.{List-discrete}
-use lib.Dec.{T}
 use lib.IntN.{ℤ, pos, neg_ℤ}
 use lib.ListN.{get_or}
 use lib.Signed.{le_z, le_z_yes, ◌≤ℤ◌}

@@ -1,13 +1,13 @@
 -- An accepted sheet could have the streams that are described exactly if each of them fits, and the letters that they make are those of their lowest and
 -- highest values. From the places of the streams in the description, by induction over their number.
-use Prim.Native.Nat.{ℕ, zero, suc, ◌+◌, ◌*◌, ◌≤◌, ◌<◌}
+use Prim.Native.Nat.{ℕ, zero, suc, ◌+◌, ◌≤◌, ◌<◌}
 use native.Mathlib.Omega.{arith}
 use native.Mathlib.Decide.{ℕ_discrete}
 use mathlib.Core.Path.{◌≡◌, refl, sym, ap, ap₂, subst, ◌∙◌}
 use mathlib.Core.List.Memᴰ
-use mathlib.Core.List.{List, [], ◌∷◌, map, Memᴰ}
+use mathlib.Core.List.{[], ◌∷◌, Memᴰ}
 use lib.Dec.{T}
-use lib.IntN.{ℤ, pos}
+use lib.IntN.{pos}
 use lib.ListN.{length, get_or, take, drop}
 use lib.Seq.{drop-cons}
 use lib.Signed.{◌≤ℤ◌}
@@ -25,7 +25,7 @@ use Rattle.sheet.proofs.StreamsAlone.{alone-accepted}
 use Rattle.nodes.specs.Bounds.{lows_of, highs_of}
 use Rattle.letters.specs.Described.{described, cut_count}
 use Rattle.letters.proofs.Streams.{letter_count-unnamed}
-use Rattle.streams.specs.Description.{range_at, stream_in, described_from, description_of, StreamsFit, StreamFits, EachFits}
+use Rattle.streams.specs.Description.{stream_in, described_from, description_of, StreamsFit, EachFits}
 use Rattle.streams.specs.declared.StreamsDescription.{StreamsDescription}
 
 module _ (s : StreamsDescription) where

@@ -46,3 +46,11 @@ module _ {k : ℕ} {entries finals : List ℕ} where
     };
     flags = bits;
   }
+
+  pub well_formed-sizes : IsWellFormed k entries finals → HasTableSizes k (length finals) (length entries)
+  well_formed-sizes formed = record {
+    some_letter = formed.whole.some_letter;
+    some_row = formed.whole.some_row;
+    few_rows = formed.whole.few_rows;
+    whole_rows = formed.whole.whole_rows;
+  }

@@ -117,7 +117,8 @@ pub fn write_sides(
             kinds, values, starts, window, firsts, new_kinds, new_values, new_starts, asked, roots,
             at,
         );
-        if 1024 < ends.right {
+        let full = 1024 < ends.right;
+        if full {
             return false;
         }
         new_lefts[j] = (ends.left - 1) as u16;

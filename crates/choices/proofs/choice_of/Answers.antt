@@ -6,7 +6,7 @@ use Rattle.meaning.specs.Letter.{size}
 use Rattle.streams.specs.Description.{stream_in}
 use Rattle.choices.proofs.Digits.{DigitsTaken, size_exact, digits-small, digits-none, digits-read, digits-set, digit-small, count_small, digits-all}
 use Rattle.choices.proofs.choice_of.Goals as goal
-use Rattle.choices.proofs.choice_of.Goals.{then-kinds-i-eq-READ_STREAM, else-kinds-i-eq-READ_STREAM}
+use Rattle.choices.proofs.choice_of.Goals.{then-is_read, else-is_read}
 
 pub loop-i-init : goal.loop-i-init
 loop-i-init c = digits-none c.args.streams c.requires c.args.letter
@@ -90,9 +90,9 @@ loop-i-preserved c =
     let there = (stream-there).0 in
     let behind = taken in
     let same = (exact).0 in
-    elim c.if-kinds-i-eq-READ_STREAM.branch [
-      | then-kinds-i-eq-READ_STREAM w ↦ rw w.number-is (rw w.count-is (digits-read start.args.streams start.requires start.args.letter (step.loop-i.i - 1) step.loop-i.rest step.loop-i.number step.loop-i.count size there behind same w.if-kinds-i-eq-READ_STREAM.true))
-      | else-kinds-i-eq-READ_STREAM w ↦ rw w.number-is (rw w.count-is (digits-set start.args.streams start.requires start.args.letter (step.loop-i.i - 1) step.loop-i.rest step.loop-i.number step.loop-i.count size there behind same w.if-kinds-i-eq-READ_STREAM.false))
+    elim c.if-is_read.branch [
+      | then-is_read w ↦ rw w.number-is (rw w.count-is (digits-read start.args.streams start.requires start.args.letter (step.loop-i.i - 1) step.loop-i.rest step.loop-i.number step.loop-i.count size there behind same w.if-is_read.true))
+      | else-is_read w ↦ rw w.number-is (rw w.count-is (digits-set start.args.streams start.requires start.args.letter (step.loop-i.i - 1) step.loop-i.rest step.loop-i.number step.loop-i.count size there behind same w.if-is_read.false))
     ]
 
 pub returns : goal.returns

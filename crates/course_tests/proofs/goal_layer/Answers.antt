@@ -8,8 +8,7 @@ use lib.ListN.{length}
 use Rattle.basics.specs.Lists.{at}
 use Rattle.automaton.specs.Stored.{final_at}
 use Rattle.course_tests.specs.Goal.{IsGoalBelow}
-use Rattle.course_tests.proofs.Goal.{goal-kept, goal-lower, goal-beyond}
-use Rattle.course_tests.proofs.goal_layer.Goals.{then-finals-row-eq1+else-layers-row, then-finals-row-eq1+then-layers-row, else-finals-row-eq1}
+use Rattle.course_tests.proofs.Goal.{goal-beyond}
 use Rattle.course_tests.proofs.goal_layer.Goals as goal
 
 pub loop-row-init : goal.loop-row-init
@@ -35,17 +34,6 @@ overflow_add-row c = omega arith
 
 pub loop-row-smaller : goal.loop-row-smaller
 loop-row-smaller c = omega arith
-
-pub loop-row-preserved : goal.loop-row-preserved
-loop-row-preserved c =
-    let known = c.loop-row.invariant.1 in (
-      omega arith,
-      elim c.if-finals-row-eq1.branch [
-        | then-finals-row-eq1+then-layers-row w ↦ rw w.goal-is (goal-lower known w.if-finals-row-eq1.true w.if-layers-row.true)
-        | then-finals-row-eq1+else-layers-row w ↦ rw w.goal-is (goal-kept known λ f. omega (arith, w.if-layers-row.false))
-        | else-finals-row-eq1 w ↦ rw w.goal-is (goal-kept known λ f. absurd (w.if-finals-row-eq1.false f))
-      ],
-    )
 
 pub returns : goal.returns
 returns c =

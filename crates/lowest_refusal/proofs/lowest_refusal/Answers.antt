@@ -1,6 +1,5 @@
 -- `lowest_refusal::lowest_refusal` meets its contract, test by test.
 use mathlib.Core.Path.{sym, ◌∙◌}
-use borrow.Author.Tests.{not-true, not-false}
 use Rattle.lowest_refusal.proofs.lowest_refusal.Goals as goal
 
 pub returns-then-unknown : goal.returns-then-unknown

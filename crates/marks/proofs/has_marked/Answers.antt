@@ -1,12 +1,9 @@
 -- `marks::has_marked` meets its contract: none of the first `a` entries names a marked row.
-use Prim.Native.Nat.{ℕ, ◌≤◌, ◌-◌, ◌+◌}
+use Prim.Native.Nat.{ℕ, ◌≤◌, ◌+◌}
 use mathlib.Core.List.{List}
-use mathlib.Core.Logic.{⊎_elim}
 use native.Mathlib.Omega.{arith}
-use borrow.Author.Count.{below_more}
-use lib.ListN.{length, get_or, get_or-eq_default}
+use lib.ListN.{length, get_or-eq_default}
 use Rattle.marks.specs.Marks.{Marked}
-use borrow.Author.Rules.{rules}
 use Rattle.marks.proofs.has_marked.Goals as goal
 
 -- past the end nothing is marked

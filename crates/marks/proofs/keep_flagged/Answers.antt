@@ -1,5 +1,5 @@
 -- `marks::keep_flagged` meets its contract: the marks before `row` are kept where the row is flagged.
-use Prim.Native.Nat.{ℕ, ◌-◌}
+use Prim.Native.Nat.{ℕ}
 use native.Mathlib.Omega.{arith}
 use mathlib.Core.Path.{◌≡◌, sym, ◌∙◌}
 use lib.ListN.{get_or-eq_default}
@@ -14,11 +14,8 @@ loop-row-preserved-then-flags-at c =
     let args = c.args in
     flagging_clear c.loop-row-test.true (λ m. let z : ◌≡◌ {A = ℕ} 0 1 = sym (get_or-eq_default args.flags.now 0 c.if-flags-at.true) ∙ m in omega arith) c.loop-row.invariant
 
-pub loop-row-preserved-then-flags-at-ne1 : goal.loop-row-preserved-then-flags-at-ne1
-loop-row-preserved-then-flags-at-ne1 c = flagging_clear c.loop-row-test.true c.if-flags-at-ne1.true c.loop-row.invariant
-
 pub loop-row-preserved : goal.loop-row-preserved
-loop-row-preserved c = flagging_keep c.if-flags-at-ne1.false c.loop-row.invariant
+loop-row-preserved c = flagging_keep (omega arith) c.loop-row.invariant
 
 pub returns : goal.returns
 returns c = flagging_end c.loop-row-test.false c.loop-row.invariant

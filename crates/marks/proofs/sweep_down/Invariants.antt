@@ -1,5 +1,5 @@
 -- `marks::sweep_down` meets its contract: the rows from `row` on are seen.
-use Prim.Native.Nat.{◌-◌, ◌≤◌, ◌<◌}
+use Prim.Native.Nat.{◌≤◌, ◌<◌}
 use lib.ListN.{length}
 use Rattle.marks.specs.Sweeps.{Swept}
 use Rattle.marks.proofs.sweep_down.Given as goal

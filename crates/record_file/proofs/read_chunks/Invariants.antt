@@ -1,13 +1,12 @@
 -- Before each turn the bytes of the reads so far are counted, and so many reads may follow (reads, Chunks).
-use Rattle.std.proofs.Common.{◌≡◌, length}
 use Rattle.tally.specs.Machine.{counted_sheet, counting, start_tally, count_byte}
 use Rattle.reads.specs.Chunks.{ReadTo}
 use Rattle.record_file.specs.Reads.{is_refused_counting}
 use Rattle.record_file.proofs.read_chunks.Given as goal
 
-abbrev pub invariant-loop-progress : goal.invariant-loop-progress
-invariant-loop-progress g l =
+abbrev pub invariant-chunks : goal.invariant-chunks
+invariant-chunks g l =
     ReadTo (count_byte (counted_sheet l.names l.lengths l.lows l.highs)) is_refused_counting (counting start_tally l.initial.counts) (counting l.tally l.counts) l.progress l.left
 
-abbrev pub decreases-loop-progress : goal.decreases-loop-progress
-decreases-loop-progress g l = l.left
+abbrev pub decreases-chunks : goal.decreases-chunks
+decreases-chunks g l = l.left

@@ -1,5 +1,4 @@
 -- `streams::is_new` meets its contract: no name before the loop's place is that of the stream.
-use Prim.Native.Nat.{◌-◌}
 use native.Mathlib.Omega.{arith}
 use Rattle.streams.proofs.Names.{name-stands, name-other}
 use Rattle.streams.proofs.is_new.Goals as goal

@@ -10,9 +10,6 @@ use Rattle.sheet.specs.Names.{name_in}
 use Rattle.streams.proofs.Names.{name-part}
 use Rattle.streams.proofs.name_fits.Goals as goal
 
-pub returns-then-lengths-stream-gt8 : goal.returns-then-lengths-stream-gt8
-returns-then-lengths-stream-gt8 c = λ f. let z = f.short in let w = c.if-lengths-stream-gt8.true in omega arith
-
 pub returns-then-not-is_name : goal.returns-then-not-is_name
 returns-then-not-is_name c =
     let part_of : take (c.args.stream * 8 + c.name_length.result - c.args.stream * 8) (drop (c.args.stream * 8) c.args.names.now) ≡ name_in c.args.names.now c.args.lengths.now c.args.stream = name-part c.args.names.now c.args.lengths.now c.args.stream c.name_length.ensures in
@@ -29,4 +26,4 @@ returns c =
     let named = part_of in
     let name = ap is_name (sym named) ∙ sym c.is_name.ensures ∙ c.if-not-is_name.false in
     let free = ap is_reserved (sym named) ∙ sym c.is_reserved.ensures ∙ c.if-is_reserved.false in
-    says_both c.is_new.result (λ n. record { short = omega (arith, c.if-lengths-stream-gt8.false); is_aname = subst T (sym name) tt; unreserved = free; is_new = n }) (λ f. f.is_new) c.is_new.ensures
+    says_both c.is_new.result (λ n. record { short = omega arith; is_aname = subst T (sym name) tt; unreserved = free; is_new = n }) (λ f. f.is_new) c.is_new.ensures

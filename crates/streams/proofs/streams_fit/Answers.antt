@@ -1,4 +1,5 @@
 -- `streams::streams_fit` meets its contract: the streams are tested one by one, and their letters are counted.
+use Prim.Native.Nat.{◌≤◌}
 use native.Mathlib.Omega.{arith}
 use mathlib.Core.Path.{◌≡◌, sym}
 use lib.ListN.{length}
@@ -45,7 +46,7 @@ returns c =
     let start = c in
     let some = c.if-count-eq0.false in
     let few = c.if-count-gt8.false in
-    let bounded = c.if-letters-gt1024.false in
+    let bounded : start.args.letters ≤ 1024 = omega arith in
     let each = says_yes {b = c.each_fits.result} c.if-not-each_fits.false c.each_fits.ensures in
     says_either _ (λ e. letters-fit start.args.streams (lows-long) (highs-long) some few bounded each c.letter_count.ensures (eqb-true _ _ e))
     (λ e. letters-unfit start.args.streams (lows-long) (highs-long) some few bounded each c.letter_count.ensures (eqb-false _ _ e))

@@ -23,32 +23,16 @@ pub write_constraint-ends-requires : goal.write_constraint-ends-requires
 write_constraint-ends-requires c =
     c.loop-j.invariant.room
 
-pub returns-then-ends-gt1024 : goal.returns-then-ends-gt1024
-returns-then-ends-gt1024 c =
+pub returns-then-full : goal.returns-then-full
+returns-then-full c =
     let s = c in
     sides-refused (stored s.args.kinds.now s.args.values.now s.args.starts.now) (view s.args.window.now s.args.asked.streams s.args.firsts.now s.args.asked.whole) s.args.asked.place s.args.lefts.now s.args.rights.now (count_is s.args.lefts.now s.args.rights.now c.fewer.ensures c.fewer-count.ensures) c.write_constraint-ends.ensures.arrays
-    (no_room (stored s.args.kinds.now s.args.values.now s.args.starts.now) (view s.args.window.now s.args.asked.streams s.args.firsts.now s.args.asked.whole) (length s.args.window.now / s.args.asked.streams) s.args.asked.place s.args.lefts.now s.args.rights.now c.loop-j.invariant c.loop-j-test.true refl refl c.write_constraint-ends.ensures c.if-ends-gt1024.true)
-
-pub overflow_sub-new_lefts : goal.overflow_sub-new_lefts
-overflow_sub-new_lefts c =
-    omega (arith, c.write_constraint-ends.ensures.some c.if-ends-gt1024.false)
-
-pub overflow_cast-new_lefts : goal.overflow_cast-new_lefts
-overflow_cast-new_lefts c =
-    omega (arith, (c.write_constraint-ends.ensures.left c.if-ends-gt1024.false).within, c.if-ends-gt1024.false)
-
-pub overflow_sub-new_rights : goal.overflow_sub-new_rights
-overflow_sub-new_rights c =
-    omega (arith, c.write_constraint-ends.ensures.some c.if-ends-gt1024.false, (c.write_constraint-ends.ensures.left c.if-ends-gt1024.false).within)
-
-pub overflow_cast-new_rights : goal.overflow_cast-new_rights
-overflow_cast-new_rights c =
-    omega (arith, c.if-ends-gt1024.false)
+    (no_room (stored s.args.kinds.now s.args.values.now s.args.starts.now) (view s.args.window.now s.args.asked.streams s.args.firsts.now s.args.asked.whole) (length s.args.window.now / s.args.asked.streams) s.args.asked.place s.args.lefts.now s.args.rights.now c.loop-j.invariant c.loop-j-test.true refl refl c.write_constraint-ends.ensures c.if-full.true)
 
 pub loop-j-preserved : goal.loop-j-preserved
 loop-j-preserved c =
     let s = c in
-    up_to-more (stored s.args.kinds.now s.args.values.now s.args.starts.now) (view s.args.window.now s.args.asked.streams s.args.firsts.now s.args.asked.whole) (length s.args.window.now / s.args.asked.streams) s.args.asked.place s.args.lefts.now s.args.rights.now c.loop-j.invariant c.loop-j-test.true refl refl c.write_constraint-ends.ensures c.if-ends-gt1024.false
+    up_to-more (stored s.args.kinds.now s.args.values.now s.args.starts.now) (view s.args.window.now s.args.asked.streams s.args.firsts.now s.args.asked.whole) (length s.args.window.now / s.args.asked.streams) s.args.asked.place s.args.lefts.now s.args.rights.now c.loop-j.invariant c.loop-j-test.true refl refl c.write_constraint-ends.ensures c.if-full.false
 
 pub returns : goal.returns
 returns c =
