@@ -16,6 +16,7 @@ use Rattle.normal.specs.Stored.{rewriting_before, stored_line, stored_lines}
 use Rattle.normal_entries.specs.Entries.{row_bound, refused_made, with_spans}
 use Rattle.normal.specs.Table.{stream_limit, flat, put_rows, RewritingFits, Wrote, WroteLine, WroteLines, LinesHaveRoom, ends_up_to, numbers_with, made_tables}
 use Rattle.normal_entries.specs.declared.Made.{Made}
+use Rattle.normal_entries.specs.declared.NormalForm.{NormalForm}
 use Rattle.normal.specs.declared.RowsWritten.{RowsWritten}
 use Rattle.nodes.specs.declared.Range.{Range}
 use Rattle.normal.proofs.Writing.{length-flat, put-append, put-more, row_of, written, room-left, room-right}
@@ -202,6 +203,12 @@ stored-count kinds starts [] lefts rights el er = refl
 stored-count kinds starts (p ∷ relations) [] rights el er = absurd (omega arith)
 stored-count kinds starts (p ∷ relations) (l ∷ lefts) [] el er = absurd (omega arith)
 stored-count kinds starts (p ∷ relations) (l ∷ lefts) (r ∷ rights) el er = ap suc (stored-count kinds starts relations lefts rights (omega arith) (omega arith))
+
+-- ---- tables of zeros
+
+-- The answer of a refusal is put beside tables of zeros.
+pub refusal-put : {m : Made} {a : NormalForm} {numbers : List ℕ} {n : ℕ} → m ≡ refused_made 0 → a ≡ (refused_made n).answer → numbers ≡ replicate 30944 0 → ◌≡◌ {A = Made} (record { answer = a; numbers = numbers; ends = m.ends }) (refused_made n)
+refusal-put z a e = λ i. record { answer = a i; numbers = e i; ends = (z i).ends }
 
 -- ---- all entries
 

@@ -10,11 +10,12 @@ ghost use Rattle.normal.specs.Encoded.{normal_entries, normal_answer_of};
 ghost use Rattle.normal.specs.Outcome.{entries_for};
 ghost use Rattle.normal.specs.Rows.{until_row, equation_row, next_entries, fby_entries, until_entries};
 ghost use Rattle.normal.specs.Stored.{rewriting_before, stored_line, stored_lines, range_before};
-ghost use Rattle.normal_entries.specs.Entries.{row_bound, blank};
+ghost use Rattle.normal_entries.specs.Entries.{row_bound, blank, refused_made};
 ghost use Rattle.normal.specs.Table.{stream_limit, put_rows, RewritingFits, Wrote, WroteLine, WroteLines, LinesHaveRoom, HasLines, ends_up_to, made_tables};
 
+use basics::clear_entries;
 use nodes::{Range, left_end};
-use normal_entries::{Entry, Made, NormalForm, fill, put_spans, refused, wide};
+use normal_entries::{Entry, Made, NormalForm, fill, put_spans, refused, refused_answer, wide};
 
 // The row and the stream behind the last.
 #[derive(Clone, Copy)]
@@ -287,7 +288,8 @@ fn write_ends(
     }
 }
 
-// The entries of the stored lines in tables, or refusal 10 where the list has less room.
+// Puts the entries of the stored lines into tables of zeros, or refusal 10 where the list has less room. The tables are lent, since a call that gave them
+// back by value would take several copies of them on the stack.
 fn make(
     kinds: &[u8],
     values: &[i64],
@@ -299,13 +301,14 @@ fn make(
     rights: &[u16],
     spans: &[u16; 2048],
     room: usize,
-) -> Made
+    made: &mut Made,
+)
     requires has_lines { HasLines kinds.now relations.now lefts.now rights.now }
     requires lines_have_room { LinesHaveRoom (stored_lines kinds.now starts.now relations.now lefts.now rights.now) (length relations.now) (length lows.now) }
-    ensures { result ≡ made_tables (stored_lines kinds.now starts.now relations.now lefts.now rights.now) (length lows.now) (range_before (stored kinds.now values.now starts.now) lows.now highs.now) spans.now room }
+    requires zeros { made.old ≡ refused_made 0 }
+    ensures { made.new ≡ made_tables (stored_lines kinds.now starts.now relations.now lefts.now rights.now) (length lows.now) (range_before (stored kinds.now values.now starts.now) lows.now highs.now) spans.now room }
 {
     let streams = lows.len();
-    let mut numbers: [u16; 30944] = [0; 30944];
     let written = write_lines(
         kinds,
         starts,
@@ -313,36 +316,41 @@ fn make(
         lefts,
         rights,
         streams,
-        &mut numbers,
+        &mut made.numbers,
     );
     let rows = written.row;
     if room < rows {
-        return refused(10);
+        clear_entries(&mut made.numbers, 0);
+        made.answer = refused_answer(10);
+        return;
     }
-    let mut ends: [i64; 8256] = [0; 8256];
     write_ends(
-        kinds, values, starts, lows, highs, &numbers, rows, &mut ends,
+        kinds,
+        values,
+        starts,
+        lows,
+        highs,
+        &made.numbers,
+        rows,
+        &mut made.ends,
     );
-    put_spans(&mut numbers, spans);
-    let answer = NormalForm {
+    put_spans(&mut made.numbers, spans);
+    made.answer = NormalForm {
         refusal: 0,
         entries: rows as u32,
         added: (written.stream - streams) as u32,
     };
-    Made {
-        answer: answer,
-        numbers: numbers,
-        ends: ends,
-    }
 }
 
-// The entries of the sheet that the bytes give in tables, or the refusal's number with tables of zeros.
-pub fn read_entries(text: &[u8], room: usize) -> Made
-    ensures { result ≡ entries_for text.now (answer_to text.now) room }
+// Puts the entries of the sheet that the bytes give into tables of zeros, or the refusal's number beside the zeros.
+fn store_entries(text: &[u8], room: usize, made: &mut Made)
+    requires { made.old ≡ refused_made 0 }
+    ensures { made.new ≡ entries_for text.now (answer_to text.now) room }
 {
     let reading = reader::read(text);
     if reading.refusal != 0 {
-        return refused(reading.refusal);
+        made.answer = refused_answer(reading.refusal);
+        return;
     }
     let sheet = reading.sheet;
     let nodes = sheet.nodes;
@@ -368,7 +376,17 @@ pub fn read_entries(text: &[u8], room: usize) -> Made
         &rights[..count],
         &spans,
         room,
-    )
+        made,
+    );
+}
+
+// The entries of the sheet that the bytes give in tables, or the refusal's number with tables of zeros.
+pub fn read_entries(text: &[u8], room: usize) -> Made
+    ensures { result ≡ entries_for text.now (answer_to text.now) room }
+{
+    let mut made = refused(0);
+    store_entries(text, room, &mut made);
+    made
 }
 
 // Gives the entries of the normal form of the sheet's bytes in the lent list, with zeros behind them; in a refusal 1 to 7, or 10 where the list
@@ -376,9 +394,8 @@ pub fn read_entries(text: &[u8], room: usize) -> Made
 pub fn normal_form(text: &[u8], list: &mut [Entry]) -> NormalForm
     ensures { NormalOutcome blank (normal_entries text.now) text.now (length list.old) (normal_answer_of result) list.new }
 {
-    let made = read_entries(text, list.len());
-    let numbers = made.numbers;
-    let ends = made.ends;
-    fill(list, &numbers, &ends);
+    let mut made = refused(0);
+    store_entries(text, list.len(), &mut made);
+    fill(list, &made.numbers, &made.ends);
     made.answer
 }

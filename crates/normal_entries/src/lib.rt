@@ -49,7 +49,19 @@ pub fn wide(x: u16) -> usize
     x as usize
 }
 
-// A refusal, with tables of zeros.
+// The answer of a refusal.
+pub fn refused_answer(number: u32) -> NormalForm
+    ensures { result ≡ (refused_made number).answer }
+{
+    NormalForm {
+        refusal: number,
+        entries: 0,
+        added: 0,
+    }
+}
+
+// A refusal, with tables of zeros. Its own copies of them are gone before anything else is called.
+#[inline(never)]
 pub fn refused(number: u32) -> Made
     ensures { result ≡ refused_made number }
 {

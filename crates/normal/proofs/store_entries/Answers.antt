@@ -1,12 +1,15 @@
--- `normal::read_entries` meets its contract: a refusal of the reader is passed on, and the lists of a stored sheet are made into tables. From
+-- `normal::store_entries` meets its contract: a refusal of the reader is passed on, and the lists of a stored sheet are made into tables. From
 -- `StoredReading`.
 use Rattle.normal.proofs.StoredReading.{cut-length, reading_refused, reading_sheet, read_holding, read_asked, read_made}
-use Rattle.normal.proofs.read_entries.Goals as goal
+use Rattle.normal.proofs.store_entries.Goals as goal
+use mathlib.Core.Path.{ap}
+use Rattle.normal_entries.specs.declared.Made.{Made}
+use Rattle.normal.proofs.Lines.{refusal-put}
 
 pub returns-then-reading-ne0 : goal.returns-then-reading-ne0
 returns-then-reading-ne0 c =
     let s = c in
-    reading_refused s.args.text.now c.read-reading.ensures c.if-reading-ne0.true s.args.room c.refused.ensures
+    reading_refused s.args.text.now c.read-reading.ensures c.if-reading-ne0.true s.args.room (refusal-put c.requires c.refused_answer-made.ensures (ap (λ (m : Made). m.numbers) c.requires))
 
 pub slice_bounds-kinds-end : goal.slice_bounds-kinds-end
 slice_bounds-kinds-end c =
@@ -126,7 +129,7 @@ make-requires c =
     let read = c.read-reading in
     let got = reading_sheet s.args.text.now read.ensures c.if-reading-ne0.false in
     let asked = read_asked got in
-    record { has_lines = asked.0; lines_have_room = asked.1 }
+    record { has_lines = asked.0; lines_have_room = asked.1; zeros = c.requires }
 
 pub returns : goal.returns
 returns c =
