@@ -127,6 +127,8 @@ def replay_cases(folder):
     link = folder / "play"
     link.symlink_to(tool)
     expect("a link to replay", run([link, sheet, record]), "line state\n1 0\nrefused 12\n", 1, "")
+    record.write_text("x y\n" + "1 1\n" * 200000)
+    expect("a reader that stops amid many lines", run(["bash", "-c", '"$0" "$1" "$2" | head -n 1', tool, sheet, record]), "line state\n", 0, "")
 
 
 def histogram_cases(folder):
