@@ -1,9 +1,10 @@
 // Reads a whole input into lent bytes. "a file it cannot read counts as empty" (document 02, S-1): where a read fails, nothing counts as read.
 #![tactic(auto)]
 
-ghost use Rattle.std.specs.Prelude.{◌≡◌, ◌≤◌, length, min, pos, negsuc, ◌≤ℤ◌, IsNone};
+ghost use Rattle.std.specs.Prelude.{◌≡◌, ◌≤◌, false, length, take, min, pos, negsuc, ◌≤ℤ◌, IsNone};
+ghost use Rattle.std.specs.Str.{IsUtf8};
 ghost use Rattle.io.specs.Counts.{IsPrefixLen};
-ghost use Rattle.input.specs.Input.{answer_of, after_read, IsInput};
+ghost use Rattle.input.specs.Input.{answer_of, after_read, IsInput, ReadsFrom, ReadsFull, TakesFrom};
 
 use basics::fewer;
 use std::env::{Env, FillError};
@@ -26,7 +27,7 @@ fn answer_of(got: std::io::Result<usize>) -> isize
 // One read from a source. One that is missing, such as a file that cannot be opened, fails at each read.
 pub fn read_answer<R: Read>(source: &mut Option<R>, bytes: &mut [u8]) -> isize
     ensures within { result ≤ℤ pos (length bytes.new) }
-    ensures missing { IsNone source.old → result ≡ negsuc 0 }
+    ensures read { ReadsFrom R.remaining source.old source.new bytes.new result }
 {
     match source {
         Some(reader) => answer_of(reader.read(bytes)),
@@ -50,7 +51,8 @@ fn no_bytes(given: bool) -> Argument
 
 // Puts the argument at this place to the front of the bytes.
 pub fn take_argument<E: Env>(rt: &E, place: usize, bytes: &mut [u8]) -> Argument
-    ensures { IsPrefixLen result.size bytes.new }
+    ensures within { IsPrefixLen result.size bytes.new }
+    ensures missing { result.given ≡ false → result.size ≡ 0 }
 {
     match rt.arg(place, bytes) {
         Ok(size) => Argument {
@@ -63,7 +65,9 @@ pub fn take_argument<E: Env>(rt: &E, place: usize, bytes: &mut [u8]) -> Argument
 }
 
 // Opens the file with this path. A path that is no UTF-8 text names none.
-pub fn open_path<F: Files>(files: &F, path: &[u8]) -> Option<F::File> {
+pub fn open_path<F: Files>(files: &F, path: &[u8]) -> Option<F::File>
+    ensures { ¬ (IsUtf8 path.now) → IsNone result }
+{
     match str::from_utf8(path) {
         Ok(text) => fs::open(files, text).ok(),
         Err(_) => None,
@@ -72,7 +76,7 @@ pub fn open_path<F: Files>(files: &F, path: &[u8]) -> Option<F::File> {
 
 // Reads to the front of the bytes until they are full, the input ends or a read fails; how many bytes it gets.
 pub fn read_full<R: Read>(source: &mut R, bytes: &mut [u8]) -> usize
-    ensures { IsPrefixLen result bytes.new }
+    ensures { ReadsFull (R.remaining source.old) (R.remaining source.new) bytes.new result }
 {
     let mut size = 0;
     while size < bytes.len() {
@@ -128,7 +132,8 @@ fn after_read(got: isize, size: usize, room: usize) -> Progress
 
 // Reads until the bytes are full, the input ends or a read fails.
 pub fn read_input<R: Read>(source: &mut Option<R>, bytes: &mut [u8]) -> Input
-    ensures { IsInput (length bytes.old) result }
+    ensures input { IsInput (length bytes.old) result }
+    ensures next { result.failed ≡ false → length bytes.new ≤ 9223372036854775807 → TakesFrom R.remaining source.old source.new (take result.size bytes.new) }
 {
     let mut size = 0;
     let mut failed = false;

@@ -1,10 +1,9 @@
-// Writes bytes to a writer, such as standard output, and counts them. No contract can say what reaches standard output, so a program that prints a text in
-// parts counts the bytes of the writes that were whole.
+// Writes bytes to a writer, such as standard output, and counts them. Of a writer whose bytes are known it is said what it holds afterwards. What reaches
+// standard output no contract can say, so a program that prints a text in parts counts the bytes of the writes that were whole.
 #![tactic(auto)]
 
-ghost use Rattle.std.specs.Prelude.{◌≡◌, take, true};
-ghost use Rattle.std.specs.Io.KnownBytes.{Appends};
-ghost use Rattle.output.specs.Output.{Hands};
+ghost use Rattle.std.specs.Prelude.{take};
+ghost use Rattle.output.specs.Output.{Hands, WritesWhole};
 
 use basics::fewer;
 use std::io::Write;
@@ -18,7 +17,7 @@ pub struct Handed {
 
 // Writes all of the bytes; whether each write took some of those that were left. A write that fails is not made again, nor is one that a signal cut short.
 pub fn write_whole<W: Write>(out: &mut W, bytes: &[u8]) -> bool
-    ensures { result ≡ true → Appends (W.contents out.old) (W.contents out.new) bytes.now }
+    ensures { WritesWhole (W.contents out.old) (W.contents out.new) bytes.now result }
 {
     let mut done = 0;
     while done < bytes.len() {
@@ -33,7 +32,8 @@ pub fn write_whole<W: Write>(out: &mut W, bytes: &[u8]) -> bool
 
 // Writes the first bytes, so many of them, or all where there are fewer. Those of a write that fails do not count, and no bytes need no write.
 pub fn write_front<W: Write>(out: &mut W, bytes: &[u8], size: usize) -> Handed
-    ensures { Hands (take size bytes.now) result.size result.whole }
+    ensures hands { Hands (take size bytes.now) result.size result.whole }
+    ensures written { WritesWhole (W.contents out.old) (W.contents out.new) (take size bytes.now) result.whole }
 {
     let count = fewer(size, bytes.len());
     if count == 0 {

@@ -4,4 +4,4 @@ use Rattle.playback.proofs.write_chunk.Goals as goal
 
 pub loop-whole-preserved : goal.loop-whole-preserved
 loop-whole-preserved g c =
-    played-more _ _ _ _ c.loop-whole.invariant c.loop-whole-test.true c.if-chunk-at.false c.advance-advanced.ensures c.write_front-handed.ensures c.add_size-size.ensures
+    played-more _ _ _ _ c.loop-whole.invariant c.loop-whole-test.true c.if-chunk-at.false c.advance-advanced.ensures c.write_front-handed.ensures.hands c.add_size-size.ensures

@@ -12,4 +12,4 @@ returns g c =
     let finals = c.args.final_figures.now in
     subst (λ l. Hands l c.write_front.result.size c.write_front.result.whole)
     (front-text c.write_figures-size.ensures (omega (arith, listed-short figures finals (min (length figures) (length finals)), c.requires, length-replicate {A = ℕ} 4096 0)))
-    c.write_front.ensures
+    c.write_front.ensures.hands

@@ -6,4 +6,4 @@ pub fill_opened-size-requires : goal.fill_opened-size-requires
 fill_opened-size-requires g c = (c.open_table-table.ensures, refl)
 
 pub returns : goal.returns
-returns g c = record { bytes = _; prints = c.fill_opened-size.ensures; hands = c.write_front.ensures }
+returns g c = record { bytes = _; prints = c.fill_opened-size.ensures; hands = c.write_front.ensures.hands }

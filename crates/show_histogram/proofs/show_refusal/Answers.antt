@@ -10,4 +10,4 @@ pub returns : goal.returns
 returns g c =
     subst (λ l. Hands l c.write_front.result.size c.write_front.result.whole)
     (front-text c.refusal_line-size.ensures (omega (arith, refusal-length c.args.refusal (omega arith), length-replicate {A = ℕ} 32 0)))
-    c.write_front.ensures
+    c.write_front.ensures.hands

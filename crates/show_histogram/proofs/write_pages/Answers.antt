@@ -22,7 +22,7 @@ pub overflow_add-size : goal.overflow_add-size
 overflow_add-size g c =
     omega (
       arith,
-      handed_few _ _ c.pages.invariant c.fill_page-filled.ensures c.write_front-handed.ensures (not-false _ c.if-not-handed.false)
+      handed_few _ _ c.pages.invariant c.fill_page-filled.ensures c.write_front-handed.ensures.hands (not-false _ c.if-not-handed.false)
           (line-short (record { refusal = c.args.refusal; total = c.args.total; names = c.args.names.now; lengths = c.args.lengths.now; lows = c.args.lows.now; highs = c.args.highs.now; counts = c.args.counts.now }) (omega arith) (omega arith) c.requires.0 c.requires.1)
           (few-places c.args.refusal {most = 8194} (omega arith) (omega arith)),
     )
@@ -31,4 +31,4 @@ pub pages-smaller : goal.pages-smaller
 pages-smaller g c = omega (arith, handed_onward _ _ c.pages.invariant c.fill_page-filled.ensures c.if-count-eq0.false, c.fill_page-filled.ensures.holds.inside c.pages.invariant.inside)
 
 pub pages-preserved : goal.pages-preserved
-pages-preserved g c = handed_more _ _ c.pages.invariant c.fill_page-filled.ensures c.write_front-handed.ensures (not-false _ c.if-not-handed.false)
+pages-preserved g c = handed_more _ _ c.pages.invariant c.fill_page-filled.ensures c.write_front-handed.ensures.hands (not-false _ c.if-not-handed.false)

@@ -5,4 +5,4 @@ use Rattle.migration_text.proofs.Text.{writes_front}
 use Rattle.show_migration.proofs.write_states.Goals as goal
 
 pub returns : goal.returns
-returns g c = subst (λ b. Hands b c.write_front.result.size c.write_front.result.whole) (writes_front c.fill-size.ensures) c.write_front.ensures
+returns g c = subst (λ b. Hands b c.write_front.result.size c.write_front.result.whole) (writes_front c.fill-size.ensures) c.write_front.ensures.hands

@@ -12,4 +12,4 @@ returns g c =
     let short = text-short c.args.statistics (omega (arith, w)) (omega (arith, w)) (omega (arith, w)) (omega (arith, w)) (omega (arith, w)) (omega (arith, w)) (omega (arith, w)) in
     subst (λ l. Hands l c.write_front.result.size c.write_front.result.whole)
     (front-text c.fill-size.ensures (omega (arith, short, length-replicate {A = ℕ} 256 0)))
-    c.write_front.ensures
+    c.write_front.ensures.hands

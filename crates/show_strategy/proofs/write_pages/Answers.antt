@@ -17,10 +17,10 @@ returns-then-not-handed g c = handed_cut _ _ c.pages.invariant c.next_page-fille
 
 pub overflow_add-size : goal.overflow_add-size
 overflow_add-size g c =
-    omega (arith, handed_few _ _ c.pages.invariant c.next_page-filled.ensures c.write_front-handed.ensures (not-false _ c.if-not-handed.false) (lines-short c.args.states c.args.choices c.args.entries.now c.args.finals.now c.args.play.now c.requires.0 (omega arith) (λ i. omega (arith, c.type_inv.entries i)) (λ i. omega (arith, c.type_inv.finals i)) c.requires.1) (few-lines (play_printout c.args.sheet c.args.refusal c.args.states c.args.choices c.args.entries.now c.args.finals.now c.args.play.now) c.requires.2))
+    omega (arith, handed_few _ _ c.pages.invariant c.next_page-filled.ensures c.write_front-handed.ensures.hands (not-false _ c.if-not-handed.false) (lines-short c.args.states c.args.choices c.args.entries.now c.args.finals.now c.args.play.now c.requires.0 (omega arith) (λ i. omega (arith, c.type_inv.entries i)) (λ i. omega (arith, c.type_inv.finals i)) c.requires.1) (few-lines (play_printout c.args.sheet c.args.refusal c.args.states c.args.choices c.args.entries.now c.args.finals.now c.args.play.now) c.requires.2))
 
 pub pages-smaller : goal.pages-smaller
 pages-smaller g c = omega (arith, handed_onward _ _ c.pages.invariant c.next_page-filled.ensures c.if-count-eq0.false, c.next_page-filled.ensures.holds.inside c.pages.invariant.inside)
 
 pub pages-preserved : goal.pages-preserved
-pages-preserved g c = handed_more _ _ c.pages.invariant c.next_page-filled.ensures c.write_front-handed.ensures (not-false _ c.if-not-handed.false)
+pages-preserved g c = handed_more _ _ c.pages.invariant c.next_page-filled.ensures c.write_front-handed.ensures.hands (not-false _ c.if-not-handed.false)
