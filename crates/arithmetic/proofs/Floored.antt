@@ -4,10 +4,10 @@ use Prim.Native.Nat.{zero, suc}
 use native.Mathlib.Omega.{arith}
 use mathlib.Core.Path.{◌≡◌, refl, sym, ap, ap₂, subst, ◌∙◌}
 use mathlib.Core.Bool.{Bool, true, false, cond}
-use lib.Dec.{T, ltb}
+use lib.Dec.{T}
 use lib.IntN.{ℤ, pos, negsuc, nat_abs, ◌+ℤ◌, ◌-ℤ◌}
 use lib.Signed.{lt_z, quot_z, rem_z}
-use borrow.Author.Tests.{lt-ltb, le-leb, ltb-true, ltb-false}
+use borrow.Author.Tests.{lt-ltb, le-leb, ltb-true}
 use mir.Syntax.{w64}
 use mir.Val.{SFits}
 use mir.ValLaws.{to_z-of_z}
@@ -15,7 +15,7 @@ use Rattle.basics.proofs.Tests.{T-of_true}
 use Rattle.meaning.specs.Value.{absent, number, nonzero}
 use Rattle.meaning.specs.Arithmetic.{are_opposite, floor_quot_z, floor_rem_z}
 use Rattle.meaning.proofs.Arithmetic.{floor_quot_z-small, floor_rem_z-small}
-use Rattle.nodes.specs.Bounded.{in_bound, Small, evaluated}
+use Rattle.nodes.specs.Bounded.{Small, evaluated}
 use Rattle.arithmetic.specs.Coded.{coded}
 use Rattle.arithmetic.proofs.Machine.{held, held_fits, held-exact, quot_z_fits, rem_z_fits, +ℤ-fits, -ℤ-fits, by-nonzero}
 use Rattle.arithmetic.proofs.Coded.{quotient-within, remainder-within}

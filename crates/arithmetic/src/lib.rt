@@ -7,17 +7,13 @@ ghost use Rattle.meaning.specs.Arithmetic.{divide, remainder, floored_divide, fl
 ghost use Rattle.arithmetic.specs.Coded.{coded};
 ghost use Rattle.nodes.specs.Bounded.{in_bound, Small, no_value, bounded, evaluated, operator_at, applied_by_kind};
 
-use basics::{both, either};
 use nodes::Evaluated;
 
 // "Magnitudes to 1,000,000,000."
 pub fn in_bound(z: i64) -> bool
     ensures { result ≡ in_bound z }
 {
-    if z < -1000000000 {
-        return false;
-    }
-    z <= 1000000000
+    -1000000000 <= z && z <= 1000000000
 }
 
 fn no_value() -> Evaluated
@@ -65,28 +61,7 @@ pub fn nonzero(z: i64) -> bool
 pub fn bit(b: bool) -> i64
     ensures { result ≡ bit b }
 {
-    if b { 1 } else { 0 }
-}
-
-fn sum(a: i64, b: i64) -> i64
-    requires { Small a × Small b }
-    ensures { result ≡ a +ℤ b }
-{
-    a + b
-}
-
-fn difference(a: i64, b: i64) -> i64
-    requires { Small a × Small b }
-    ensures { result ≡ a -ℤ b }
-{
-    a - b
-}
-
-fn product(a: i64, b: i64) -> i64
-    requires { Small a × Small b }
-    ensures { result ≡ a *ℤ b }
-{
-    a * b
+    i64::from(b)
 }
 
 // "A quotient is cut toward zero": −7 / 2 is −3. By 0 there is none.
@@ -109,13 +84,7 @@ fn remainder(a: i64, b: i64) -> i64
 fn are_opposite(a: i64, b: i64) -> bool
     ensures { result ≡ are_opposite a b }
 {
-    if a < 0 {
-        return 0 < b;
-    }
-    if b < 0 {
-        return 0 < a;
-    }
-    false
+    (a < 0 && 0 < b) || (b < 0 && 0 < a)
 }
 
 // "quotients rounded down": −7 / 2 is −4. By 0 there is none.
@@ -171,19 +140,19 @@ fn applied(kind: u8, a: i64, b: i64) -> i64
     ensures { result ≡ coded (evaluated (apply_numbers (operator_at kind) a b)) }
 {
     match kind {
-        nodes::ADD_NODE => bounded_coded(sum(a, b)),
-        nodes::SUBTRACT_NODE => bounded_coded(difference(a, b)),
-        nodes::MULTIPLY_NODE => bounded_coded(product(a, b)),
+        nodes::ADD_NODE => bounded_coded(a + b),
+        nodes::SUBTRACT_NODE => bounded_coded(a - b),
+        nodes::MULTIPLY_NODE => bounded_coded(a * b),
         nodes::DIVIDE_NODE => quotient(a, b),
         nodes::REMAINDER_NODE => remainder(a, b),
-        nodes::LESS_NODE => bit(less(a, b)),
-        nodes::AT_MOST_NODE => bit(at_most(a, b)),
-        nodes::EQUAL_NODE => bit(same(a, b)),
-        nodes::AT_LEAST_NODE => bit(at_most(b, a)),
-        nodes::GREATER_NODE => bit(less(b, a)),
-        nodes::DIFFERENT_NODE => bit(!same(a, b)),
-        nodes::AND_NODE => bit(both(nonzero(a), nonzero(b))),
-        nodes::OR_NODE => bit(either(nonzero(a), nonzero(b))),
+        nodes::LESS_NODE => bit(a < b),
+        nodes::AT_MOST_NODE => bit(a <= b),
+        nodes::EQUAL_NODE => bit(a == b),
+        nodes::AT_LEAST_NODE => bit(b <= a),
+        nodes::GREATER_NODE => bit(b < a),
+        nodes::DIFFERENT_NODE => bit(a != b),
+        nodes::AND_NODE => bit(nonzero(a) && nonzero(b)),
+        nodes::OR_NODE => bit(nonzero(a) || nonzero(b)),
         nodes::FLOORED_DIVIDE_NODE => floored_quotient(a, b),
         _ => floored_remainder(a, b),
     }
@@ -193,18 +162,12 @@ fn applied(kind: u8, a: i64, b: i64) -> i64
 pub fn apply_coded(kind: u8, a: i64, b: i64) -> i64
     ensures { result ≡ coded (applied_by_kind kind a b) }
 {
-    if kind < nodes::ADD_NODE {
-        return no_value_coded();
-    }
-    if nodes::FLOORED_REMAINDER_NODE < kind {
-        return no_value_coded();
-    }
-    if in_bound(a) {
-        if in_bound(b) {
-            applied(kind, a, b)
-        } else {
-            no_value_coded()
-        }
+    if nodes::ADD_NODE <= kind
+        && kind <= nodes::FLOORED_REMAINDER_NODE
+        && in_bound(a)
+        && in_bound(b)
+    {
+        applied(kind, a, b)
     } else {
         no_value_coded()
     }

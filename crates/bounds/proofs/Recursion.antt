@@ -3,6 +3,7 @@ use Prim.Native.Nat.{ℕ, ◌+◌, ◌-◌, ◌≤◌, ◌<◌}
 use native.Mathlib.Numerals.{add-one}
 use mathlib.Core.Path.{◌≡◌, sym, ◌∙◌, ap, ap₂}
 use mathlib.Core.List.{List}
+use Rattle.std.specs.Prelude.{Option}
 use lib.IntN.{ℤ, pos}
 use lib.ListN.{length, get_or}
 use borrow.Author.Tests.{lt-ltb, le-ltb}
@@ -33,7 +34,7 @@ module _ (N : Nodes) (lows highs : List ℤ) where
     by_number : (k : ℕ) → get_or N.kinds (e - 1) 0 ≡ k → {x : Summary} → x ≡ summary_by_kind N lows highs (kind_of k) before (e - 1) → x ≡ before e
     by_number k q r = by_kind (kind_of k) (ap kind_of q) r
 
-    module _ {r : Range} (f : SFits w64 (get_or N.values (e - 1) (pos 0))) where
+    module _ {r : Option Range} (f : SFits w64 (get_or N.values (e - 1) (pos 0))) where
       pub integer_arm : get_or N.kinds (e - 1) 0 ≡ 0 → r ≡ range_within (between (held (get_or N.values (e - 1) (pos 0))) (held (get_or N.values (e - 1) (pos 0)))) → leaf_summary r ≡ before e
       integer_arm q t = by_number 0 q (ap leaf_summary (t ∙ ap (λ z. range_within (between z z)) (to_z-of_z w64 _ f)))
 

@@ -1,15 +1,14 @@
 -- The queue and the states in lists: what one entry, one row and the whole queue do to them. From the laws of the queue.
 use mathlib.Core.Path.{◌≡◌, refl, sym, ap, subst, ◌∙◌}
 use mathlib.Core.Logic.{◌⊎◌, inl, inr, ◌≢◌}
-use mathlib.Core.Bool.{not}
 use mathlib.Core.List.{List, ◌∷◌}
 use Prim.Native.Nat.{ℕ, zero, suc, ◌+◌, ◌<◌, ◌≤◌}
 use native.Mathlib.Omega.{arith}
 use native.Mathlib.Decide.{ℕ_discrete}
-use lib.Dec.{eqb}
 use lib.ListN.{length, set, take, replicate, length-set, get_or-replicate}
 use lib.Seq.{get_or-set_same, get_or-set_other}
-use borrow.Author.Tests.{eq-eqb, ne_eqb}
+use Rattle.std.specs.Prelude.{true, false, Some, None}
+use Rattle.std.proofs.lemmas.Option.{none-some, same_Some}
 use Rattle.basics.specs.Lists.{at}
 use Rattle.automaton.specs.Table.{no_state}
 use Rattle.automaton.specs.Stored.{entry_at}
@@ -17,7 +16,7 @@ use Rattle.automaton.specs.WellFormed.{most_rows, WholeTable}
 use Rattle.automaton.proofs.WellFormed.{whole-entries, some-row-entry}
 use Rattle.carry.specs.Carry.{LacksState}
 use Rattle.carry.specs.Queue.{HasState, StoredCarryTurn, HasPlace, EntryCarried, missing, kept, added, differs, RowCarried, goes_on, stops, RowsCarried, all, some_lacks}
-use Rattle.carry.proofs.Queue.{IsMore, queue_most, queue_room, queue_some, turn_start, turn_row, turn_kept, turn_added, turn_lacks, turn_end}
+use Rattle.carry.proofs.Queue.{IsMore, queue_room, turn_start, turn_row, turn_kept, turn_added, turn_lacks, turn_end}
 
 -- the front of a list of one number
 pub take-replicate : {X : Type 0} (n m : ℕ) (x : X) → n ≤ m → take n (replicate m x) ≡ replicate n x
@@ -68,9 +67,9 @@ module _ {k : ℕ} {entries new-entries : List ℕ} {head : ℕ} {states₀ queu
     }
 
     -- after the letter
-    pub row_turn_next : {states' queue' : List ℕ} {r : ℕ} → EntryCarried entry new_entry met states queue states' queue' r → r ≢ 0
+    pub row_turn_next : {states' queue' : List ℕ} {r : ℕ} → EntryCarried entry new_entry met states queue states' queue' (Some r)
         → RowTurn k entries new-entries head states₀ queue₀ row state states' queue' r (letter + 1)
-    row_turn_next (missing none same_states same_queue same) ne = rw (same_states, same_queue, same) (record {
+    row_turn_next (missing none same_states same_queue same) = rw (same_states, same_queue, same_Some _ _ same) (record {
       letters = omega arith;
       same_states = t.same_states;
       same_queue = t.same_queue;
@@ -79,7 +78,7 @@ module _ {k : ℕ} {entries new-entries : List ℕ} {head : ℕ} {states₀ queu
       head_row = t.head_row;
       row_state = t.row_state;
     })
-    row_turn_next (kept some some_state has same_states same_queue same) ne = rw (same_states, same_queue, same) (record {
+    row_turn_next (kept some some_state has same_states same_queue same) = rw (same_states, same_queue, same_Some _ _ same) (record {
       letters = omega arith;
       same_states = t.same_states;
       same_queue = t.same_queue;
@@ -92,7 +91,7 @@ module _ {k : ℕ} {entries new-entries : List ℕ} {head : ℕ} {states₀ queu
       head_row = t.head_row;
       row_state = t.row_state;
     })
-    row_turn_next (added some some_state unmet new-states new-queue one_more) ne = rw (new-states, new-queue, one_more) (record {
+    row_turn_next (added some some_state unmet new-states new-queue one_more) = rw (new-states, new-queue, same_Some _ _ one_more) (record {
       letters = omega arith;
       same_states = length-set states entry new_entry ∙ t.same_states;
       same_queue = length-set queue met entry ∙ t.same_queue;
@@ -109,14 +108,14 @@ module _ {k : ℕ} {entries new-entries : List ℕ} {head : ℕ} {states₀ queu
           new_row = get_or-set_same queue met entry 0 (row_turn_place.place some unmet);
           old_rows = λ p h. get_or-set_other queue met p entry 0 (omega arith);
         }
-    row_turn_next (differs some d none) ne = absurd (ne none)
+    row_turn_next (differs some d none) = absurd (none-some _ (sym none))
 
     -- the letter leaves a row without a state
-    pub row_turn_lacks : {states' queue' : List ℕ} {r : ℕ} → EntryCarried entry new_entry met states queue states' queue' r → r ≡ 0 → LacksState k (entry_at k entries) (entry_at k new-entries)
-    row_turn_lacks (missing none same_states same_queue same) e = absurd (omega (arith, t.in_queue))
-    row_turn_lacks (kept some some_state has same_states same_queue same) e = absurd (omega (arith, t.in_queue))
-    row_turn_lacks (added some some_state unmet new-states new-queue one_more) e = absurd (omega arith)
-    row_turn_lacks (differs some d none) e = turn_lacks t.turn (whole-entries whole) t.in_queue is_letter (λ z. some (sym old_here ∙ z)) (elsewhere d)
+    pub row_turn_lacks : {states' queue' : List ℕ} → EntryCarried entry new_entry met states queue states' queue' None → LacksState k (entry_at k entries) (entry_at k new-entries)
+    row_turn_lacks (missing none same_states same_queue same) = absurd (none-some _ same)
+    row_turn_lacks (kept some some_state has same_states same_queue same) = absurd (none-some _ same)
+    row_turn_lacks (added some some_state unmet new-states new-queue one_more) = absurd (none-some _ one_more)
+    row_turn_lacks (differs some d none) = turn_lacks t.turn (whole-entries whole) t.in_queue is_letter (λ z. some (sym old_here ∙ z)) (elsewhere d)
       where
         elsewhere : (new_entry ≡ no_state) ⊎ ((at states entry ≢ no_state) × (at states entry ≢ new_entry))
             → (entry_at k new-entries (at states (at queue head)) letter ≡ no_state) ⊎ ((at states (entry_at k entries (at queue head) letter) ≢ no_state)
@@ -130,46 +129,32 @@ pub row-turn-start : {k : ℕ} {entries new-entries : List ℕ} {head : ℕ} {st
 row-turn-start h t = record { letters = omega arith; same_states = refl; same_queue = refl; turn = t; in_queue = h; head_row = refl; row_state = refl }
 
 pub row-turn-end : {k : ℕ} {entries new-entries : List ℕ} {head : ℕ} {states₀ queue₀ : List ℕ} {row state : ℕ} {states queue : List ℕ} {met letter : ℕ} → k ≤ letter
-    → RowTurn k entries new-entries head states₀ queue₀ row state states queue met letter → RowCarried k entries new-entries head states queue met
+    → RowTurn k entries new-entries head states₀ queue₀ row state states queue met letter → RowCarried k entries new-entries head states queue (Some met)
 row-turn-end {k} {entries} {new-entries} {head} {states₀} {states = states} {queue} {met} {letter} h t =
     goes_on (subst (λ n. StoredCarryTurn k n entries new-entries states queue met head k) (sym t.same_states)
     (subst (StoredCarryTurn k (length states₀) entries new-entries states queue met head) (omega (arith, t.letters)) t.turn))
 
 -- ---- the whole queue, before the row at the head
 
-pub data RowsTurn (k n : ℕ) (entries new-entries states queue : List ℕ) (count head : ℕ) : Type 0 where
-  runs : StoredCarryTurn k n entries new-entries states queue count head 0 → RowsTurn k n entries new-entries states queue count head
-  ended : count ≡ 0 → LacksState k (entry_at k entries) (entry_at k new-entries) → RowsTurn k n entries new-entries states queue count head
-
-module _ {k n : ℕ} {entries new-entries : List ℕ} where
+module _ (k n : ℕ) (entries new-entries : List ℕ) where
   pub rows_turn_start : (states queue : List ℕ) → length states ≡ n → 0 < n → states ≡ replicate (length states) no_state → at queue 0 ≡ 0
-      → RowsTurn k n entries new-entries (set states 0 0) queue 1 0
-  rows_turn_start states queue long some unmet first = runs (turn_start some first (get_or-set_same states 0 0 0 (omega arith)) λ i x. only i x (ℕ_discrete i 0))
+      → StoredCarryTurn k n entries new-entries (set states 0 0) queue 1 0 0
+  rows_turn_start states queue long some unmet first = turn_start some first (get_or-set_same states 0 0 0 (omega arith)) λ i x. only i x (ℕ_discrete i 0)
     where
       only : (i : ℕ) → HasState n (at (set states 0 0)) i → Dec (i ≡ 0) → i ≡ 0
       only i x (yes e) = e
       only i x (no ne) =
           absurd (x.some_state (get_or-set_other states 0 i 0 0 ne ∙ ap (λ l. at l i) unmet ∙ get_or-replicate (length states) i no_state 0 (omega (arith, x.is_row))))
 
-  module _ {states queue : List ℕ} {count head : ℕ} where
-    -- while rows are left, the queue runs
-    pub rows_turn_runs : head < count → RowsTurn k n entries new-entries states queue count head → StoredCarryTurn k n entries new-entries states queue count head 0
-    rows_turn_runs h (runs t) = t
-    rows_turn_runs h (ended e x) = absurd (omega arith)
+  pub rows_turn_next : {head : ℕ} {states' queue' : List ℕ} {r : ℕ} → length states' ≡ n → RowCarried k entries new-entries head states' queue' (Some r)
+      → StoredCarryTurn k n entries new-entries states' queue' r (head + 1) 0
+  rows_turn_next {head} {states'} {queue'} {r} long (goes_on t) = turn_row (subst (λ m. StoredCarryTurn k m entries new-entries states' queue' r head k) long t) (omega arith)
 
-    pub rows_turn_most : head < count → RowsTurn k n entries new-entries states queue count head → head < n
-    rows_turn_most h t = omega (arith, queue_most (rows_turn_runs h t))
+  -- at its end every row has what is given for it
+  pub rows_turn_end : (states queue : List ℕ) {count head : ℕ} → length states ≡ n → 0 < n → count ≤ head → StoredCarryTurn k n entries new-entries states queue count head 0
+      → RowsCarried k entries new-entries states true
+  rows_turn_end states queue long some over t = all (record { each = λ i h. turn_end t some over i (omega arith) })
 
-  pub rows_turn_next : {head : ℕ} {states' queue' : List ℕ} {r : ℕ} → length states' ≡ n → RowCarried k entries new-entries head states' queue' r
-      → RowsTurn k n entries new-entries states' queue' r (head + 1)
-  rows_turn_next {head} {states'} {queue'} {r} long (goes_on t) = runs (turn_row (subst (λ m. StoredCarryTurn k m entries new-entries states' queue' r head k) long t) (omega arith))
-  rows_turn_next long (stops e x) = ended e x
-
-  -- at its end every row has what is given for it, or some row has no state to go on from
-  pub rows_turn_end : {states queue : List ℕ} {count head : ℕ} → length states ≡ n → 0 < n → count ≤ head → RowsTurn k n entries new-entries states queue count head
-      → RowsCarried k entries new-entries states (not (eqb count 0))
-  rows_turn_end {states} {count = count} long some over (runs t) =
-      let positive = queue_some t some in
-      subst (RowsCarried k entries new-entries states) (sym (ap not (ne_eqb count 0 λ e. omega arith))) (all (record { each = λ i h. turn_end t some over i (omega arith) }))
-  rows_turn_end {states} {count = count} long some over (ended e x) =
-      subst (RowsCarried k entries new-entries states) (sym (ap not (eq-eqb count 0 e))) (some_lacks x)
+-- a row stopped the queue, since some row has no state to go on from
+pub rows_turn_stopped : {k head : ℕ} {entries new-entries states' queue' states : List ℕ} → RowCarried k entries new-entries head states' queue' None → RowsCarried k entries new-entries states false
+rows_turn_stopped (stops x) = some_lacks x

@@ -1,6 +1,6 @@
 -- The queue of the old rows that are met, each with the new state that a record leads to. Rows are met letter by letter, the row at the head of the queue
 -- first. `state` and `queue` are functions where they are laws' matter; the code has them in lists.
-use Rattle.std.specs.Prelude.{◌≡◌, ◌⊎◌, ◌≢◌, Bool, true, false, List, ◌++◌, ℕ, ◌+◌, ◌-◌, ◌<◌, ◌≤◌, length, set, replicate}
+use Rattle.std.specs.Prelude.{◌≡◌, ◌⊎◌, ◌≢◌, Bool, true, false, Option, Some, None, List, ◌++◌, ℕ, ◌+◌, ◌-◌, ◌<◌, ◌≤◌, length, set, replicate}
 use Rattle.basics.specs.Lists.{at}
 use Rattle.automaton.specs.Table.{no_state, Before}
 use Rattle.automaton.specs.Stored.{entry_at}
@@ -46,22 +46,22 @@ pub record HasPlace (entry count : ℕ) (states queue : List ℕ) : Type 0 where
   pub place : entry ≢ no_state → at states entry ≡ no_state → count < length queue
 
 -- what is left after an entry was carried to the state that the new table has for it
-pub data EntryCarried (entry state count : ℕ) (states queue states' queue' : List ℕ) (r : ℕ) : Type 0 where
+pub data EntryCarried (entry state count : ℕ) (states queue states' queue' : List ℕ) (r : Option ℕ) : Type 0 where
   -- it leads to no row, or to one that has this state
-  missing : entry ≡ no_state → states' ≡ states → queue' ≡ queue → r ≡ count → EntryCarried entry state count states queue states' queue' r
-  kept : entry ≢ no_state → state ≢ no_state → at states entry ≡ state → states' ≡ states → queue' ≡ queue → r ≡ count
+  missing : entry ≡ no_state → states' ≡ states → queue' ≡ queue → r ≡ Some count → EntryCarried entry state count states queue states' queue' r
+  kept : entry ≢ no_state → state ≢ no_state → at states entry ≡ state → states' ≡ states → queue' ≡ queue → r ≡ Some count
       → EntryCarried entry state count states queue states' queue' r
   -- its row had no state
-  added : entry ≢ no_state → state ≢ no_state → at states entry ≡ no_state → states' ≡ set states entry state → queue' ≡ set queue count entry → r ≡ count + 1
+  added : entry ≢ no_state → state ≢ no_state → at states entry ≡ no_state → states' ≡ set states entry state → queue' ≡ set queue count entry → r ≡ Some (count + 1)
       → EntryCarried entry state count states queue states' queue' r
   -- there is no state, or the row has another
-  differs : entry ≢ no_state → (state ≡ no_state) ⊎ ((at states entry ≢ no_state) × (at states entry ≢ state)) → r ≡ 0
+  differs : entry ≢ no_state → (state ≡ no_state) ⊎ ((at states entry ≢ no_state) × (at states entry ≢ state)) → r ≡ None
       → EntryCarried entry state count states queue states' queue' r
 
--- after every letter of the row at the head; 0 where some row has no state to go on from
-pub data RowCarried (k : ℕ) (entries new-entries : List ℕ) (head : ℕ) (states' queue' : List ℕ) (r : ℕ) : Type 0 where
-  goes_on : StoredCarryTurn k (length states') entries new-entries states' queue' r head k → RowCarried k entries new-entries head states' queue' r
-  stops : r ≡ 0 → LacksState k (entry_at k entries) (entry_at k new-entries) → RowCarried k entries new-entries head states' queue' r
+-- after every letter of the row at the head; none where some row has no state to go on from
+pub data RowCarried (k : ℕ) (entries new-entries : List ℕ) (head : ℕ) (states' queue' : List ℕ) : Option ℕ → Type 0 where
+  goes_on : {r : ℕ} → StoredCarryTurn k (length states') entries new-entries states' queue' r head k → RowCarried k entries new-entries head states' queue' (Some r)
+  stops : LacksState k (entry_at k entries) (entry_at k new-entries) → RowCarried k entries new-entries head states' queue' None
 
 -- after every row of the queue
 pub data RowsCarried (k : ℕ) (entries new-entries states : List ℕ) : Bool → Type 0 where

@@ -17,28 +17,38 @@ use automaton::{MOST_ROWS, NO_STATE};
 use streams::StreamsDescription;
 
 // Gives the row that an old entry leads to the state that the new one leads to. A row that has no state yet goes to the end of the queue. Gives how many
-// rows are in the queue then, or 0 where the row has another state, or the new entry is missing.
-fn carry_entry(entry: u16, state: u16, states: &mut [u16], queue: &mut [u16], count: usize) -> usize
+// rows are in the queue then, or none where the row has another state, or the new entry is missing.
+fn carry_entry(
+    entry: u16,
+    state: u16,
+    states: &mut [u16],
+    queue: &mut [u16],
+    count: usize,
+) -> Option<usize>
     requires { HasPlace entry count states.old queue.old }
     ensures { EntryCarried entry state count states.old queue.old states.new queue.new result }
 {
     if entry == NO_STATE {
-        return count;
+        return Some(count);
     }
     if state == NO_STATE {
-        return 0;
+        return None;
     }
     let row = entry as usize;
     if states[row] == NO_STATE {
         states[row] = state;
         queue[count] = entry;
-        return count + 1;
+        return Some(count + 1);
     }
-    if states[row] == state { count } else { 0 }
+    if states[row] == state {
+        Some(count)
+    } else {
+        None
+    }
 }
 
-// Carries the entries of the row at the head of the queue, letter by letter. Gives how many rows are in the queue then, or 0 where some row has no state
-// to go on from.
+// Carries the entries of the row at the head of the queue, letter by letter. Gives how many rows are in the queue then, or none where some row has no
+// state to go on from.
 fn carry_row(
     entries: &[u16],
     new_entries: &[u16],
@@ -47,7 +57,7 @@ fn carry_row(
     states: &mut [u16],
     queue: &mut [u16],
     count: usize,
-) -> usize
+) -> Option<usize>
     requires whole_table { WholeTable letters (length states.old) entries.now }
     requires by_index { ((rows : ℕ) × WholeTable letters rows new_entries.now) × (length queue.old ≡ most_rows) × (head < count) }
     requires stored_carry_turn { StoredCarryTurn letters (length states.old) entries.now new_entries.now states.old queue.old count head 0 }
@@ -57,21 +67,16 @@ fn carry_row(
     let start = row * letters;
     let new_start = states[row] as usize * letters;
     let mut met = count;
-    let mut letter = 0;
-    while letter < letters {
+    for letter in 0..letters {
         met = carry_entry(
             entries[start + letter],
             new_entries[new_start + letter],
             states,
             queue,
             met,
-        );
-        if met == 0 {
-            return 0;
-        }
-        letter += 1;
+        )?;
     }
-    met
+    Some(met)
 }
 
 // Carries every row that a record reaches, from state 0 on. Gives whether each of them has a state to go on from.
@@ -85,7 +90,7 @@ fn carry_rows(entries: &[u16], new_entries: &[u16], letters: usize, states: &mut
     let mut count = 1;
     let mut head = 0;
     while head < count {
-        count = carry_row(
+        let carried = carry_row(
             entries,
             new_entries,
             letters,
@@ -94,9 +99,13 @@ fn carry_rows(entries: &[u16], new_entries: &[u16], letters: usize, states: &mut
             &mut queue,
             count,
         );
+        let Some(met) = carried else {
+            return false;
+        };
+        count = met;
         head += 1;
     }
-    count != 0
+    true
 }
 
 // 11 or 17 where one of them applies to the two tables, or 0.
@@ -130,11 +139,7 @@ fn copy(states: &[u16], list: &mut [u16])
     requires { length states.now ≤ length list.old }
     ensures { list.new ≡ paste list.old 0 states.now (length states.now) }
 {
-    let mut row = 0;
-    while row < states.len() {
-        list[row] = states[row];
-        row += 1;
-    }
+    list[..states.len()].copy_from_slice(states);
 }
 
 // Carries the rows of two tables over the same streams, and copies their states to the list. Gives 0 or the refusal. The list is zero, and there is a state,
@@ -175,7 +180,7 @@ pub fn carry(
 ) -> u32
     ensures { CarryOutcome (given_table entries.now finals.now letters streams) (given_table new_entries.now new_finals.now new_letters new_streams) (length list.old) result list.new }
 {
-    basics::clear_entries(list, 0);
+    list.fill(0);
     let refusal = tables_refusal(
         entries,
         finals,

@@ -1,14 +1,14 @@
 -- What the functions that the programs on stored vectors share give back.
-use Rattle.std.specs.Prelude.{◌≡◌, ℕ, zero, suc, ◌<◌, ◌≤◌, min, cond, List, [], ◌∷◌, length, take}
+use Rattle.std.specs.Prelude.{◌≡◌, ℕ, zero, suc, ◌<◌, ◌≤◌, min, List, [], ◌∷◌, length, take}
 use Rattle.io.specs.Counts.{IsPrefixLen}
 use Rattle.io.specs.Digits.{IsDigitCount}
 use Rattle.stored.specs.Number.{number_at}
 use Rattle.cases.specs.declared.Case.{Case}
 
--- A case has as many bytes at the front of the space as the first number of its heading says; where none was found there are none.
+-- A case has as many bytes at the front of the space as the first number of its heading says.
 pub record IsCase (space : List ℕ) (r : Case) : Type 0 where
   pub within : IsPrefixLen r.size space
-  pub sized : r.size ≡ cond r.found (number_at 4 r.heading 0) 0
+  pub sized : r.size ≡ number_at 4 r.heading 0
 
 -- How many elements of a table are taken, where so many are asked for: all where it has fewer.
 unfoldable pub taken : ℕ → List ℕ → ℕ

@@ -2,12 +2,11 @@
 // a heading of numbers of four bytes, low first, and then as many bytes as the heading's first number says.
 #![tactic(auto)]
 
-ghost use Rattle.std.specs.Prelude.{◌≡◌, ◌+◌, ◌%◌, ◌^◌, ◌<◌, ◌≤◌, [], ◌∷◌, length, take, replicate, slice_index, unsigned_abs};
+ghost use Rattle.std.specs.Prelude.{◌≡◌, ◌+◌, ◌%◌, ◌^◌, ◌<◌, ◌≤◌, [], ◌∷◌, length, take, replicate, slice_index, unsigned_abs, IfSome};
 ghost use Rattle.io.specs.Counts.{IsPrefixLen};
 ghost use Rattle.stored.specs.Number.{number_at};
 ghost use Rattle.cases.specs.Cases.{IsCase, taken, IsTaken, nonzeros, DigitsPrinted};
 
-use basics::fewer;
 use output::write_whole;
 use std::io::{Read, Write};
 
@@ -18,7 +17,7 @@ fn byte_at(bytes: &[u8], at: usize) -> u32
     ensures { (result ≡ slice_index bytes.now at) × (result < 256) }
 {
     if at < bytes.len() {
-        bytes[at] as u32
+        u32::from(bytes[at])
     } else {
         0
     }
@@ -36,50 +35,34 @@ pub fn number(bytes: &[u8], at: usize) -> u32
     low + high * 65536
 }
 
-// Whether a whole case was read, how many bytes it has behind its heading, and the heading. Without one the size is 0.
+// How many bytes a case has behind its heading, and the heading.
 #[derive(Clone, Copy)]
 pub struct Case {
-    pub found: bool,
     pub size: usize,
     pub heading: [u8; 44],
-}
-
-// What is given where no whole case can be read.
-fn no_case(space: &[u8]) -> Case
-    ensures { IsCase space.now result }
-{
-    Case {
-        found: false,
-        size: 0,
-        heading: [0; 44],
-    }
 }
 
 // Reads so many bytes to the front of the space, or as many as it has room for; how many it gets.
 fn fill<R: Read>(source: &mut R, space: &mut [u8], size: usize) -> usize
     ensures { IsPrefixLen result space.new }
 {
-    let room = fewer(size, space.len());
+    let room = size.min(space.len());
     input::read_full(source, &mut space[..room])
 }
 
-// Reads a heading of so many bytes, at most 44, and the bytes behind it to the front of the space.
-pub fn read_case<R: Read>(source: &mut R, heading_size: usize, space: &mut [u8]) -> Case
-    ensures { IsCase space.new result }
+// Reads a heading of so many bytes, at most 44, and the bytes behind it to the front of the space; nothing where no whole case can be read.
+pub fn read_case<R: Read>(source: &mut R, heading_size: usize, space: &mut [u8]) -> Option<Case>
+    ensures { IfSome result (λ case. IsCase space.new case) }
 {
     let mut heading = [0u8; 44];
     if fill(source, &mut heading, heading_size) < heading_size {
-        return no_case(space);
+        return None;
     }
     let size = fill(source, space, number(&heading, 0) as usize);
     if size != number(&heading, 0) as usize {
-        return no_case(space);
+        return None;
     }
-    Case {
-        found: true,
-        size,
-        heading,
-    }
+    Some(Case { size, heading })
 }
 
 // ---- tables
@@ -88,26 +71,26 @@ pub fn read_case<R: Read>(source: &mut R, heading_size: usize, space: &mut [u8])
 pub fn bytes_within(count: usize, table: &[u8]) -> usize
     ensures { IsTaken count table.now result }
 {
-    fewer(count, table.len())
+    count.min(table.len())
 }
 
 // How many elements of a table are lent: as many as the heading gives at this place, or all where it has fewer.
 pub fn words_lent(heading: &[u8], at: usize, table: &[u32]) -> usize
     ensures { IsTaken (number_at 4 heading.now at) table.now result }
 {
-    fewer(number(heading, at) as usize, table.len())
+    (number(heading, at) as usize).min(table.len())
 }
 
 pub fn entries_lent(heading: &[u8], at: usize, table: &[u16]) -> usize
     ensures { IsTaken (number_at 4 heading.now at) table.now result }
 {
-    fewer(number(heading, at) as usize, table.len())
+    (number(heading, at) as usize).min(table.len())
 }
 
 pub fn bytes_lent(heading: &[u8], at: usize, table: &[u8]) -> usize
     ensures { IsTaken (number_at 4 heading.now at) table.now result }
 {
-    fewer(number(heading, at) as usize, table.len())
+    (number(heading, at) as usize).min(table.len())
 }
 
 // 1 for a number that is not 0, and 0 for 0.
@@ -122,10 +105,8 @@ pub fn nonzero_words(table: &[u32]) -> usize
     ensures { result ≡ nonzeros table.now }
 {
     let mut count = 0;
-    let mut i = 0;
-    while i < table.len() {
-        count += one_if(table[i]);
-        i += 1;
+    for word in table {
+        count += one_if(*word);
     }
     count
 }
@@ -134,10 +115,8 @@ pub fn nonzero_entries(table: &[u16]) -> usize
     ensures { result ≡ nonzeros table.now }
 {
     let mut count = 0;
-    let mut i = 0;
-    while i < table.len() {
-        count += one_if(table[i] as u32);
-        i += 1;
+    for entry in table {
+        count += one_if(u32::from(*entry));
     }
     count
 }
@@ -146,10 +125,8 @@ pub fn nonzero_bytes(table: &[u8]) -> usize
     ensures { result ≡ nonzeros table.now }
 {
     let mut count = 0;
-    let mut i = 0;
-    while i < table.len() {
-        count += one_if(table[i] as u32);
-        i += 1;
+    for byte in table {
+        count += one_if(u32::from(*byte));
     }
     count
 }
@@ -183,14 +160,11 @@ pub fn work_room() -> [u32; 4112]
 
 // ---- numbers printed to a writer: no contract can say what reaches standard output, so an answer says how much was handed over
 
-// The magnitude of a number. Below 0 it is one more than -1 less the number, so that no difference leaves the signed numbers.
+// The magnitude of a number.
 fn magnitude(value: i64) -> u64
     ensures { result ≡ unsigned_abs value }
 {
-    if value < 0 {
-        return (-1 - value) as u64 + 1;
-    }
-    value as u64
+    value.unsigned_abs()
 }
 
 // Prints a number and what stands after it; how many digits it has, or 0 where a write did not take all of its bytes.
@@ -209,10 +183,8 @@ pub fn print<W: Write>(out: &mut W, n: u64, end: &[u8]) -> usize
 pub fn print_signed<W: Write>(out: &mut W, value: i64, end: &[u8]) -> usize
     ensures { DigitsPrinted (unsigned_abs value) result }
 {
-    if value < 0 {
-        if !write_whole(out, b"-") {
-            return 0;
-        }
+    if value < 0 && !write_whole(out, b"-") {
+        return 0;
     }
     print(out, magnitude(value), end)
 }
@@ -221,25 +193,21 @@ pub fn print_signed<W: Write>(out: &mut W, value: i64, end: &[u8]) -> usize
 pub fn print_entries<W: Write>(out: &mut W, table: &[u16]) -> usize
     ensures { result ≤ length table.now }
 {
-    let mut i = 0;
-    while i < table.len() {
-        if print(out, table[i] as u64, b" ") == 0 {
+    for (i, entry) in table.iter().enumerate() {
+        if print(out, u64::from(*entry), b" ") == 0 {
             return i;
         }
-        i += 1;
     }
-    i
+    table.len()
 }
 
 pub fn print_bytes<W: Write>(out: &mut W, table: &[u8]) -> usize
     ensures { result ≤ length table.now }
 {
-    let mut i = 0;
-    while i < table.len() {
-        if print(out, table[i] as u64, b" ") == 0 {
+    for (i, byte) in table.iter().enumerate() {
+        if print(out, u64::from(*byte), b" ") == 0 {
             return i;
         }
-        i += 1;
     }
-    i
+    table.len()
 }

@@ -9,7 +9,6 @@ ghost use Rattle.changes.specs.Axes.{axis_in, IsShape, letter_total, axes_in};
 ghost use Rattle.changes.specs.Least.{LowersCosts, CountsChanges};
 ghost use Rattle.changes.specs.Passes.{least_below, lowered_cost, change, LowersColumn, LowersBlock, LowersBlocks, SpreadsPart, SpreadsStream};
 
-use basics::fewer;
 use streams::StreamsDescription;
 
 // How many values each of the first `count` streams has, and its kind.
@@ -26,18 +25,17 @@ pub fn shape_of(streams: StreamsDescription) -> Shape
 {
     let lows = streams.lows;
     let highs = streams.highs;
+    // An array that is put into a literal straight from another struct's field gets no generated proof.
     let kinds = streams.kinds;
     let mut sizes = [0u32; 8];
-    let mut i = 0;
-    while i < 8 {
+    for i in 0..8 {
         let next = i + 1;
         sizes[i] = letters::letter_count(&lows[i..next], &highs[i..next]);
-        i = next;
     }
     Shape {
         count: streams.count,
-        sizes: sizes,
-        kinds: kinds,
+        sizes,
+        kinds,
     }
 }
 
@@ -72,10 +70,8 @@ fn makes(shape: Shape, letters: usize) -> bool
     if letters == 0 {
         return false;
     }
-    let mut stream = fewer(shape.count, 8);
     let mut made: usize = 1;
-    while 0 < stream {
-        stream -= 1;
+    for stream in (0..shape.count.min(8)).rev() {
         let size = value_count(shape, stream);
         if !basics::rows_fit(size, made, letters) {
             return false;
@@ -93,13 +89,11 @@ fn column_least(row: &[u16], from: usize, size: usize, stride: usize) -> u16
     ensures { result ≡ least_below size (λ d. at row.now (from + d * stride)) }
 {
     let mut least = row[from];
-    let mut value = 0;
-    while value < size {
+    for value in 0..size {
         let cost = row[from + value * stride];
         if cost < least {
             least = cost;
         }
-        value += 1;
     }
     least
 }
@@ -119,11 +113,9 @@ fn lower_column(row: &mut [u16], from: usize, size: usize, stride: usize, is_set
     requires { (0 < stride) × ((d : ℕ) → d < size → from + d * stride < length row.old) }
     ensures { LowersColumn is_set from stride least size row.old row.new }
 {
-    let mut value = 0;
-    while value < size {
+    for value in 0..size {
         let place = from + value * stride;
         row[place] = lowered(is_set, row[place], least);
-        value += 1;
     }
 }
 
@@ -132,12 +124,10 @@ fn lower_block(row: &mut [u16], start: usize, size: usize, stride: usize, is_set
     requires { (0 < size) × (start + size * stride ≤ length row.old) }
     ensures { LowersBlock is_set start size stride stride row.old row.new }
 {
-    let mut offset = 0;
-    while offset < stride {
+    for offset in 0..stride {
         let from = start + offset;
         let least = column_least(row, from, size, stride);
         lower_column(row, from, size, stride, is_set, least);
-        offset += 1;
     }
 }
 
@@ -161,10 +151,8 @@ pub fn lower_costs(shape: Shape, row: &mut [u16])
     if !makes(shape, row.len()) {
         return;
     }
-    let mut stream = fewer(shape.count, 8);
     let mut stride = 1;
-    while 0 < stream {
-        stream -= 1;
+    for stream in (0..shape.count.min(8)).rev() {
         let size = value_count(shape, stream);
         lower_stream(row, size, stride, is_set(shape, stream));
         stride = size * stride;
@@ -189,10 +177,8 @@ fn spread_part(row: &mut [u16], from: usize, stride: usize, more: u16)
     requires { ((from ≡ 0) ⊎ (stride ≤ from)) × (from + stride ≤ length row.old) × (more ≤ 1) × ((o : ℕ) → o < stride → at row.old o < 65535) }
     ensures { SpreadsPart from more stride row.old row.new }
 {
-    let mut offset = 0;
-    while offset < stride {
+    for offset in 0..stride {
         row[from + offset] = row[offset] + more;
-        offset += 1;
     }
 }
 
@@ -201,9 +187,7 @@ fn spread_stream(row: &mut [u16], size: usize, stride: usize, own: usize, is_set
     requires { (size * stride ≤ length row.old) × ((o : ℕ) → o < stride → at row.old o < 65535) }
     ensures { SpreadsStream is_set size stride own 0 row.old row.new }
 {
-    let mut value = size;
-    while 0 < value {
-        value -= 1;
+    for value in (0..size).rev() {
         spread_part(row, value * stride, stride, change(is_set, own, value));
     }
 }
@@ -218,11 +202,9 @@ pub fn count_changes(shape: Shape, letter: usize, row: &mut [u16])
     if row.len() <= letter {
         return;
     }
-    let mut stream = fewer(shape.count, 8);
     let mut stride = 1;
     row[0] = 0;
-    while 0 < stream {
-        stream -= 1;
+    for stream in (0..shape.count.min(8)).rev() {
         let size = value_count(shape, stream);
         let own = letter / stride % size;
         spread_stream(row, size, stride, own, is_set(shape, stream));

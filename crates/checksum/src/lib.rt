@@ -10,33 +10,32 @@ fn after_bit(register: u32) -> u32
 {
     let rest = register / 2;
     if register % 2 == 1 {
-        return rest ^ 0xEDB88320;
+        rest ^ 0xEDB88320
+    } else {
+        rest
     }
-    rest
 }
 
 // The register after a byte.
+#[tactic(auto, unfolding(crate::specs::Checksum::after_bits))]
 fn after_byte(register: u32, byte: u8) -> u32
     ensures { result ≡ after_byte register byte }
 {
-    let mut rest = register ^ byte as u32;
-    let mut i: usize = 0;
-    while i < 8 {
+    let mut rest = register ^ u32::from(byte);
+    for _ in 0..8u32 {
         rest = after_bit(rest);
-        i += 1;
     }
     rest
 }
 
 // The CRC-32 of the bytes.
+#[tactic(auto, using(crate::proofs::Bytes::one_byte_more), unfolding(crate::specs::Checksum::after_bytes))]
 pub fn checksum(text: &[u8]) -> u32
     ensures { result ≡ checksum_of text.now }
 {
     let mut register = 0xFFFFFFFF;
-    let mut i = 0;
-    while i < text.len() {
-        register = after_byte(register, text[i]);
-        i += 1;
+    for byte in text {
+        register = after_byte(register, *byte);
     }
     register ^ 0xFFFFFFFF
 }

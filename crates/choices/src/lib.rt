@@ -25,9 +25,7 @@ fn letters_made(streams: StreamsDescription) -> u32
     if 8 < count {
         return 0;
     }
-    let lows = streams.lows;
-    let highs = streams.highs;
-    letters::letter_count(&lows[..count], &highs[..count])
+    letters::letter_count(&streams.lows[..count], &streams.highs[..count])
 }
 
 // How many values a stream has; 1,025 where they are more.
@@ -35,9 +33,7 @@ fn values_in(streams: StreamsDescription, stream: usize) -> u32
     requires { stream < 8 }
     ensures { result ≡ cut_count (size (stream_in streams stream).range) }
 {
-    let lows = streams.lows;
-    let highs = streams.highs;
-    letters::values(lows[stream], highs[stream])
+    letters::values(streams.lows[stream], streams.highs[stream])
 }
 
 // The choice of a letter.
@@ -45,25 +41,19 @@ fn choice_of(streams: StreamsDescription, letter: u32) -> ChoiceRead
     requires { CanCount streams }
     ensures { IsChosen streams letter result }
 {
-    let kinds = streams.kinds;
-    let mut i = streams.count;
     let mut rest = letter;
-    let mut number: u32 = 0;
-    let mut count: u32 = 1;
-    while 0 < i {
-        i -= 1;
+    let mut number = 0;
+    let mut count = 1;
+    for i in (0..streams.count).rev() {
         let size = values_in(streams, i);
-        let is_read = kinds[i] == nodes::READ_STREAM;
+        let is_read = streams.kinds[i] == nodes::READ_STREAM;
         if is_read {
             number += rest % size * count;
             count *= size;
         }
         rest /= size;
     }
-    ChoiceRead {
-        number: number,
-        count: count,
-    }
+    ChoiceRead { number, count }
 }
 
 // How many choices there are; 0 for more than eight streams, and where there are no letters or more than 1,024.
@@ -71,14 +61,10 @@ pub fn choice_count(streams: StreamsDescription) -> u32
     ensures { ChoicesCounted streams result }
 {
     let letters = letters_made(streams);
-    if letters == 0 {
+    if letters == 0 || 1024 < letters {
         return 0;
     }
-    if 1024 < letters {
-        return 0;
-    }
-    let chosen = choice_of(streams, 0);
-    chosen.count
+    choice_of(streams, 0).count
 }
 
 // Writes the choice of each letter to the front of `out`; whether there are letters, at most 1,024, and room for them. Else the list stays as it is.
@@ -86,21 +72,12 @@ pub fn fill_choices(streams: StreamsDescription, out: &mut [u16]) -> bool
     ensures { ChoicesFilled streams out.old result out.new }
 {
     let letters = letters_made(streams);
-    if letters == 0 {
+    if letters == 0 || 1024 < letters || out.len() < letters as usize {
         return false;
     }
-    if 1024 < letters {
-        return false;
-    }
-    if out.len() < letters as usize {
-        return false;
-    }
-    let mut letter: u32 = 0;
-    while letter < letters {
+    for letter in 0..letters {
         let chosen = choice_of(streams, letter);
-        let at = letter as usize;
-        out[at] = chosen.number as u16;
-        letter += 1;
+        out[letter as usize] = chosen.number as u16;
     }
     true
 }
@@ -110,8 +87,5 @@ pub fn rows_held(streams: StreamsDescription, room: usize) -> usize
     ensures { RowsHeld streams room result }
 {
     let choices = choice_count(streams) as usize;
-    if choices == 0 {
-        return 0;
-    }
-    room / choices
+    if choices == 0 { 0 } else { room / choices }
 }

@@ -18,12 +18,12 @@ pub fn clear_tables(
 )
     ensures { AreCleared used states entries.old flags.old live.old class.old next.old heads.old links.old envelopes.old entries.new flags.new live.new class.new next.new heads.new links.new envelopes.new }
 {
-    basics::clear_entries(entries, used);
-    basics::clear_bytes(flags, states);
-    basics::fill(live, 0);
-    basics::fill(class, 0);
-    basics::fill(next, 0);
-    basics::fill(heads, 0);
-    basics::fill(links, 0);
-    basics::fill(envelopes, 0);
+    basics::clear_from(entries, used, 0);
+    basics::clear_from(flags, states, 0);
+    live.fill(0);
+    class.fill(0);
+    next.fill(0);
+    heads.fill(0);
+    links.fill(0);
+    envelopes.fill(0);
 }

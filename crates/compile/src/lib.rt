@@ -5,17 +5,13 @@ ghost use Rattle.std.specs.Prelude.{◌≡◌, ◌/◌, min};
 ghost use Rattle.compiled_sheet.specs.Told.{SheetCall};
 ghost use Rattle.compile.specs.Lent.{room_of, tables_of};
 
-use basics::fewer;
 use compiled_sheet::CompiledSheet;
 
 // The rows that so many entries hold, with so many letters: none for 0 letters, which no sheet has.
 fn entry_rows(entries: usize, letters: usize) -> usize
     ensures { result ≡ entries / letters }
 {
-    if letters == 0 {
-        return 0;
-    }
-    entries / letters
+    if letters == 0 { 0 } else { entries / letters }
 }
 
 // The fewest rows that one of the tables with one number a row holds, by their lengths.
@@ -29,20 +25,21 @@ fn work_rows(
 ) -> usize
     ensures { result ≡ min live (min class (min next (min heads (min links envelopes)))) }
 {
-    fewer(
-        live,
-        fewer(class, fewer(next, fewer(heads, fewer(links, envelopes)))),
-    )
+    live.min(class)
+        .min(next)
+        .min(heads)
+        .min(links)
+        .min(envelopes)
 }
 
 // "the fewest rows any lent table holds", by the lengths of the others and the rows that those hold
 fn fewest_rows(letters: usize, entries: usize, finals: usize, keys: usize, work: usize) -> usize
     ensures { result ≡ min (entries / letters) (min finals (min (keys / 16) work)) }
 {
-    fewer(
-        entry_rows(entries, letters),
-        fewer(finals, fewer(keys / 16, work)),
-    )
+    entry_rows(entries, letters)
+        .min(finals)
+        .min(keys / 16)
+        .min(work)
 }
 
 // Compiles a sheet's bytes: refusal 0 with the number of states and of situations, the letters and streams of the sheet, the table in the first rows of

@@ -5,8 +5,6 @@ ghost use Rattle.std.specs.Prelude.{◌≡◌, min};
 ghost use Rattle.outcome.specs.Compile.{situation_bound};
 ghost use Rattle.compiled.specs.Answer.{refused_with, answered, made_of};
 
-use basics::fewer;
-
 // The refusal's number or 0, "the number of states and the number of distinct situations". Laid out as in C, so that an exported function can give
 // it back.
 #[repr(C)]
@@ -21,7 +19,7 @@ pub fn refused(refusal: u32) -> Compiled
     ensures { result ≡ refused_with refusal }
 {
     Compiled {
-        refusal: refusal,
+        refusal,
         states: 0,
         situations: 0,
     }
@@ -38,24 +36,21 @@ pub fn answered(refusal: u32, made: Compiled) -> Compiled
 pub fn most_situations(rows: usize) -> usize
     ensures { result ≡ min rows situation_bound }
 {
-    fewer(rows, 4096)
+    rows.min(4096)
 }
 
 // The answer from the rows lent, the situations found and what the table's making gave.
 pub fn made(rows: usize, situations: usize, table: minimise::Minimised) -> Compiled
     ensures { result ≡ made_of rows (min situations situation_bound) table }
 {
-    let refusal = table.refusal;
-    let counted = fewer(situations, 4096) as u32;
-    if refusal == 0 {
-        return Compiled {
+    match table.refusal {
+        0 => Compiled {
             refusal: 0,
             states: table.states,
-            situations: counted,
-        };
+            situations: situations.min(4096) as u32,
+        },
+        9 => refused(9),
+        _ if rows < 4096 => refused(10),
+        _ => refused(8),
     }
-    if refusal == 9 {
-        return refused(9);
-    }
-    if rows < 4096 { refused(10) } else { refused(8) }
 }

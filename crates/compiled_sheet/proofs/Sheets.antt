@@ -19,7 +19,8 @@ use Rattle.header.specs.Streams.{name_bytes, name_lengths, stream_kind_codes}
 use Rattle.reader.specs.Stored.{stored_sheet, reading_of}
 use Rattle.streams.specs.Description.{description_of, StreamsFit}
 use Rattle.streams.proofs.Stored.{describing, description_stored, stored-fit}
-use Rattle.compiled_sheet.specs.Told.{sheet_streams, told_with, no_streams, told, compiled_in, Tells}
+use Rattle.streams.specs.Description.{none_described}
+use Rattle.compiled_sheet.specs.Told.{sheet_streams, told_with, told, compiled_in, Tells}
 use Rattle.compiled_sheet.specs.declared.CompiledSheet.{CompiledSheet}
 
 -- The streams of a stored sheet, with the zeros behind them.
@@ -42,7 +43,7 @@ module _ {text : List ℕ} {r : CompiledSheet} (tells : Tells text r) (accepted 
   tells-sheet : r ≡ told_with (compiled_in r) (stored_sheet s).letters (sheet_streams (stored_sheet s))
   tells-sheet =
       tells ∙ ap (λ a. told (reading_of a).sheet (compiled_in r)) (answer-complete read)
-      ∙ ap (λ b. cond b (told_with (compiled_in r) (stored_sheet s).letters (sheet_streams (stored_sheet s))) (told_with (compiled_in r) 0 no_streams)) (eq-eqb r.refusal 0 accepted)
+      ∙ ap (λ b. cond b (told_with (compiled_in r) (stored_sheet s).letters (sheet_streams (stored_sheet s))) (told_with (compiled_in r) 0 none_described)) (eq-eqb r.refusal 0 accepted)
 
   -- "The kinds travel with every description of a stream": a call without refusal tells the sheet's letters and streams, kinds and all.
   pub letters-told : r.letters ≡ letter_count s.streams

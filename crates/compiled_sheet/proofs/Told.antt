@@ -15,17 +15,18 @@ use Rattle.reader.specs.declared.StoredSheet.{StoredSheet}
 use Rattle.streams.specs.declared.StreamsDescription.{StreamsDescription}
 use Rattle.compiled.specs.declared.Compiled.{Compiled}
 use Rattle.compiled.specs.Answer.{refused_with, answer_of}
-use Rattle.compiled_sheet.specs.Told.{no_streams, sheet_streams, told_with, told, told_with_play, compiled_in, Tells, SheetCall}
+use Rattle.streams.specs.Description.{none_described}
+use Rattle.compiled_sheet.specs.Told.{sheet_streams, told_with, told, told_with_play, compiled_in, Tells, SheetCall}
 use Rattle.compiled_sheet.specs.declared.CompiledSheet.{CompiledSheet}
 
 module _ (x : StoredSheet) (c : Compiled) {r : CompiledSheet} where
-  pub refused-told : {streams : StreamsDescription} → (c.refusal ≡ 0 → ⊥) → streams ≡ no_streams → r ≡ told_with c 0 streams → r ≡ told x c
-  refused-told n e h = h ∙ ap (told_with c 0) e ∙ sym (ap (λ b. cond b (told_with c x.letters (sheet_streams x)) (told_with c 0 no_streams)) (ne_eqb c.refusal 0 n))
+  pub refused-told : {streams : StreamsDescription} → (c.refusal ≡ 0 → ⊥) → streams ≡ none_described → r ≡ told_with c 0 streams → r ≡ told x c
+  refused-told n e h = h ∙ ap (told_with c 0) e ∙ sym (ap (λ b. cond b (told_with c x.letters (sheet_streams x)) (told_with c 0 none_described)) (ne_eqb c.refusal 0 n))
 
   pub sheet-told : {streams : StreamsDescription} → c.refusal ≡ 0 → streams ≡ sheet_streams x → r ≡ told_with c x.letters streams → r ≡ told x c
   sheet-told z e h =
       h ∙ ap (told_with c x.letters) e
-      ∙ sym (ap (λ b. cond b (told_with c x.letters (sheet_streams x)) (told_with c 0 no_streams)) (eq-eqb c.refusal 0 z))
+      ∙ sym (ap (λ b. cond b (told_with c x.letters (sheet_streams x)) (told_with c 0 none_described)) (eq-eqb c.refusal 0 z))
 
 abbrev pub numbers_of : CompileAnswer → Compiled
 numbers_of a = record { refusal = a.refusal; states = a.states; situations = a.situations }
@@ -34,7 +35,7 @@ numbers_of a = record { refusal = a.refusal; states = a.states; situations = a.s
 pub told-numbers : (x : StoredSheet) (c : Compiled) → compiled_in (told x c) ≡ c
 told-numbers x c = by (eqb c.refusal 0)
   where
-    by : (b : Bool) → compiled_in (cond b (told_with c x.letters (sheet_streams x)) (told_with c 0 no_streams)) ≡ c
+    by : (b : Bool) → compiled_in (cond b (told_with c x.letters (sheet_streams x)) (told_with c 0 none_described)) ≡ c
     by true = refl
     by false = refl
 
@@ -66,10 +67,10 @@ module _ (text : List ℕ) (room : Room) where
   sheet-call-total = let o = compile_total text room in record { answer = _; tables = o.tables; call = sheet-call {c = numbers_of o.answer} o.outcome refl refl }
 
   -- "A refusal returns its number with states and situations 0": nothing is told of the sheet either.
-  pub refused-tells-nothing : {r : CompiledSheet} → Tells text r → (r.refusal ≡ 0 → ⊥) → (r.letters ≡ 0) × (r.streams ≡ no_streams)
+  pub refused-tells-nothing : {r : CompiledSheet} → Tells text r → (r.refusal ≡ 0 → ⊥) → (r.letters ≡ 0) × (r.streams ≡ none_described)
   refused-tells-nothing {r} tells n =
       let x = (reading_of (answer_to text)).sheet in
-      let nothing : r ≡ told_with (compiled_in r) 0 no_streams = tells ∙ ap (λ b. cond b (told_with (compiled_in r) x.letters (sheet_streams x)) (told_with (compiled_in r) 0 no_streams)) (ne_eqb r.refusal 0 n) in
+      let nothing : r ≡ told_with (compiled_in r) 0 none_described = tells ∙ ap (λ b. cond b (told_with (compiled_in r) x.letters (sheet_streams x)) (told_with (compiled_in r) 0 none_described)) (ne_eqb r.refusal 0 n) in
       (ap (λ y. y.letters) nothing, ap (λ y. y.streams) nothing)
 
 -- The answer of a compile with a play table: the compile's own where it refuses or where a solution can be forced, else 16.
@@ -84,6 +85,6 @@ module _ (x : CompiledSheet) (forced : Bool) where
       by true = refl
       by false = refl
 
-  pub play-prevented : {c : Compiled} {streams : StreamsDescription} {r : CompiledSheet} → x.refusal ≡ 0 → forced ≡ false → c ≡ refused_with 16 → streams ≡ no_streams
+  pub play-prevented : {c : Compiled} {streams : StreamsDescription} {r : CompiledSheet} → x.refusal ≡ 0 → forced ≡ false → c ≡ refused_with 16 → streams ≡ none_described
       → r ≡ told_with c 0 streams → r ≡ told_with_play x forced
-  play-prevented z f e g h = h ∙ ap₂ (λ c s. told_with c 0 s) e g ∙ sym (ap₂ (λ b d. cond b (cond d x (told_with (refused_with 16) 0 no_streams)) x) (eq-eqb x.refusal 0 z) f)
+  play-prevented z f e g h = h ∙ ap₂ (λ c s. told_with c 0 s) e g ∙ sym (ap₂ (λ b d. cond b (cond d x (told_with (refused_with 16) 0 none_described)) x) (eq-eqb x.refusal 0 z) f)

@@ -1,17 +1,15 @@
 -- What is told of a sheet beside the answer of its compile: the number of letters and the streams, which a host needs to follow the table. "The kinds
 -- travel with every description of a stream" (document 02, S-6).
-use Rattle.std.specs.Prelude.{ℕ, ◌≡◌, Bool, cond, List, eqb, pos, replicate}
+use Rattle.std.specs.Prelude.{ℕ, ◌≡◌, Bool, cond, List, eqb}
 use Rattle.sheet.specs.Reading.{answer_to}
 use Rattle.outcome.specs.Compile.{Room, Tables, CompileCall}
 use Rattle.reader.specs.Stored.{reading_of}
 use Rattle.reader.specs.declared.StoredSheet.{StoredSheet}
+use Rattle.streams.specs.Description.{none_described}
 use Rattle.streams.specs.declared.StreamsDescription.{StreamsDescription}
 use Rattle.compiled.specs.Answer.{refused_with, answer_of}
 use Rattle.compiled.specs.declared.Compiled.{Compiled}
 use Rattle.compiled_sheet.specs.declared.CompiledSheet.{CompiledSheet}
-
-abbrev pub no_streams : StreamsDescription
-no_streams = record { count = 0; names = replicate 64 0; lengths = replicate 8 0; lows = replicate 8 (pos 0); highs = replicate 8 (pos 0); kinds = replicate 8 0 }
 
 abbrev pub sheet_streams : StoredSheet → StreamsDescription
 sheet_streams x = record { count = x.streams; names = x.names; lengths = x.lengths; lows = x.lows; highs = x.highs; kinds = x.stream_kinds }
@@ -21,11 +19,11 @@ told_with c letters streams = record { refusal = c.refusal; states = c.states; s
 
 -- With refusal 0 the letters and streams of the stored sheet, else zeros.
 abbrev pub told : StoredSheet → Compiled → CompiledSheet
-told x c = cond (eqb c.refusal 0) (told_with c x.letters (sheet_streams x)) (told_with c 0 no_streams)
+told x c = cond (eqb c.refusal 0) (told_with c x.letters (sheet_streams x)) (told_with c 0 none_described)
 
 -- "16, exactly when the river can prevent a solution from state 0, after the compile's own numbers" (document 02, S-7): with it nothing is told.
 abbrev pub told_with_play : CompiledSheet → (forced : Bool) → CompiledSheet
-told_with_play r forced = cond (eqb r.refusal 0) (cond forced r (told_with (refused_with 16) 0 no_streams)) r
+told_with_play r forced = cond (eqb r.refusal 0) (cond forced r (told_with (refused_with 16) 0 none_described)) r
 
 -- The answer of the compile.
 abbrev pub compiled_in : CompiledSheet → Compiled

@@ -2,7 +2,7 @@
 #![tactic(auto)]
 
 ghost use Rattle.std.specs.Prelude.{◌≡◌};
-ghost use Rattle.compiled_sheet.specs.Told.{no_streams, sheet_streams, told_with, told, told_with_play, compiled_in};
+ghost use Rattle.compiled_sheet.specs.Told.{sheet_streams, told_with, told, told_with_play, compiled_in};
 
 use compiled::Compiled;
 use streams::StreamsDescription;
@@ -19,23 +19,11 @@ pub struct CompiledSheet {
     pub streams: StreamsDescription,
 }
 
-fn no_streams() -> StreamsDescription
-    ensures { result ≡ no_streams }
-{
-    StreamsDescription {
-        count: 0,
-        names: [0; 64],
-        lengths: [0; 8],
-        lows: [0; 8],
-        highs: [0; 8],
-        kinds: [0; 8],
-    }
-}
-
 // The streams of a stored sheet.
 pub fn stored_streams(sheet: reader::StoredSheet) -> StreamsDescription
     ensures { result ≡ sheet_streams sheet }
 {
+    // An array that is put into a literal straight from another struct's field gets no generated proof.
     let names = sheet.names;
     let lengths = sheet.lengths;
     let lows = sheet.lows;
@@ -43,11 +31,11 @@ pub fn stored_streams(sheet: reader::StoredSheet) -> StreamsDescription
     let kinds = sheet.stream_kinds;
     StreamsDescription {
         count: sheet.streams,
-        names: names,
-        lengths: lengths,
-        lows: lows,
-        highs: highs,
-        kinds: kinds,
+        names,
+        lengths,
+        lows,
+        highs,
+        kinds,
     }
 }
 
@@ -58,8 +46,8 @@ fn with_streams(compiled: Compiled, letters: u32, streams: StreamsDescription) -
         refusal: compiled.refusal,
         states: compiled.states,
         situations: compiled.situations,
-        letters: letters,
-        streams: streams,
+        letters,
+        streams,
     }
 }
 
@@ -68,9 +56,10 @@ pub fn with_sheet(sheet: reader::StoredSheet, compiled: Compiled) -> CompiledShe
     ensures { result ≡ told sheet compiled }
 {
     if compiled.refusal == 0 {
-        return with_streams(compiled, sheet.letters, stored_streams(sheet));
+        with_streams(compiled, sheet.letters, stored_streams(sheet))
+    } else {
+        with_streams(compiled, 0, StreamsDescription::none())
     }
-    with_streams(compiled, 0, no_streams())
 }
 
 // The answer of the compile alone.
@@ -88,11 +77,8 @@ pub fn answer(told: CompiledSheet) -> Compiled
 pub fn with_play(told: CompiledSheet, forced: bool) -> CompiledSheet
     ensures { result ≡ told_with_play told forced }
 {
-    if told.refusal != 0 {
+    if told.refusal != 0 || forced {
         return told;
     }
-    if forced {
-        return told;
-    }
-    with_streams(compiled::refused(16), 0, no_streams())
+    with_streams(compiled::refused(16), 0, StreamsDescription::none())
 }

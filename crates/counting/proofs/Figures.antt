@@ -6,7 +6,6 @@ use Prim.Native.Nat.{ℕ, zero, suc, ◌+◌, ◌*◌, ◌-◌, ◌≤◌, ◌<�
 use native.Mathlib.Omega.{arith}
 use native.Mathlib.Numerals.{add-one}
 use native.Mathlib.Decide.{ℕ_discrete, dec_le}
-use native.Mathlib.Nat.{suc-mul}
 use lib.Dec.{ltb}
 use lib.ListN.{length, get_or, take, drop, set, replicate, length-drop, length-set, length-replicate, get_or-eq_default}
 use lib.Seq.{length-take-le, get_or-take, get_or-drop, get_or-set_same, get_or-set_other}
@@ -131,10 +130,6 @@ abbrev pub FillingFrom : (k : ℕ) (entries : List ℕ) (ends : List ℕ → ℕ
 FillingFrom k entries ends t first counts old list = (finals : List ℕ) → HoldsCounts k entries finals (ends finals) 0 first → Filling k entries finals (ends finals) t counts old list
 
 module _ (k : ℕ) (entries : List ℕ) (ends : List ℕ → ℕ → Bool) (first old : List ℕ) where
-  pub filling-first : 0 < length first → 0 < length old → FillingFrom k entries ends 0 first first (set old 0 (get_or first 0 0)) (set old 0 (get_or first 0 0))
-  filling-first row room finals h =
-      record { counts = h; figures = figure-first (λ t. record_count_from k (length finals) (entry_at k entries) (ends finals) t 0) old old room (h.counted 0 (omega (arith, h.rows))) }
-
   pub filling-more : {t : ℕ} {counts next list : List ℕ} → 0 < length counts → length next ≡ length counts → t + 1 < length list
       → FillingFrom k entries ends t first counts old list → NextCounts k entries counts next (length counts) → FillingFrom k entries ends (t + 1) first next old (set list (t + 1) (get_or next 0 0))
   filling-more {t} {counts} {next} {list} row same room f n finals h =
@@ -228,8 +223,3 @@ module _ (k : ℕ) (entries finals : List ℕ) (most room final_room : ℕ) {fig
         low : (t : ℕ) → t ≤ most → Dec (figure_of k entries finals t ≤ highest_figure) → figure_of k entries finals t ≤ highest_figure
         low t l (yes p) = p
         low t l (no p) = absurd (h.bounded t l ((more_iff (figure-counts k entries finals t) highest_figure).1 (omega arith)))
-
--- ---- rows
-
-pub next_start : (i k : ℕ) {start : ℕ} → start ≡ i * k → start + k ≡ (i + 1) * k
-next_start i k e = ap (λ n. n + k) e ∙ sym (ap (λ n. n * k) (add-one i) ∙ suc-mul i k)

@@ -26,9 +26,6 @@ pub record HoldsCounts (k : ℕ) (entries finals : List ℕ) (passing : ℕ → 
 abbrev pub NextCounts : (k : ℕ) (entries counts next : List ℕ) (m : ℕ) → Type 0
 NextCounts k entries counts next m = (i : ℕ) → i < m → get_or next i 0 ≡ min (letter_sum k (λ a. get_or counts (entry_at k entries i a) 0)) figure_cut
 
-abbrev pub CopiedCounts : (from to : List ℕ) (m : ℕ) → Type 0
-CopiedCounts from to m = (i : ℕ) → i < m → get_or to i 0 ≡ get_or from i 0
-
 -- Counts and final counts of as many rows as the entries have, at least one and not too many.
 pub record CountsBegun (k : ℕ) (entries : List ℕ) (rows final_rows : ℕ) : Type 0 where
   pub some_row : 0 < rows

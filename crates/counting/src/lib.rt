@@ -10,7 +10,7 @@ ghost use Rattle.std.specs.Prelude.{◌≡◌, List, ℕ, ◌*◌, ◌<◌, ◌�
 ghost use Rattle.basics.specs.Answers.{Says};
 ghost use Rattle.automaton.specs.WellFormed.{IsWellFormed};
 ghost use Rattle.counting.specs.Counting.{any_state, has_final_byte, CountsRecords};
-ghost use Rattle.counting.specs.Figures.{figure_of, final_figure_of, HoldsCounts, NextCounts, CopiedCounts, CountsBegun, FiguresFilled, HoldsCutFigures};
+ghost use Rattle.counting.specs.Figures.{figure_of, final_figure_of, HoldsCounts, NextCounts, CountsBegun, FiguresFilled, HoldsCutFigures};
 
 // One pass over the entries: the counts of all rows for one letter more.
 fn next_counts(
@@ -24,27 +24,11 @@ fn next_counts(
     requires { (length entries.now ≡ length counts.now * letters) × (length counts.now ≤ length next.old) × (length counts.now ≤ length final_next.old) }
     ensures { NextCounts letters entries.now counts.now next.new (length counts.now) × NextCounts letters entries.now final_counts.now final_next.new (length counts.now) }
 {
-    let mut start = 0;
-    let mut row = 0;
-    while row < counts.len() {
-        let end = start + letters;
-        let sums = figure_sums::row_sums(&entries[start..end], counts, final_counts);
+    for row in 0..counts.len() {
+        let start = row * letters;
+        let sums = figure_sums::row_sums(&entries[start..start + letters], counts, final_counts);
         next[row] = sums.all;
         final_next[row] = sums.ending;
-        start = end;
-        row += 1;
-    }
-}
-
-// Copies the front of one list to another.
-fn copy_counts(from: &[u64], to: &mut [u64])
-    requires { length to.old ≤ length from.now }
-    ensures { CopiedCounts from.now to.new (length to.old) }
-{
-    let mut i = 0;
-    while i < to.len() {
-        to[i] = from[i];
-        i += 1;
     }
 }
 
@@ -63,8 +47,9 @@ fn add_letter(entries: &[u16], letters: usize, counts: &mut [u64], final_counts:
         &mut next,
         &mut final_next,
     );
-    copy_counts(&next, counts);
-    copy_counts(&final_next, final_counts);
+    let rows = counts.len();
+    counts.copy_from_slice(&next[..rows]);
+    final_counts.copy_from_slice(&final_next[..rows]);
 }
 
 // The counts for no letter: the record of no letters ends in the row itself.
@@ -72,21 +57,9 @@ fn first_counts(finals: &[u8], counts: &mut [u64], final_counts: &mut [u64])
     requires { (length counts.old ≡ length finals.now) × (length final_counts.old ≡ length finals.now) }
     ensures { (k : ℕ) (entries : List ℕ) → HoldsCounts k entries finals.now any_state 0 counts.new × HoldsCounts k entries finals.now (has_final_byte finals.now) 0 final_counts.new }
 {
-    let mut row = 0;
-    while row < finals.len() {
+    for (row, is_final) in finals.iter().enumerate() {
         counts[row] = 1;
-        final_counts[row] = figure_sums::final_count(finals[row]);
-        row += 1;
-    }
-}
-
-fn clear_figures(list: &mut [u64])
-    ensures { list.new ≡ replicate (length list.old) 0 }
-{
-    let mut i = 0;
-    while i < list.len() {
-        list[i] = 0;
-        i += 1;
+        final_counts[row] = figure_sums::final_count(*is_final);
     }
 }
 
@@ -105,12 +78,10 @@ fn fill_figures(
 {
     figures[0] = counts[0];
     final_figures[0] = final_counts[0];
-    let mut t = 0;
-    while t < most {
+    for t in 0..most {
         add_letter(entries, letters, counts, final_counts);
-        t += 1;
-        figures[t] = counts[0];
-        final_figures[t] = final_counts[0];
+        figures[t + 1] = counts[0];
+        final_figures[t + 1] = final_counts[0];
     }
 }
 
@@ -178,13 +149,7 @@ fn can_be_counted(
 ) -> bool
     ensures { Says result (IsWellFormed letters entries.now finals.now × (most < room) × (most < final_room)) }
 {
-    if room <= most {
-        return false;
-    }
-    if final_room <= most {
-        return false;
-    }
-    tables::is_well_formed(entries, finals, letters)
+    most < room && most < final_room && tables::is_well_formed(entries, finals, letters)
 }
 
 // For each number of letters up to `most`: how many records of so many letters can be followed from row 0 of the table, and how many of them end in a
@@ -199,8 +164,8 @@ pub fn count_records(
 ) -> bool
     ensures { CountsRecords letters entries.now finals.now most (length figures.old) (length final_figures.old) result figures.new final_figures.new }
 {
-    clear_figures(figures);
-    clear_figures(final_figures);
+    figures.fill(0);
+    final_figures.fill(0);
     if !can_be_counted(
         entries,
         finals,
@@ -215,7 +180,7 @@ pub fn count_records(
     if figure_sums::are_bounded(figures) {
         return true;
     }
-    clear_figures(figures);
-    clear_figures(final_figures);
+    figures.fill(0);
+    final_figures.fill(0);
     false
 }

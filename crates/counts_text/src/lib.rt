@@ -5,16 +5,11 @@ ghost use Rattle.std.specs.Prelude.{◌≡◌, suc, ◌≤◌, min, pos, length}
 ghost use Rattle.print.specs.Append.{Appends};
 ghost use Rattle.counts_text.specs.Counts.{shown_number, figures_line, listed_text};
 
-use basics::fewer;
-
 // The number as a signed one; one above the highest figure counts as the highest.
 fn shown(number: u64) -> i64
     ensures { result ≡ pos (shown_number number) }
 {
-    if 9223372036854775807 < number {
-        return 9223372036854775807;
-    }
-    number as i64
+    number.min(i64::MAX as u64) as i64
 }
 
 // The line of one number of letters, from the place where the last one ended.
@@ -34,10 +29,8 @@ fn append_line(out: &mut [u8], at: usize, letters: u64, figure: u64, final_figur
 pub fn write_figures(figures: &[u64], final_figures: &[u64], out: &mut [u8]) -> usize
     ensures { Appends 0 (listed_text figures.now final_figures.now (min (length figures.now) (length final_figures.now))) out.old out.new result }
 {
-    let count = fewer(figures.len(), final_figures.len());
     let mut to = 0;
-    let mut letters = 0;
-    while letters < count {
+    for letters in 0..figures.len().min(final_figures.len()) {
         to = append_line(
             out,
             to,
@@ -45,7 +38,6 @@ pub fn write_figures(figures: &[u64], final_figures: &[u64], out: &mut [u8]) -> 
             figures[letters],
             final_figures[letters],
         );
-        letters += 1;
     }
     to
 }

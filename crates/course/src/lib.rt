@@ -70,10 +70,8 @@ fn meet_row(
     let start = row * letters;
     let next = layers[row] + 1;
     let mut met = count;
-    let mut letter = 0;
-    while letter < letters {
+    for letter in 0..letters {
         met = meet(entries[start + letter], next, layers, queue, met);
-        letter += 1;
     }
     met
 }
@@ -175,13 +173,11 @@ fn load_row(
 {
     let start = row * letters;
     let next = layers[row] + 1;
-    let mut letter = 0;
-    while letter < letters {
+    for letter in 0..letters {
         let entry = entries[start + letter];
         costs[start + letter] = cost_behind(
             entry, letter, finals, letters, next, goal, layers, costs,
         );
-        letter += 1;
     }
 }
 
@@ -223,9 +219,7 @@ fn find_costs(
     ensures { AreKnown (axes_in shape) (layered_in letters entries.now finals.now layers.now met.goal) costs.new }
 {
     let goal = met.goal;
-    let mut left = met.count;
-    while left > 0 {
-        left -= 1;
+    for left in (0..met.count).rev() {
         let row = queue[left] as usize;
         if layers[row] < goal {
             find_row(entries, finals, letters, shape, row, goal, layers, costs);
@@ -254,8 +248,7 @@ fn cheapest_letter(
     let next = layers[row] + 1;
     let mut best = 0;
     let mut least: u32 = 131072;
-    let mut letter = 0;
-    while letter < letters {
+    for letter in 0..letters {
         let entry = entries[start + letter];
         let cost = cost_behind(entry, letter, finals, letters, next, goal, layers, costs);
         let total = total_cost(changes[letter], cost);
@@ -263,7 +256,6 @@ fn cheapest_letter(
             least = total;
             best = letter;
         }
-        letter += 1;
     }
     best
 }
@@ -290,13 +282,11 @@ fn follow(
 {
     let end = goal as usize;
     let mut row = start;
-    let mut taken = 0;
-    while taken < end {
+    for taken in 0..end {
         let letter = cheapest_letter(entries, finals, letters, row, goal, layers, costs, changes);
         list[taken] = letter as u32;
         row = entries[row * letters + letter] as usize;
         changes::count_changes(shape, letter, changes);
-        taken += 1;
     }
 }
 
@@ -450,7 +440,7 @@ pub fn course(
 ) -> CourseAnswer
     ensures { CourseCall letters entries.now finals.now streams state (length list.old) (length work.old) result.refusal result.count list.new work.new }
 {
-    basics::fill(list, 0);
+    list.fill(0);
     let answer = judged_course(
         entries,
         finals,
@@ -460,6 +450,6 @@ pub fn course(
         list,
         work,
     );
-    basics::clear_entries(work, 0);
+    work.fill(0);
     answer
 }

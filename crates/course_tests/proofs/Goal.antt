@@ -1,5 +1,5 @@
 -- The least layer of a final row, found row by row. From the definition.
-use mathlib.Core.Path.{◌≡◌, refl}
+use mathlib.Core.Path.{◌≡◌, refl, subst}
 use mathlib.Core.Logic.{◌⊎◌, inl, inr}
 use mathlib.Core.List.{List}
 use Prim.Native.Nat.{ℕ, ◌+◌, ◌<◌, ◌≤◌, min}
@@ -25,6 +25,14 @@ module _ {final layer : ℕ → ℕ} {m v : ℕ} (g : IsGoalBelow final layer m 
     least = below_more (λ i. final i ≡ 1 → layer m ≤ layer i) m (λ i h e. omega (arith, g.least i h e)) (λ e. omega arith);
     attained = inr (m, omega arith, f, refl);
   }
+
+  -- the smaller of both is the least layer then
+  pub goal-least : {w : ℕ} → final m ≡ 1 → w ≡ min v (layer m) → IsGoalBelow final layer (m + 1) w
+  goal-least {w} f e = by (dec_lt (layer m) v)
+    where
+      by : Dec (layer m < v) → IsGoalBelow final layer (m + 1) w
+      by (yes l) = let same : layer m ≡ w = omega (arith, e) in subst (IsGoalBelow final layer (m + 1)) same (goal-lower f l)
+      by (no l) = let same : v ≡ w = omega (arith, e) in subst (IsGoalBelow final layer (m + 1)) same (goal-kept (λ _. omega arith))
 
 -- rows behind the final bytes are not final
 pub goal-beyond : (finals : List ℕ) {layer : ℕ → ℕ} {m v : ℕ} → IsGoalBelow (at finals) layer (min m (length finals)) v → IsGoalBelow (at finals) layer m v

@@ -9,7 +9,6 @@ ghost use Rattle.course_tests.specs.Goal.{IsGoalBelow};
 ghost use Rattle.course_tests.specs.Refusals.{IsFit, GoalRefusal};
 ghost use Rattle.course_tests.specs.Cost.{total_cost};
 
-use basics::fewer;
 use streams::StreamsDescription;
 
 // The layer of a row that is not met.
@@ -27,13 +26,9 @@ pub fn is_fit(
 ) -> bool
     ensures { Says result (IsFit letters entries.now finals.now streams state) }
 {
-    if !tables::is_well_formed(entries, finals, letters) {
-        return false;
-    }
-    if !streams::streams_fit(streams, letters) {
-        return false;
-    }
-    state < finals.len()
+    tables::is_well_formed(entries, finals, letters)
+        && streams::streams_fit(streams, letters)
+        && state < finals.len()
 }
 
 // The least layer of a final row that is met, or NOT_MET if there is none. A row without a final byte is not final.
@@ -41,15 +36,10 @@ pub fn goal_layer(finals: &[u8], layers: &[u16]) -> u16
     ensures { IsGoalBelow (final_at finals.now) (at layers.now) (length layers.now) result }
 {
     let mut goal = NOT_MET;
-    let rows = fewer(layers.len(), finals.len());
-    let mut row = 0;
-    while row < rows {
+    for row in 0..layers.len().min(finals.len()) {
         if finals[row] == 1 {
-            if layers[row] < goal {
-                goal = layers[row];
-            }
+            goal = goal.min(layers[row]);
         }
-        row += 1;
     }
     goal
 }
@@ -61,10 +51,10 @@ pub fn goal_refusal(goal: u16, room: usize, work: usize, entries: usize) -> u32
     if goal == NOT_MET {
         return 15;
     }
-    if work < entries {
+    if work < entries || room < usize::from(goal) {
         return 10;
     }
-    if room < goal as usize { 10 } else { 0 }
+    0
 }
 
 // What a letter costs with what follows it. No sum is as large as what stands for none.
@@ -74,5 +64,5 @@ pub fn total_cost(changes: u16, cost: u16) -> u32
     if cost == NO_COURSE {
         return 131072;
     }
-    changes as u32 + cost as u32
+    u32::from(changes) + u32::from(cost)
 }

@@ -6,6 +6,7 @@ use Rattle.print.specs.Text.{tokens_line}
 use Rattle.print.specs.Lines.{lines_from, stored_names}
 use Rattle.pages.specs.Lines.{or_refused, places_or}
 use Rattle.course_text.specs.Course.{letter_line}
+use Rattle.course_text.specs.declared.PrintedCourse.{PrintedCourse}
 
 -- What is printed: a refusal's number, or 0 and the letters of a course by their numbers. A name is stored as eight bytes and a length.
 pub record CoursePrintout : Type 0 where
@@ -15,6 +16,10 @@ pub record CoursePrintout : Type 0 where
   pub lows : List ℤ
   pub highs : List ℤ
   pub course : List ℕ
+
+-- A course as it is lent.
+abbrev pub printout_of_course : PrintedCourse → CoursePrintout
+printout_of_course c = record { refusal = c.refusal; names = c.names.now; lengths = c.lengths.now; lows = c.lows.now; highs = c.highs.now; course = c.course.now }
 
 -- The line of a letter, from the streams' lowest and highest values; nothing for a number that is no letter's, or where the streams are more than eight
 -- or have more letters than a sheet can have.

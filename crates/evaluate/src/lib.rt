@@ -12,10 +12,11 @@ ghost use Rattle.evaluate.specs.Shift.{Shifts};
 use arithmetic::{apply_coded, bit, bounded_coded, in_bound, no_value_coded, nonzero};
 use nodes::left_end;
 
-// A value or no value is answered as one number, which comes back in a register.
+// A value or no value is answered as one number, which comes back in a register: an `Option<i64>` comes back through memory, and these functions run
+// for every letter of every situation.
 
 // The stored value with a number.
-fn numbered(list: &[i64], number: i64) -> i64
+pub fn numbered(list: &[i64], number: i64) -> i64
     ensures { result ≡ coded (numbered list.now number) }
 {
     if number < 0 {
@@ -23,19 +24,17 @@ fn numbered(list: &[i64], number: i64) -> i64
     }
     let k = number as usize;
     if k < list.len() {
-        return bounded_coded(list[k]);
+        bounded_coded(list[k])
+    } else {
+        no_value_coded()
     }
-    no_value_coded()
 }
 
 // How many whole letters the window has.
 fn places(length: usize, streams: usize) -> usize
     ensures { result ≡ length / streams }
 {
-    if streams == 0 {
-        return 0;
-    }
-    length / streams
+    if streams == 0 { 0 } else { length / streams }
 }
 
 // The value of the stream with a number at a place of the window.
@@ -48,14 +47,14 @@ fn stream_at(window: &[i64], streams: usize, place: usize, number: i64) -> i64
     }
     let k = number as usize;
     if k < streams {
-        let at = place * streams + k;
-        return bounded_coded(window[at]);
+        bounded_coded(window[place * streams + k])
+    } else {
+        no_value_coded()
     }
-    no_value_coded()
 }
 
 // The negation of a value that is given as one number.
-fn negated(a: i64) -> i64
+pub fn negated(a: i64) -> i64
     ensures { result ≡ coded (negated_result (bounded a)) }
 {
     if in_bound(a) {
@@ -78,10 +77,7 @@ fn is_leaf(kinds: &[u8; 1024], end: usize) -> bool
     requires { end ≤ 1024 }
     ensures { result ≡ is_leaf kinds.now end }
 {
-    if end == 0 {
-        return true;
-    }
-    kinds[end - 1] <= nodes::NAME_NODE
+    end == 0 || kinds[end - 1] <= nodes::NAME_NODE
 }
 
 // The value of the leaf that ends before `end`.
@@ -120,39 +116,20 @@ fn shifted(kinds: &[u8; 1024], count: usize, end: usize, place: usize) -> Part
     requires { (end ≤ 1024) × (place < count) }
     ensures { Shifts kinds.now count end place result.end result.place }
 {
-    let mut inner = end;
     let mut at = place;
-    while inner != 0 {
-        let kind = kinds[inner - 1];
-        if kind == nodes::NEXT_NODE {
-            if count <= at + 1 {
+    for i in (0..end).rev() {
+        match kinds[i] {
+            nodes::NEXT_NODE if at + 1 < count => at += 1,
+            nodes::FBY_NODE if at != 0 => at -= 1,
+            _ => {
                 return Part {
-                    end: inner,
+                    end: i + 1,
                     place: at,
                 };
             }
-            at += 1;
-        } else {
-            if kind != nodes::FBY_NODE {
-                return Part {
-                    end: inner,
-                    place: at,
-                };
-            }
-            if at == 0 {
-                return Part {
-                    end: inner,
-                    place: at,
-                };
-            }
-            at -= 1;
         }
-        inner -= 1;
     }
-    Part {
-        end: inner,
-        place: at,
-    }
+    Part { end: 0, place: at }
 }
 
 // Where the part ends that `not`s stand before, and whether a `not` before them negates it a second time.
@@ -168,22 +145,14 @@ fn negations(kinds: &[u8; 1024], end: usize) -> NegatedPart
     requires { end ≤ 1024 }
     ensures { Negates kinds.now end result.end result.again }
 {
-    let mut inner = end;
     let mut again = false;
-    while inner != 0 {
-        if kinds[inner - 1] != nodes::NEGATION_NODE {
-            return NegatedPart {
-                end: inner,
-                again: again,
-            };
+    for i in (0..end).rev() {
+        if kinds[i] != nodes::NEGATION_NODE {
+            return NegatedPart { end: i + 1, again };
         }
         again = !again;
-        inner -= 1;
     }
-    NegatedPart {
-        end: inner,
-        again: again,
-    }
+    NegatedPart { end: 0, again }
 }
 
 // The value of the part that ends before `end`, by recursion into its parts, which end earlier. The part of a `first`, an operand, a condition
@@ -307,10 +276,7 @@ pub fn evaluate(
     let value_list: &[i64] = values;
     let start_list: &[u16] = starts;
     let count = places(window.len(), streams);
-    if 1024 <= root {
-        return no_value_coded();
-    }
-    if count <= place {
+    if 1024 <= root || count <= place {
         return no_value_coded();
     }
     let inner = shifted(kinds, count, root + 1, place);
@@ -320,10 +286,8 @@ pub fn evaluate(
         return leaf(kinds, values, window, streams, end, at);
     }
     let i = end - 1;
-    if kinds[i] == nodes::FIRST_NODE {
-        if !whole {
-            return numbered(firsts, values[i]);
-        }
+    if kinds[i] == nodes::FIRST_NODE && !whole {
+        return numbered(firsts, values[i]);
     }
     value_before(
         kinds, values, starts, window, streams, firsts, whole, count, end, at,

@@ -8,6 +8,7 @@ use mathlib.Core.List.{List, [], ◌∷◌}
 use lib.Dec.{eqb}
 use lib.ListN.{length, get_or}
 use borrow.Author.Tests.{eq-eqb, ne_eqb}
+use Rattle.std.specs.Prelude.{Option}
 use Rattle.meaning.specs.Value.{Value, truth}
 use Rattle.meaning.specs.Expression.{Constraint, always, until, holds}
 use Rattle.meaning.specs.Window.{all_untils}
@@ -16,7 +17,6 @@ use Rattle.nodes.proofs.SignCodes.{sign-code}
 use Rattle.prepare.specs.Key.{digit, marks_number}
 use Rattle.sides.specs.Mark.{odd}
 use Rattle.extend.specs.Step.{unlawful, lawful_with, with_digit, judged_from}
-use Rattle.extend.specs.declared.judge.Judged.{Judged}
 
 first_digit : (b : Bool) (m : ℕ) → odd (digit b + 2 * m) ≡ b
 first_digit true m = eq-eqb ((1 + 2 * m) % 2) 1 (omega arith)
@@ -46,10 +46,10 @@ module _ (relations lefts rights : List ℕ) (value : ℕ → Value) (left right
   marks_now (until a b ∷ cs) [] = []
   marks_now (until a b ∷ cs) (m ∷ bs) = (m || truth (right (until a b))) ∷ marks_now cs bs
 
-  abbrev judged : ℕ → ℕ → ℕ → Judged
+  abbrev judged : ℕ → ℕ → ℕ → Option ℕ
   judged = judged_from relations lefts rights value
 
-  and_unlawful : (p q : Bool) (r : Judged) → cond p (cond q r unlawful) unlawful ≡ cond (p && q) r unlawful
+  and_unlawful : (p q : Bool) (r : Option ℕ) → cond p (cond q r unlawful) unlawful ≡ cond (p && q) r unlawful
   and_unlawful true q r = refl
   and_unlawful false q r = refl
 

@@ -7,6 +7,7 @@ use mathlib.Core.Bool.{Bool, true, false, cond}
 use mathlib.Core.List.Memᴰ
 use mathlib.Core.List.{List, [], ◌∷◌, ◌++◌, map-append}
 use lib.Dec.{T}
+use Rattle.std.specs.Prelude.{is_some}
 use Rattle.outcome.proofs.RecordNumbers.{letter_numbers_of, letter_numbers_of_record, letter_numbers_of_below}
 use Rattle.basics.proofs.Tests.{T-of_true}
 use Rattle.basics.proofs.Tests.{true_of_T}
@@ -69,7 +70,7 @@ module _ (s : Sheet) where
   -- are equal exactly if situations are, and a key tells whether every until is done.
   pub record KeyLaws (K : Store) (every : ℕ) : Type 0 where
     pub empty : key_of s [] ≡ start_key
-    pub allows : (r : List ℕ) → AllBelow (letter_numbers s) r → is_lawful s r ≡ true → (a : ℕ) → a < letter_numbers s → (judged_after K (key_of s r) a).ok ≡ is_lawful s (r ++ (a ∷ []))
+    pub allows : (r : List ℕ) → AllBelow (letter_numbers s) r → is_lawful s r ≡ true → (a : ℕ) → a < letter_numbers s → is_some (judged_after K (key_of s r) a) ≡ is_lawful s (r ++ (a ∷ []))
     pub leads : (r : List ℕ) → AllBelow (letter_numbers s) r → is_lawful s r ≡ true → (a : ℕ) → a < letter_numbers s → is_lawful s (r ++ (a ∷ [])) ≡ true
         → key_after K (key_of s r) a ≡ key_of s (r ++ (a ∷ []))
     pub key_situation : (r t : List ℕ) → AllBelow (letter_numbers s) r → AllBelow (letter_numbers s) t → key_of s r ≡ key_of s t → situation_of s r ≡ situation_of s t

@@ -1,12 +1,12 @@
 -- Where the search of the reachable keys stands, and what one more entry and one more row make of it. From the laws of chains and of keys.
-use Prim.Native.Nat.{ℕ, suc, ◌+◌, ◌-◌, ◌*◌, ◌^◌, ◌≤◌, ◌<◌}
+use Prim.Native.Nat.{ℕ, suc, ◌+◌, ◌*◌, ◌^◌, ◌≤◌, ◌<◌}
 use native.Mathlib.Omega.{arith}
 use native.Mathlib.Numerals.{add-one}
 use native.Mathlib.Nat.{not-suc-le-zero, pow-suc}
 use native.Mathlib.Decide.{dec_lt}
 use lib.Pow.{pow_mono}
 use mathlib.Core.Path.{◌≡◌, refl, sym, ◌∙◌, ap, subst}
-use mathlib.Core.Bool.{Bool, true, false, cond}
+use mathlib.Core.Bool.{true, false, cond}
 use mathlib.Core.Logic.{inl, inr, ⊎_elim}
 use mathlib.Core.List.{List, []}
 use lib.Dec.{eqb}
@@ -23,9 +23,11 @@ use Rattle.automaton.specs.Reachable.{System, Reach, Reach.start, Reach.step, Is
 use Rattle.automaton.proofs.Places.{put-set}
 use Rattle.automaton.proofs.Reachable as Laws
 use Rattle.automaton.proofs.Reachable.{known_start, turn_start, turn_old, turn_new, turn-full}
+use Rattle.std.specs.Prelude.{Some, None}
 use Rattle.explore.specs.Chains.{row_at, KeyTables, Finds, Inserts}
 use Rattle.extend.specs.Step.{Store, key_after, HasValues, IsKey}
-use Rattle.explore.specs.Search.{start_key, every_mark, flag_of, key_system, Settled, LetterFollowed, Searched, Turn, Known, Kept, KeptBehind, IsLent}
+use Rattle.std.specs.Prelude.{Option, Some, None}
+use Rattle.explore.specs.Search.{SearchFinds, start_key, every_mark, flag_of, key_system, Settled, LetterFollowed, Searched, Turn, Known, Kept, KeptBehind, IsLent}
 use Rattle.prepare.proofs.PreparedLaws.{one_more}
 use Rattle.extend.proofs.StepLaws.{key_after-key}
 
@@ -78,35 +80,34 @@ counted-end relations marks j h c = let none : drop j relations ≡ [] = drop_of
 
 -- ---- the row of a key
 
-module _ (limit every n : ℕ) (key keys flags heads links : List ℕ) (found : ℕ) (f : Finds keys n key found) where
-  pub settled-found : (found ≡ 0 → ⊥) → KeyTables heads links keys n → Settled limit every n key keys flags heads links keys flags (found - 1)
-  settled-found h t =
-      let p : 0 < found = omega arith in
+module _ (limit every n : ℕ) (key keys flags heads links : List ℕ) where
+  pub settled-found : (i : ℕ) → Finds keys n key (Some i) → KeyTables heads links keys n → Settled limit every n key keys flags heads links keys flags i
+  settled-found i f t =
       record {
-        within = omega (arith, (f.here p).0);
-        found = λ l. (f.here p).1;
-        absent = λ e. absurd (not-suc-le-zero (let z : n < 0 = omega (arith, (f.here p).0) in z));
-        added = λ e. absurd (not-suc-le-zero (let z : n < 0 = omega (arith, (f.here p).0) in z));
+        within = omega (arith, f.0);
+        found = λ l. f.1;
+        absent = λ e. absurd (not-suc-le-zero (let z : n < 0 = omega (arith, f.0) in z));
+        added = λ e. absurd (not-suc-le-zero (let z : n < 0 = omega (arith, f.0) in z));
         kept = λ l. (t, refl, refl);
       }
 
-  pub settled-full : found ≡ 0 → limit ≤ n → KeyTables heads links keys n → Settled limit every n key keys flags heads links keys flags n
-  settled-full e h t =
+  pub settled-full : Finds keys n key None → limit ≤ n → KeyTables heads links keys n → Settled limit every n key keys flags heads links keys flags n
+  settled-full f h t =
       record {
         within = omega arith;
         found = λ l. absurd (not-suc-le-zero (let z : n < 0 = omega arith in z));
-        absent = λ r. f.nowhere e;
+        absent = λ r. f;
         added = λ r l. absurd (not-suc-le-zero (let z : n < 0 = omega arith in z));
         kept = λ l. (t, refl, refl);
       }
 
-  pub settled-new : found ≡ 0 → n < limit → {keys' : List ℕ} {v : ℕ} → KeyTables heads links keys' (n + 1) → Inserts keys keys' n key → v ≡ flag_of every key
+  pub settled-new : Finds keys n key None → n < limit → {keys' : List ℕ} {v : ℕ} → KeyTables heads links keys' (n + 1) → Inserts keys keys' n key → v ≡ flag_of every key
       → Settled limit every n key keys flags heads links keys' (set flags n v) n
-  settled-new e h {keys'} {v} t i g =
+  settled-new f h {keys'} {v} t i g =
       record {
         within = omega arith;
         found = λ l. absurd (not-suc-le-zero (let z : n < 0 = omega arith in z));
-        absent = λ r. f.nowhere e;
+        absent = λ r. f;
         added = λ r l. (t, i, ap (set flags n) g);
         kept = λ l. absurd (not-suc-le-zero (⊎_elim (λ x. let z : n < 0 = omega arith in z) (λ x. let z : n < 0 = omega arith in z) l));
       }
@@ -259,13 +260,14 @@ module _ (K : Store) (letters limit every : ℕ) where
         (⊎_elim (λ x. absurd (none-bound x.0 e)) (λ x. (x.1.added e (let space : n < limit = omega (arith, t.turn.within) in space)).2) f)
 
     -- There is no room for a new row.
-    pub follow_full : r ≡ n → n ≡ limit → Searched K letters limit every keys' entries flags' true n
+    pub follow_full : r ≡ n → n ≡ limit → Searched K letters limit every keys' entries flags' true limit
     follow_full e h =
-        ⊎_elim (λ x. absurd (none-bound x.0 e))
+        subst (λ m. Searched K letters limit every keys' entries flags' true m) h
+        (⊎_elim (λ x. absurd (none-bound x.0 e))
         (λ x.
         let k = x.1.kept (inr (omega arith)) in
         subst (λ z. Searched K letters limit every z entries flags' true n) (sym k.1)
-        (subst (λ y. Searched K letters limit every keys entries y true n) (sym k.2) (record { searched = turn-full S t.turn in_rows letter x.0 (x.1.absent e) h }))) f
+        (subst (λ y. Searched K letters limit every keys entries y true n) (sym k.2) (record { searched = turn-full S t.turn in_rows letter x.0 (x.1.absent e) h }))) f)
 
 -- ---- the sizes of the tables
 
@@ -317,9 +319,9 @@ sizes-lent z l =
       flags_room = omega (arith, l.flags_room, z.flags_long);
     }
 
-pub searched-every : {K : Store} {letters limit every every' : ℕ} {keys entries flags : List ℕ} {full : Bool} {n : ℕ} → every ≡ every'
-    → Searched K letters limit every keys entries flags full n → Searched K letters limit every' keys entries flags full n
-searched-every {K} {letters} {limit} {every} {every'} {keys} {entries} {flags} {full} {n} e h = subst (λ m. Searched K letters limit m keys entries flags full n) e h
+pub searched-every : (K : Store) (letters limit : ℕ) {every every' : ℕ} (entries₀ flags₀ keys entries flags : List ℕ) (r : Option ℕ) → every ≡ every'
+    → SearchFinds K letters limit every entries₀ flags₀ keys entries flags r → SearchFinds K letters limit every' entries₀ flags₀ keys entries flags r
+searched-every K letters limit entries₀ flags₀ keys entries flags r e h = subst (λ m. SearchFinds K letters limit m entries₀ flags₀ keys entries flags r) e h
 
 -- The tables after the empty record's row is added.
 pub settled-start : {K : Store} {letters limit every : ℕ} {keys flags heads' links' keys' flags' : List ℕ} {r : ℕ} → 0 < limit → limit ≤ length flags
@@ -339,3 +341,9 @@ settled-behind {every = every} {flags = flags} space some same s k =
       entries_same = k.entries_same;
       flags_same = λ i h. k.flags_same i h ∙ ap (λ l. get_or l i 0) d.2 ∙ get_or-set_other flags 0 i (flag_of every start_key) 0 (omega arith);
     }
+
+-- The search's answer, over the tables before the empty record's row was added.
+pub settled-search : (K : Store) (letters : ℕ) {limit every : ℕ} (entries₀ keys entries flags : List ℕ) {keys₀ flags₀ heads' links' keys' flags' : List ℕ} {row : ℕ} (r : Option ℕ) → 0 < limit → length flags' ≡ length flags₀
+    → Settled limit every 0 start_key keys₀ flags₀ heads' links' keys' flags' row → SearchFinds K letters limit every entries₀ flags' keys entries flags r → SearchFinds K letters limit every entries₀ flags₀ keys entries flags r
+settled-search K letters entries₀ keys entries flags (Some n) space same s z = (z.0, settled-behind space z.0.searched.known.some_row same s z.1)
+settled-search K letters entries₀ keys entries flags None space same s z = z

@@ -3,13 +3,12 @@
 use Prim.Native.Nat.{ℕ, ◌+◌, ◌*◌, ◌≤◌, ◌<◌}
 use native.Mathlib.Omega.{arith}
 use native.Mathlib.Nat.{mul-le-mul}
-use mathlib.Core.Path.{◌≡◌, refl, sym, ◌∙◌, ap₂, subst}
-use mathlib.Core.Bool.{Bool, true, false}
+use mathlib.Core.Path.{◌≡◌, sym, ◌∙◌, ap₂, subst}
+use mathlib.Core.Bool.{true, false}
 use mathlib.Core.List.{List, map}
 use lib.IntN.{ℤ}
 use lib.ListN.{length, length-map}
 use Rattle.nodes.proofs.Postfix.{stored-length}
-use Rattle.basics.proofs.Answers.{says_holds}
 use Rattle.sheet.specs.Refusal.{stream_bound}
 use Rattle.meaning.specs.Expression.{Constraint, Stream, Sheet}
 use Rattle.meaning.specs.Letter.{letter_count}
@@ -21,7 +20,10 @@ use Rattle.letters.proofs.AllLetters.{room-there, has_room-unnamed, with_letters
 use Rattle.sizes.specs.Room.{key_size}
 use Rattle.extend.specs.Step.{Store, IsReady}
 use Rattle.explore.specs.Search.{every_mark, Searched}
-use Rattle.explore.specs.Exploration.{ExploreTables, IsExplorable, ExploresStored}
+use Rattle.std.specs.Prelude.{Result, Ok, Err}
+use Rattle.explore.specs.declared.Unexplored.{Unexplored}
+use Rattle.explore.specs.declared.Unexplored.TheVariants.{NotReady, Full}
+use Rattle.explore.specs.Exploration.{ExploreTables, IsExplorable, FindsOrNone, ExploresStored}
 use Rattle.explore.specs.Rows.{ExploreOutcome}
 use Rattle.explore.specs.StoredSheet.{store_for, HasLetters, IsStored}
 use Rattle.nodes.proofs.FirstPlaces.{all_places_long}
@@ -88,21 +90,19 @@ module _ (s : Sheet) (accepted : Accepted s) where
 
 -- ---- the exploration
 
+-- How many rows there are, or that there are more than the limit.
+abbrev pub SheetExplored : (s : Sheet) (limit : ℕ) (entries flags : List ℕ) → Result ℕ Unexplored → Type 0
+SheetExplored s limit entries flags (Ok count) = ExploreOutcome s false limit count entries flags
+SheetExplored s limit entries flags (Err Full) = ExploreOutcome s true limit limit entries flags
+SheetExplored s limit entries flags (Err NotReady) = ⊥
+
 -- What `explore_stored` leaves for the stored form of an accepted sheet, in tables with room, is the exploration of the sheet.
-pub stored-explored : {s : Sheet} → Accepted s → {K : Store} → IsStored s K → {letters limit count : ℕ} {before after : ExploreTables} {ready full : Bool}
-    → letters ≡ letter_count s.streams → IsExplorable K letters limit before → ExploresStored K letters limit before after ready full count
-    → (ready ≡ true) × ExploreOutcome s full limit count after.entries after.flags
-stored-explored {s} accepted {K} stored {letters} {limit} {count} {before} {after} {ready} {full} same explorable found =
-    let yes = says_holds ready found.answer explorable in (yes, by full refl)
+pub stored-explored : {s : Sheet} → Accepted s → {K : Store} → IsStored s K → {letters limit : ℕ} {before after : ExploreTables} (found : Result ℕ Unexplored)
+    → letters ≡ letter_count s.streams → IsExplorable K letters limit before → ExploresStored K letters limit before after found → SheetExplored s limit after.entries after.flags found
+stored-explored {s} accepted {K} stored {letters} {limit} {before} {after} found same explorable x = by found x.outcome
   where
-    by : (b : Bool) → full ≡ b → ExploreOutcome s full limit count after.entries after.flags
-    by true e =
-        subst (λ b. ExploreOutcome s b limit count after.entries after.flags) (sym e)
-        (stored-outcome accepted stored true
-        (let more = (found.more (says_holds ready found.answer explorable) e).0 in
-        subst (λ n. Searched K n limit (every_mark 0 K.relations) more.keys more.entries more.flags true count) same more.searched))
-    by false e =
-        subst (λ b. ExploreOutcome s b limit count after.entries after.flags) (sym e)
-        (stored-outcome accepted stored false
-        (let rows = found.rows (says_holds ready found.answer explorable) e in
-        subst (λ n. Searched K n limit (every_mark 0 K.relations) rows.keys after.entries after.flags false count) same rows.searched))
+    by : (found : Result ℕ Unexplored) → FindsOrNone K letters limit before after found → SheetExplored s limit after.entries after.flags found
+    by (Ok count) x = stored-outcome accepted stored false (subst (λ n. Searched K n limit (every_mark 0 K.relations) x.1.keys after.entries after.flags false count) same x.1.searched)
+    by (Err Full) x =
+        let more = stored-outcome accepted stored true (subst (λ n. Searched K n limit (every_mark 0 K.relations) x.1.keys x.1.entries x.1.flags true limit) same x.1.searched) in more
+    by (Err NotReady) x = x.0 explorable

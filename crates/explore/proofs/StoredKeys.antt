@@ -12,6 +12,7 @@ use lib.IntN.{ℤ}
 use lib.ListN.{length, drop, length-map, length-drop}
 use lib.Seq.{drop-append-le, drop-drop}
 use borrow.Author.Tests.{le-leb, lt-leb, lt-ltb, le-ltb}
+use Rattle.std.specs.Prelude.{is_some, unwrap_or}
 use Rattle.automaton.specs.Words.{AllBelow}
 use Rattle.automaton.proofs.ReachedRows.{below-snoc}
 use Rattle.meaning.specs.Expression.{Constraint, Stream, Sheet, value}
@@ -39,7 +40,7 @@ use Rattle.explore.proofs.StoredFirsts.{firsts-bounded}
 use Rattle.explore.proofs.StoredFirstNodes.{first-nodes}
 use Rattle.explore.proofs.RowLaws.{KeyLaws, searched_outcome, below-letters}
 
-answer_ok : (b : Bool) (m : ℕ) → (cond b (lawful_with m) unlawful).ok ≡ b
+answer_ok : (b : Bool) (m : ℕ) → is_some (cond b (lawful_with m) unlawful) ≡ b
 answer_ok true m = refl
 answer_ok false m = refl
 
@@ -74,14 +75,14 @@ module _ (s : Sheet) (accepted : Accepted s) (behind : List Node) (values : List
   abbrev numbers : List ℕ
   numbers = firsts_in (length (all_first_places 0 cs)) key
 
-  pub key-allows : (judged_after K key a).ok ≡ is_lawful s more
-  key-allows = ap (λ x. x.ok) (judged-after s accepted behind values has r a below here kept) ∙ answer_ok (is_lawful s more) (marks_number (until_marks cs longer))
+  pub key-allows : is_some (judged_after K key a) ≡ is_lawful s more
+  key-allows = ap is_some (judged-after s accepted behind values has r a below here kept) ∙ answer_ok (is_lawful s more) (marks_number (until_marks cs longer))
 
   module _ (more-lawful : is_lawful s more ≡ true) where
-    new-marks : (judged_after K key a).marks ≡ marks_number (until_marks cs longer)
+    new-marks : unwrap_or (judged_after K key a) 0 ≡ marks_number (until_marks cs longer)
     new-marks =
-        ap (λ x. x.marks) (judged-after s accepted behind values has r a below here kept)
-        ∙ ap (λ b. (cond b (lawful_with (marks_number (until_marks cs longer))) unlawful).marks) more-lawful
+        ap (λ x. unwrap_or x 0) (judged-after s accepted behind values has r a below here kept)
+        ∙ ap (λ b. unwrap_or (cond b (lawful_with (marks_number (until_marks cs longer))) unlawful) 0) more-lawful
 
     -- The new key, from its letters and the numbers of its firsts.
     new-key : (letters firsts : List ℕ) → letters_after K key a ≡ letters → firsts_from K W (size_in key) numbers ≡ firsts

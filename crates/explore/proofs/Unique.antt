@@ -5,21 +5,22 @@ use Prim.Native.Nat.{ℕ, zero, suc, ◌+◌, ◌*◌, ◌/◌, ◌%◌, ◌≤�
 use native.Mathlib.Omega.{arith}
 use native.Mathlib.Decide.{dec_lt}
 use native.Mathlib.Nat.{mul-zero, mod-lt, div-add-mod', div-lt_iff_lt-mul}
-use mathlib.Core.Path.{◌≡◌, refl, sym, ◌∙◌, subst}
-use mathlib.Core.Bool.{Bool, true, false}
+use mathlib.Core.Path.{◌≡◌, refl, sym, ◌∙◌, ap, subst}
+use mathlib.Core.Bool.{true, false}
 use mathlib.Core.List.{List}
 use lib.ListN.{length, get_or}
 use lib.Seq.{ext_get_or}
-use Rattle.basics.proofs.Answers.{says_yes}
 use Rattle.basics.proofs.Count.{count_excludes_more}
 use Rattle.automaton.specs.Table.{SameRows}
 use Rattle.automaton.specs.Stored.{entry_at, final_at}
 use Rattle.automaton.proofs.Reachable.{searched-count, searched-more}
 use Rattle.automaton.proofs.ReachedOnce.{searched_unique}
-use Rattle.basics.specs.Answers.{Says}
 use Rattle.extend.specs.Step.{Store}
 use Rattle.explore.specs.Search.{key_system, Searched}
-use Rattle.explore.specs.Exploration.{ExploreTables, IsExplorable, FindsRows, GraphZero, ExploresStored}
+use Rattle.std.specs.Prelude.{Result, Ok, Err}
+use Rattle.explore.specs.declared.Unexplored.{Unexplored}
+use Rattle.explore.specs.declared.Unexplored.TheVariants.{NotReady, Full}
+use Rattle.explore.specs.Exploration.{ExploreTables, FindsRows, GraphZero, FindsOrNone, ExploresStored}
 
 -- ---- two searches
 
@@ -50,30 +51,18 @@ same-list letters n list₀ list list' e e' kept kept' same = ext_get_or 0 list 
             let place : k / letters * letters + k % letters ≡ k = div-add-mod' k letters in
             subst (λ x. get_or list x 0 ≡ get_or list' x 0) place (same (k / letters) (k % letters) ((div-lt_iff_lt-mul some).1 h) (mod-lt k some))
 
--- Answers that say the same are equal.
-same_answer : (P : Type 0) (b c : Bool) → Says b P → Says c P → b ≡ c
-same_answer P true true p q = refl
-same_answer P true false p q = absurd (q p)
-same_answer P false true p q = absurd (p q)
-same_answer P false false p q = refl
+-- the answer, and the entries and flags
+abbrev SameRest : (found found' : Result ℕ Unexplored) (left left' : ExploreTables) → Type 0
+SameRest found found' left left' = (found ≡ found') × (left.entries ≡ left'.entries) × (left.flags ≡ left'.flags)
 
--- the answer but for `ready`, and the entries and flags
-abbrev SameRest : (full full' : Bool) (count count' : ℕ) (left left' : ExploreTables) → Type 0
-SameRest full full' count count' left left' = (full ≡ full') × (count ≡ count') × (left.entries ≡ left'.entries) × (left.flags ≡ left'.flags)
+-- two tables of zeros
+zero_rest : {given left left' : ExploreTables} {found found' : Result ℕ Unexplored} → found ≡ found' → GraphZero given left → GraphZero given left' → SameRest found found' left left'
+zero_rest f z w = (f, z.entries_zero ∙ sym w.entries_zero, z.flags_zero ∙ sym w.flags_zero)
 
-module _ {K : Store} {letters limit : ℕ} {given left left' : ExploreTables} {ready full ready' full' : Bool} {count count' : ℕ}
-    (x : ExploresStored K letters limit given left ready full count) (y : ExploresStored K letters limit given left' ready' full' count') where
-  same-ready : ready ≡ ready'
-  same-ready = same_answer (IsExplorable K letters limit given) ready ready' x.answer y.answer
-
-  -- two tables of zeros
-  zero_rest : (full ≡ full') → (count ≡ count') → GraphZero given left → GraphZero given left' → SameRest full full' count count' left left'
-  zero_rest f c z w = (f, c, z.entries_zero ∙ sym w.entries_zero, z.flags_zero ∙ sym w.flags_zero)
-
-  rows-rest : limit ≤ 4096 → full ≡ full' → FindsRows K letters limit given left count → FindsRows K letters limit given left' count' → SameRest full full' count count' left left'
-  rows-rest few f r w = (
-    f,
-    count_same,
+module _ (K : Store) (letters limit : ℕ) (given left left' : ExploreTables) where
+  rows-rest : {count count' : ℕ} → limit ≤ 4096 → FindsRows K letters limit given left count → FindsRows K letters limit given left' count' → SameRest (Ok count) (Ok count') left left'
+  rows-rest {count} {count'} few r w = (
+    ap Ok count_same,
     same-list letters count given.entries left.entries left'.entries r.behind.entries_long w.behind.entries_long r.behind.entries_same
         (λ i h. w.behind.entries_same i (subst (λ n. n * letters ≤ i) count_same h)) rows.entries,
     ext_get_or 0 left.flags left'.flags (r.behind.flags_long ∙ sym w.behind.flags_long) λ i h. flag i (dec_lt i count),
@@ -89,30 +78,27 @@ module _ {K : Store} {letters limit : ℕ} {given left left' : ExploreTables} {r
       flag i (yes h) = rows.finals i h
       flag i (no h) = r.behind.flags_same i (omega arith) ∙ sym (w.behind.flags_same i (omega (arith, count_same)))
 
-  same_rest : SameRest full full' count count' left left'
-  same_rest = by ready refl full refl full' refl
-    where
-      by : (b : Bool) → ready ≡ b → (c : Bool) → full ≡ c → (d : Bool) → full' ≡ d → SameRest full full' count count' left left'
-      by false e c f d g =
-          let e' = sym same-ready ∙ e in
-          zero_rest ((x.refused e).0 ∙ sym (y.refused e').0) ((x.refused e).1 ∙ sym (y.refused e').1) (x.refused e).2 (y.refused e').2
-      by true e true f true g =
-          let e' = sym same-ready ∙ e in
-          zero_rest (f ∙ sym g) ((x.more e f).0.searched.searched.outcome.full ∙ sym (y.more e' g).0.searched.searched.outcome.full) (x.more e f).1 (y.more e' g).1
-      by true e false f false g = rows-rest (says_yes e x.answer).1.few_rows (f ∙ sym g) (x.rows e f) (y.rows (sym same-ready ∙ e) g)
-      by true e true f false g = absurd (not-both (says_yes e x.answer).1.few_rows (y.rows (sym same-ready ∙ e) g).searched (x.more e f).0.searched)
-      by true e false f true g = absurd (not-both (says_yes e x.answer).1.few_rows (x.rows e f).searched (y.more (sym same-ready ∙ e) g).0.searched)
+  same_rest : (found found' : Result ℕ Unexplored) → FindsOrNone K letters limit given left found → FindsOrNone K letters limit given left' found' → SameRest found found' left left'
+  same_rest (Ok n) (Ok m) x y = rows-rest x.0.1.few_rows x.1 y.1
+  same_rest (Ok n) (Err Full) x y = absurd (not-both x.0.1.few_rows x.1.searched y.1.searched)
+  same_rest (Ok n) (Err NotReady) x y = absurd (y.0 x.0)
+  same_rest (Err Full) (Ok m) x y = absurd (not-both x.0.1.few_rows y.1.searched x.1.searched)
+  same_rest (Err Full) (Err Full) x y = zero_rest refl x.2 y.2
+  same_rest (Err Full) (Err NotReady) x y = absurd (y.0 x.0)
+  same_rest (Err NotReady) (Ok m) x y = absurd (x.0 y.0)
+  same_rest (Err NotReady) (Err Full) x y = absurd (x.0 y.0)
+  same_rest (Err NotReady) (Err NotReady) x y = zero_rest refl x.1 y.1
 
-  pub explored_unique : (ready ≡ ready') × (full ≡ full') × (count ≡ count') × (left ≡ left')
-  explored_unique = (
-    same-ready,
-    same_rest.0,
-    same_rest.1,
-    λ i. record {
-      keys = (x.work_zero.keys_zero ∙ sym y.work_zero.keys_zero) i;
-      heads = (x.work_zero.heads_zero ∙ sym y.work_zero.heads_zero) i;
-      links = (x.work_zero.links_zero ∙ sym y.work_zero.links_zero) i;
-      entries = same_rest.2 i;
-      flags = same_rest.3 i;
-    },
-  )
+pub explored_unique : {K : Store} {letters limit : ℕ} {given left left' : ExploreTables} {found found' : Result ℕ Unexplored} → ExploresStored K letters limit given left found
+    → ExploresStored K letters limit given left' found' → (found ≡ found') × (left ≡ left')
+explored_unique {K} {letters} {limit} {given} {left} {left'} {found} {found'} x y =
+    let rest = same_rest K letters limit given left left' found found' x.outcome y.outcome in (
+      rest.0,
+      λ i. record {
+        keys = (x.work_zero.keys_zero ∙ sym y.work_zero.keys_zero) i;
+        heads = (x.work_zero.heads_zero ∙ sym y.work_zero.heads_zero) i;
+        links = (x.work_zero.links_zero ∙ sym y.work_zero.links_zero) i;
+        entries = rest.1 i;
+        flags = rest.2 i;
+      },
+    )

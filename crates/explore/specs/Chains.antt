@@ -1,5 +1,5 @@
 -- Keys in rows, found again by chains of rows (key_chains, Chains).
-use Rattle.std.specs.Prelude.{ℕ, ◌+◌, ◌-◌, ◌*◌, ◌%◌, ◌≤◌, ◌<◌, ◌≡◌, List, [], ◌∷◌, length, take, drop}
+use Rattle.std.specs.Prelude.{ℕ, ◌+◌, ◌*◌, ◌%◌, ◌≤◌, ◌<◌, ◌≡◌, Option, Some, None, List, [], ◌∷◌, length, take, drop}
 use Rattle.key_chains.specs.Chains.{Chained}
 use Rattle.sizes.specs.Room.{key_size}
 
@@ -24,10 +24,10 @@ pub record KeyTables (heads links keys : List ℕ) (n : ℕ) : Type 0 where
   pub keys_room : n * key_size ≤ length keys
   pub chained : Chained heads links (λ i. bucket_of (length heads) (row_at keys i)) n
 
--- r is one more than a row that holds the key, or 0 where no row does
-pub record Finds (keys : List ℕ) (n : ℕ) (key : List ℕ) (r : ℕ) : Type 0 where
-  pub here : 0 < r → (r ≤ n) × (row_at keys (r - 1) ≡ key)
-  pub nowhere : r ≡ 0 → (i : ℕ) → i < n → row_at keys i ≡ key → ⊥
+-- a row that holds the key, or none where no row does
+abbrev pub Finds : (keys : List ℕ) (n : ℕ) (key : List ℕ) → Option ℕ → Type 0
+Finds keys n key (Some i) = (i < n) × (row_at keys i ≡ key)
+Finds keys n key None = (i : ℕ) → i < n → row_at keys i ≡ key → ⊥
 
 -- row n holds the key, and the rows before it hold what they held
 pub record Inserts (keys keys' : List ℕ) (n : ℕ) (key : List ℕ) : Type 0 where

@@ -1,6 +1,6 @@
 -- The keys that are reached from the key of the empty record, letter by letter, in rows; and the table of their successors. "First met" is
 -- document 01's term.
-use Rattle.std.specs.Prelude.{ℕ, ◌+◌, ◌*◌, ◌≤◌, ◌<◌, ◌≡◌, Bool, true, false, cond, ◌⊎◌, List, [], ◌∷◌, eqb, ℤ, get_or, length, replicate, set}
+use Rattle.std.specs.Prelude.{ℕ, ◌+◌, ◌*◌, ◌≤◌, ◌<◌, ◌≡◌, Bool, true, false, cond, ◌⊎◌, List, [], ◌∷◌, eqb, ℤ, get_or, length, replicate, set, is_some, Option, Some, None}
 use Rattle.sheet.specs.Refusal.{stream_bound}
 use Rattle.automaton.specs.Table.{no_state}
 use Rattle.automaton.specs.Stored.{entry_at, final_at}
@@ -35,8 +35,8 @@ module _ (K : Store) where
   -- One letter is followed from row s: the entry is none if the longer record is unlawful, else the row of its key.
   abbrev pub LetterFollowed : (limit every n s a : ℕ) (keys flags heads' links' keys' flags' : List ℕ) (r : ℕ) → Type 0
   LetterFollowed limit every n s a keys flags heads' links' keys' flags' r =
-      ((r ≡ no_state) × ((judged_after K (row_at keys s) a).ok ≡ false) × KeyTables heads' links' keys' n × (keys' ≡ keys) × (flags' ≡ flags))
-      ⊎ (((judged_after K (row_at keys s) a).ok ≡ true) × Settled limit every n (key_after K (row_at keys s) a) keys flags heads' links' keys' flags' r)
+      ((r ≡ no_state) × (is_some (judged_after K (row_at keys s) a) ≡ false) × KeyTables heads' links' keys' n × (keys' ≡ keys) × (flags' ≡ flags))
+      ⊎ ((is_some (judged_after K (row_at keys s) a) ≡ true) × Settled limit every n (key_after K (row_at keys s) a) keys flags heads' links' keys' flags' r)
 
   -- What following a letter from row s depends on: the row holds a key, the letter has values, the tables have room for as many rows as the limit, and what
   -- the letters after the row's key need is prepared.
@@ -60,7 +60,7 @@ module _ (K : Store) where
 -- The search of the keys of a stored sheet: from that of the empty record, by each letter after which the record is still lawful.
 abbrev pub key_system : Store → (letters every : ℕ) → System
 key_system K letters every =
-    record { Key = List ℕ; letters = letters; start = start_key; ok = λ key a. (judged_after K key a).ok; after = key_after K; flag = λ key. eqb (marks_in key) every }
+    record { Key = List ℕ; letters = letters; start = start_key; ok = λ key a. is_some (judged_after K key a); after = key_after K; flag = λ key. eqb (marks_in key) every }
 
 -- the first n rows hold different keys, all reached, the first that of the empty record; and each row's flag
 pub record Known (K : Store) (letters every : ℕ) (keys flags : List ℕ) (n : ℕ) : Type 0 where
@@ -90,6 +90,12 @@ pub record KeptBehind (letters n : ℕ) (entries₀ flags₀ entries flags : Lis
   pub flags_long : length flags ≡ length flags₀
   pub entries_same : (i : ℕ) → n * letters ≤ i → get_or entries i 0 ≡ get_or entries₀ i 0
   pub flags_same : (i : ℕ) → n ≤ i → get_or flags i 0 ≡ get_or flags₀ i 0
+
+-- What the search answers and leaves: how many rows there are, with the entries and flags of all keys that can be reached, and behind them what stood there;
+-- or none, where as many rows as the limit are found, and another key is met.
+abbrev pub SearchFinds : (K : Store) (letters limit every : ℕ) (entries₀ flags₀ keys entries flags : List ℕ) → Option ℕ → Type 0
+SearchFinds K letters limit every entries₀ flags₀ keys entries flags (Some n) = Searched K letters limit every keys entries flags false n × KeptBehind letters n entries₀ flags₀ entries flags
+SearchFinds K letters limit every entries₀ flags₀ keys entries flags None = Searched K letters limit every keys entries flags true limit
 
 -- The lent tables have room for as many rows as the limit, and every letter's values are there, with room behind them.
 pub record IsLent (K : Store) (letters limit : ℕ) (keys heads links entries flags : List ℕ) : Type 0 where

@@ -12,12 +12,10 @@ fn same(a: &[u32], b: &[u32]) -> bool
     ensures { Says result (a.now ≡ b.now) }
 {
     let mut different = 0u32;
-    let mut i = 0;
-    while i < a.len() {
-        if a[i] != b[i] {
+    for (i, &x) in a.iter().enumerate() {
+        if x != b[i] {
             different = 1;
         }
-        i += 1;
     }
     different == 0
 }
@@ -25,17 +23,15 @@ fn same(a: &[u32], b: &[u32]) -> bool
 fn mix(h: u64, x: u32) -> u64
     ensures { result ≡ mix_of h x }
 {
-    h % 4294967296 * 2654435761 + x as u64
+    h % 4294967296 * 2654435761 + u64::from(x)
 }
 
 fn hash(key: &[u32]) -> u64
     ensures { result ≡ hash_from 0 key.now }
 {
     let mut h = 0;
-    let mut i = 0;
-    while i < key.len() {
-        h = mix(h, key[i]);
-        i += 1;
+    for &x in key {
+        h = mix(h, x);
     }
     h
 }
@@ -49,8 +45,15 @@ pub fn bucket(key: &[u32], m: usize) -> usize
     hash(key) as usize % m
 }
 
-// One more than the row that holds the key, or 0. `h` is the key's bucket.
-pub fn find(heads: &[u32], links: &[u32], keys: &[u32], n: usize, h: usize, key: &[u32]) -> usize
+// The row that holds the key. `h` is the key's bucket.
+pub fn find(
+    heads: &[u32],
+    links: &[u32],
+    keys: &[u32],
+    n: usize,
+    h: usize,
+    key: &[u32],
+) -> Option<usize>
     requires key_tables { KeyTables heads.now links.now keys.now n }
     requires key_len { (length key.now ≡ key_size) × (h ≡ bucket_of (length heads.now) key.now) × (h < length heads.now) }
     ensures { Finds keys.now n key.now result }
@@ -61,11 +64,11 @@ pub fn find(heads: &[u32], links: &[u32], keys: &[u32], n: usize, h: usize, key:
         let at = i * KEY_SIZE;
         let end = at + KEY_SIZE;
         if same(&keys[at..end], key) {
-            return j;
+            return Some(i);
         }
         j = links[i] as usize;
     }
-    0
+    None
 }
 
 // Stores the key as row n. `h` is the key's bucket.

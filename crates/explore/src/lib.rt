@@ -3,26 +3,19 @@
 
 mod chains;
 
-ghost use Rattle.std.specs.Prelude.{◌≡◌, false, ◌+◌, ◌*◌, ◌≤◌, ◌<◌, eqb, length};
+ghost use Rattle.std.specs.Prelude.{◌≡◌, is_err, ◌+◌, ◌*◌, ◌≤◌, ◌<◌, eqb, length};
 ghost use Rattle.sizes.specs.Room.{key_size};
 ghost use Rattle.prepare.specs.Key.{digit};
 ghost use Rattle.prepare.specs.Prepared.{Prepared, IsPreparable};
 ghost use Rattle.extend.specs.Step.{store_of};
 ghost use Rattle.explore.specs.Chains.{row_at, KeyTables};
-ghost use Rattle.explore.specs.Search.{every_mark, Settled, CanFollow, FollowsLetter, CanSearch, Searched, KeptBehind};
+ghost use Rattle.explore.specs.Search.{every_mark, Settled, CanFollow, FollowsLetter, CanSearch, SearchFinds};
 ghost use Rattle.explore.specs.Exploration.{explore_tables, Explores, Discards, ExploresStored};
 
 use chains::{bucket, find, insert};
 use extend::extend;
 use prepare::{Dimensions, prepare};
 use sizes::{KEY_SIZE, Lengths, MARKS_PLACE, PREPARED_SIZE, is_lent, is_ready};
-
-// The number of situations, or that there are more than the limit.
-#[derive(Clone, Copy)]
-struct Explored {
-    full: bool,
-    count: usize,
-}
 
 // How many letters there are, how many rows there may be, and the marks of all untils.
 #[derive(Clone, Copy)]
@@ -32,12 +25,11 @@ struct Bounds {
     every: u32,
 }
 
-// The answer: whether the sheet and the tables have the sizes that the search depends on, and what it finds if so.
-#[derive(Clone, Copy)]
-pub struct Exploration {
-    pub ready: bool,
-    pub full: bool,
-    pub count: usize,
+// Why there are no rows: the sheet or the tables have not the sizes that the search depends on, or there are more rows than the limit.
+#[derive(Clone, Copy, PartialEq, Eq)]
+pub enum Unexplored {
+    NotReady,
+    Full,
 }
 
 // The marks of all untils, when each is done.
@@ -46,12 +38,10 @@ fn every_mark(relations: &[u8]) -> u32
     ensures { result ≡ every_mark 0 relations.now }
 {
     let mut marks: u64 = 0;
-    let mut j = 0;
-    while j < relations.len() {
-        if relations[j] == nodes::UNTIL_RELATION {
+    for &relation in relations {
+        if relation == nodes::UNTIL_RELATION {
             marks = marks * 2 + 1;
         }
-        j += 1;
     }
     marks as u32
 }
@@ -59,7 +49,7 @@ fn every_mark(relations: &[u8]) -> u32
 fn flag(marks: u32, every: u32) -> u8
     ensures { result ≡ digit (eqb marks every) }
 {
-    if marks == every { 1 } else { 0 }
+    u8::from(marks == every)
 }
 
 // The row that holds the key. A new key becomes row n, with its flag, if there is room.
@@ -78,9 +68,8 @@ fn settle(
     ensures { Settled limit every n key.now keys.old flags.old heads.new links.new keys.new flags.new result }
 {
     let h = bucket(key, heads.len());
-    let found = find(heads, links, keys, n, h, key);
-    if found != 0 {
-        return found - 1;
+    if let Some(row) = find(heads, links, keys, n, h, key) {
+        return row;
     }
     if n < limit {
         insert(heads, links, keys, n, h, key);
@@ -169,8 +158,8 @@ fn prepare_row(
     );
 }
 
-// Explores row by row and letter by letter from the first row until every row is done, or rows run out. What the letters of a row need is prepared
-// once.
+// Explores row by row and letter by letter from the first row until every row is done: how many rows there are, or none if rows run out. What the
+// letters of a row need is prepared once.
 fn search(
     kinds: &[u8; 1024],
     values: &[i64; 1024],
@@ -187,14 +176,12 @@ fn search(
     links: &mut [u32],
     entries: &mut [u16],
     flags: &mut [u8],
-) -> Explored
+) -> Option<usize>
     requires { CanSearch (store_of kinds.now values.now starts.now relations.now lefts.now rights.now first_nodes.now letter_values.now dimensions.streams dimensions.ahead dimensions.width) bounds.letters bounds.limit bounds.every keys.old heads.old links.old entries.old flags.old }
-    ensures searched { Searched (store_of kinds.now values.now starts.now relations.now lefts.now rights.now first_nodes.now letter_values.now dimensions.streams dimensions.ahead dimensions.width) bounds.letters bounds.limit bounds.every keys.new entries.new flags.new result.full result.count }
-    ensures kept_behind { result.full ≡ false → KeptBehind bounds.letters result.count entries.old flags.old entries.new flags.new }
+    ensures { SearchFinds (store_of kinds.now values.now starts.now relations.now lefts.now rights.now first_nodes.now letter_values.now dimensions.streams dimensions.ahead dimensions.width) bounds.letters bounds.limit bounds.every entries.old flags.old keys.new entries.new flags.new result }
 {
     let letters = bounds.letters;
     let limit = bounds.limit;
-    let mut full = false;
     let mut n = 1;
     let mut s = 0;
     let mut at = 0;
@@ -208,8 +195,7 @@ fn search(
             s,
             &mut prepared,
         );
-        let mut a = 0;
-        while a < letters {
+        for a in 0..letters {
             let row = follow(
                 kinds,
                 values,
@@ -232,18 +218,16 @@ fn search(
             );
             if row == n {
                 if n == limit {
-                    full = true;
-                    break 'rows;
+                    return None;
                 }
                 n += 1;
             }
             entries[at] = row as u16;
             at += 1;
-            a += 1;
         }
         s += 1;
     }
-    Explored { full, count: n }
+    Some(n)
 }
 
 // Finds all keys that are reached from that of the empty record, or that there are more than the limit, if the sheet keeps the bounds and the
@@ -267,8 +251,8 @@ fn explore(
     links: &mut [u32],
     entries: &mut [u16],
     flags: &mut [u8],
-) -> Exploration
-    ensures { Explores (store_of kinds.now values.now starts.now relations.now lefts.now rights.now first_nodes.now letter_values.now streams ahead width) letters limit (explore_tables keys.old heads.old links.old entries.old flags.old) (explore_tables keys.new heads.new links.new entries.new flags.new) result.ready result.full result.count }
+) -> Result<usize, Unexplored>
+    ensures { Explores (store_of kinds.now values.now starts.now relations.now lefts.now rights.now first_nodes.now letter_values.now streams ahead width) letters limit (explore_tables keys.old heads.old links.old entries.old flags.old) (explore_tables keys.new heads.new links.new entries.new flags.new) result }
 {
     if !is_ready(
         relations.len(),
@@ -278,11 +262,7 @@ fn explore(
         streams,
         width,
     ) {
-        return Exploration {
-            ready: false,
-            full: false,
-            count: 0,
-        };
+        return Err(Unexplored::NotReady);
     }
     let tables = Lengths {
         keys: keys.len(),
@@ -292,15 +272,11 @@ fn explore(
         flags: flags.len(),
     };
     if !is_lent(letters, limit, streams, letter_values.len(), tables) {
-        return Exploration {
-            ready: false,
-            full: false,
-            count: 0,
-        };
+        return Err(Unexplored::NotReady);
     }
     let every = every_mark(relations);
     let empty = [0u32; KEY_SIZE];
-    basics::fill(heads, 0);
+    heads.fill(0);
     settle(heads, links, keys, flags, 0, limit, every, &empty);
     let found = search(
         kinds,
@@ -327,24 +303,17 @@ fn explore(
         entries,
         flags,
     );
-    Exploration {
-        ready: true,
-        full: found.full,
-        count: found.count,
-    }
+    found.ok_or(Unexplored::Full)
 }
 
 // Clears the entries and flags, unless they are those of rows that were found.
-fn discard(found: Exploration, entries: &mut [u16], flags: &mut [u8])
-    ensures { Discards found.ready found.full entries.old flags.old entries.new flags.new }
+fn discard(found: Result<usize, Unexplored>, entries: &mut [u16], flags: &mut [u8])
+    ensures { Discards (is_err found) entries.old flags.old entries.new flags.new }
 {
-    if found.ready {
-        if !found.full {
-            return;
-        }
+    if found.is_err() {
+        entries.fill(0);
+        flags.fill(0);
     }
-    basics::clear_entries(entries, 0);
-    basics::clear_bytes(flags, 0);
 }
 
 // Explores a stored sheet in the lent tables, if the sheet keeps the bounds and the tables have room. The keys and the chains are 0 afterwards.
@@ -368,8 +337,8 @@ pub fn explore_stored(
     links: &mut [u32],
     entries: &mut [u16],
     flags: &mut [u8],
-) -> Exploration
-    ensures { ExploresStored (store_of kinds.now values.now starts.now relations.now lefts.now rights.now first_nodes.now letter_values.now streams ahead width) letters limit (explore_tables keys.old heads.old links.old entries.old flags.old) (explore_tables keys.new heads.new links.new entries.new flags.new) result.ready result.full result.count }
+) -> Result<usize, Unexplored>
+    ensures { ExploresStored (store_of kinds.now values.now starts.now relations.now lefts.now rights.now first_nodes.now letter_values.now streams ahead width) letters limit (explore_tables keys.old heads.old links.old entries.old flags.old) (explore_tables keys.new heads.new links.new entries.new flags.new) result }
 {
     let found = explore(
         kinds,
@@ -391,9 +360,9 @@ pub fn explore_stored(
         entries,
         flags,
     );
-    basics::fill(keys, 0);
-    basics::fill(heads, 0);
-    basics::fill(links, 0);
+    keys.fill(0);
+    heads.fill(0);
+    links.fill(0);
     discard(found, entries, flags);
     found
 }

@@ -24,9 +24,6 @@ module _ {X : Type 0} (text : X → Token) where
   pub element-more : (xs : List X) (x : X) → elements text xs ++ element (text x) ≡ elements text (xs ++ (x ∷ []))
   element-more xs x = ap (elements text xs ++◌) (sym (append-nil (element (text x)))) ∙ elements-append xs (x ∷ [])
 
-  pub next-element : (xs : List X) (d : X) (i : ℕ) → i < length xs → elements text (take i xs) ++ element (text (get_or xs i d)) ≡ elements text (take (i + 1) xs)
-  next-element xs d i h = element-more (take i xs) (get_or xs i d) ∙ ap (elements text) (sym (ap (λ k. take k xs) (add-one i) ∙ take-suc xs i d h))
-
 -- A name with its marks as the code appends it.
 pub name-element : (name : Token) → (bytes_of " \"" ++ name) ++ bytes_of "\"," ≡ element (quoted name)
 name-element name = simp append_assoc
@@ -40,13 +37,14 @@ entry-bytes : (e : ℕ) → e < 65536 → table_bytes entry_width (e ∷ []) ≡
 unfolding table_bytes bytes_of_number
 entry-bytes e h = let q : e / 256 % 256 ≡ e / 256 = omega arith in ap (λ n. e % 256 ∷ (n ∷ [])) q
 
-pub next-entry : (entries : List ℕ) (i : ℕ) → i < length entries → get_or entries i 0 < 65536
-    → elements digits (table_bytes entry_width (take i entries)) ++ (element (digits (get_or entries i 0 % 256)) ++ element (digits (get_or entries i 0 / 256)))
+pub next-entry : (entries : List ℕ) (i : ℕ) → i < length entries → get_or entries i 0 < 65536 → {e : ℕ} → e ≡ get_or entries i 0
+    → elements digits (table_bytes entry_width (take i entries)) ++ (element (digits (e % 256)) ++ element (digits (e / 256)))
     ≡ elements digits (table_bytes entry_width (take (i + 1) entries))
-next-entry entries i h small =
+next-entry entries i h small is =
     let e = get_or entries i 0 in
     let front = table_bytes entry_width (take i entries) in
-    ap (λ l. elements digits front ++ (element (digits (e % 256)) ++ l)) (sym (append-nil (element (digits (e / 256)))))
+    ap (λ n. elements digits front ++ (element (digits (n % 256)) ++ element (digits (n / 256)))) is
+    ∙ ap (λ l. elements digits front ++ (element (digits (e % 256)) ++ l)) (sym (append-nil (element (digits (e / 256)))))
     ∙ elements-append digits front (e % 256 ∷ (e / 256 ∷ []))
     ∙ ap (λ l. elements digits (front ++ l)) (sym (entry-bytes e small))
     ∙ ap (elements digits) (sym (table_bytes-append entry_width (take i entries) (e ∷ [])) ∙ ap (table_bytes entry_width) (sym (ap (λ k. take k entries) (add-one i) ∙ take-suc entries i 0 h)))

@@ -7,13 +7,13 @@ ghost use Rattle.text.specs.Bytes.{bytes_of};
 ghost use Rattle.stored.specs.Number.{table_bytes};
 ghost use Rattle.step.specs.Step.{entry_width};
 ghost use Rattle.print.specs.Append.{Appends};
-ghost use Rattle.print.specs.Text.{digits, decimal};
+ghost use Rattle.print.specs.Text.{digits};
 ghost use Rattle.print.specs.Lines.{lines_from, stored_names};
 ghost use Rattle.export_text.specs.Export.{element, elements, elements_line, quoted, row_line, beginning, counts_line, checksum_line, stream_arrays, table_array, finals_array, ending, export_text};
 ghost use Rattle.export_text.specs.Described.{described_export};
 
-use basics::fewer;
-use print::{append_bytes, append_natural, append_number};
+use print::{Number, append_bytes, append_each, append_natural};
+use record_names::name_in;
 use streams::StreamsDescription;
 
 // ---- elements
@@ -27,34 +27,12 @@ fn append_element(out: &mut [u8], at: usize, value: u64) -> usize
     append_bytes(out, end, b",")
 }
 
-// Bytes as elements.
-fn append_byte_elements(out: &mut [u8], at: usize, bytes: &[u8]) -> usize
+// Numbers as elements.
+fn append_elements<N: Number>(out: &mut [u8], at: usize, numbers: &[N]) -> usize
     requires { at ≤ suc (length out.old) }
-    ensures { Appends at (elements digits bytes.now) out.old out.new result }
+    ensures { Appends at (elements N.text numbers.now) out.old out.new result }
 {
-    let mut to = at;
-    let mut i = 0;
-    while i < bytes.len() {
-        to = append_element(out, to, bytes[i] as u64);
-        i += 1;
-    }
-    to
-}
-
-// Integers as elements.
-fn append_integer_elements(out: &mut [u8], at: usize, values: &[i64]) -> usize
-    requires { at ≤ suc (length out.old) }
-    ensures { Appends at (elements decimal values.now) out.old out.new result }
-{
-    let mut to = at;
-    let mut i = 0;
-    while i < values.len() {
-        let value_at = append_bytes(out, to, b" ");
-        let end = append_number(out, value_at, values[i]);
-        to = append_bytes(out, end, b",");
-        i += 1;
-    }
-    to
+    append_each(out, at, b" ", numbers, b",")
 }
 
 // Stored names as elements, each between quotation marks.
@@ -69,12 +47,10 @@ fn append_name_elements(
     ensures { Appends at (elements quoted (stored_names names.now lengths.now count)) out.old out.new result }
 {
     let mut to = at;
-    let mut i = 0;
-    while i < count {
+    for i in 0..count {
         let name_at = append_bytes(out, to, b" \"");
-        let end = append_bytes(out, name_at, record_names::name_in(names, lengths, i));
+        let end = append_bytes(out, name_at, name_in(names, lengths, i));
         to = append_bytes(out, end, b"\",");
-        i += 1;
     }
     to
 }
@@ -87,12 +63,10 @@ fn append_entry_elements(out: &mut [u8], at: usize, entries: &[u16]) -> usize
     ensures { Appends at (elements digits (table_bytes entry_width entries.now)) out.old out.new result }
 {
     let mut to = at;
-    let mut i = 0;
-    while i < entries.len() {
-        let entry = entries[i] as u64;
+    for entry in entries {
+        let entry = u64::from(*entry);
         let high_at = append_element(out, to, entry % 256);
         to = append_element(out, high_at, entry / 256);
-        i += 1;
     }
     to
 }
@@ -112,13 +86,11 @@ fn append_rows(out: &mut [u8], at: usize, entries: &[u16], letters: usize, state
     ensures { Appends at (lines_from (row_line letters entries.now) 0 states) out.old out.new result }
 {
     let mut to = at;
-    let mut start = 0;
-    let mut state = 0;
-    while state < states {
-        let end = start + fewer(letters, entries.len() - start);
-        to = append_row(out, to, &entries[start..end]);
-        start = end;
-        state += 1;
+    let mut rest = entries;
+    for state in 0..states {
+        let (row, behind) = rest.split_at(letters.min(rest.len()));
+        to = append_row(out, to, row);
+        rest = behind;
     }
     to
 }
@@ -136,11 +108,11 @@ fn put_counts(out: &mut [u8], streams: usize, letters: u32, states: usize, check
     );
     let letters_from = append_natural(out, streams_at, streams as u64);
     let letters_at = append_bytes(out, letters_from, b", SHEET_LETTERS = ");
-    let states_from = append_natural(out, letters_at, letters as u64);
+    let states_from = append_natural(out, letters_at, u64::from(letters));
     let states_at = append_bytes(out, states_from, b", SHEET_STATES = ");
     let checksum_from = append_natural(out, states_at, states as u64);
     let checksum_at = append_bytes(out, checksum_from, b" };\n#define SHEET_CRC32 UINT32_C(");
-    let end = append_natural(out, checksum_at, checksum as u64);
+    let end = append_natural(out, checksum_at, u64::from(checksum));
     append_bytes(out, end, b")\n\n")
 }
 
@@ -168,19 +140,19 @@ fn append_streams(
         names_end,
         b"\n};\nstatic const int32_t sheet_lows[SHEET_STREAMS] = {\n   ",
     );
-    let lows_end = append_integer_elements(out, lows_at, lows);
+    let lows_end = append_elements(out, lows_at, lows);
     let highs_at = append_bytes(
         out,
         lows_end,
         b"\n};\nstatic const int32_t sheet_highs[SHEET_STREAMS] = {\n   ",
     );
-    let highs_end = append_integer_elements(out, highs_at, highs);
+    let highs_end = append_elements(out, highs_at, highs);
     let kinds_at = append_bytes(
         out,
         highs_end,
         b"\n};\nstatic const uint8_t sheet_kinds[SHEET_STREAMS] = {\n   ",
     );
-    let kinds_end = append_byte_elements(out, kinds_at, kinds);
+    let kinds_end = append_elements(out, kinds_at, kinds);
     append_bytes(out, kinds_end, b"\n};\n")
 }
 
@@ -188,21 +160,16 @@ fn append_streams(
 fn append_described(out: &mut [u8], at: usize, streams: StreamsDescription) -> usize
     ensures { Appends at (stream_arrays (stored_names streams.names streams.lengths (min streams.count 8)) (take (min streams.count 8) streams.lows) (take (min streams.count 8) streams.highs) (take (min streams.count 8) streams.kinds)) out.old out.new result }
 {
-    let names = streams.names;
-    let lengths = streams.lengths;
-    let lows = streams.lows;
-    let highs = streams.highs;
-    let kinds = streams.kinds;
-    let count = fewer(streams.count, 8);
+    let count = streams.count.min(8);
     append_streams(
         out,
         at,
-        &names,
-        &lengths,
+        &streams.names,
+        &streams.lengths,
         count,
-        &lows[..count],
-        &highs[..count],
-        &kinds[..count],
+        &streams.lows[..count],
+        &streams.highs[..count],
+        &streams.kinds[..count],
     )
 }
 
@@ -221,7 +188,7 @@ fn append_table(out: &mut [u8], at: usize, entries: &[u16], letters: usize, fina
         rows_end,
         b"};\nstatic const uint8_t sheet_finals[SHEET_STATES] = {\n   ",
     );
-    let finals_end = append_byte_elements(out, finals_at, finals);
+    let finals_end = append_elements(out, finals_at, finals);
     append_bytes(out, finals_end, b"\n};\n\n#endif\n")
 }
 
@@ -236,7 +203,7 @@ pub fn fill(
 ) -> usize
     ensures { Appends 0 (export_text (described_export streams letters checksum entries.now finals.now)) out.old out.new result }
 {
-    let count = fewer(streams.count, 8);
+    let count = streams.count.min(8);
     let streams_at = put_counts(out, count, letters, finals.len(), checksum);
     let table_at = append_described(out, streams_at, streams);
     append_table(out, table_at, entries, letters as usize, finals)

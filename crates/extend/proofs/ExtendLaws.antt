@@ -9,6 +9,7 @@ use lib.Dec.{leb}
 use lib.IntN.{ℤ}
 use lib.ListN.{length, take, drop}
 use lib.Seq.{length-take-le, take_all}
+use Rattle.std.specs.Prelude.{is_some}
 use Rattle.nodes.specs.Evaluate.{view}
 use Rattle.sizes.specs.Room.{key_size, window_room, prepared_size}
 use Rattle.prepare.specs.Key.{size_in, firsts_in, marks_in}
@@ -124,7 +125,7 @@ module _ {K : Store} {key : List ℕ} {a : ℕ} {prepared : List ℤ} {fresh : L
   step =
       let f = continues.finished in
       record {
-        answer = f.answer ∙ ap (λ W. (judged_in K W (length (letters_after K key a) - 1) (marks_in key)).ok) view-is;
+        answer = f.answer ∙ ap (λ W. is_some (judged_in K W (length (letters_after K key a) - 1) (marks_in key))) view-is;
         new = λ yes. f.new yes ∙ ap (λ W. key_from K W (size_in key) (letters_after K key a) (marks_in key) (firsts_in (length K.first_nodes) key)) view-is;
         kept = f.kept;
       }

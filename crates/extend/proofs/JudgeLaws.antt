@@ -9,10 +9,10 @@ use mathlib.Core.Bool.{Bool, true, false, cond, ◌||◌}
 use mathlib.Core.List.{List}
 use lib.ListN.{length, get_or}
 use borrow.Author.Tests.{eq-eqb, ne_eqb}
+use Rattle.std.specs.Prelude.{Option, Some, None}
 use Rattle.meaning.specs.Value.{Value, truth}
 use Rattle.extend.specs.Step.{unlawful, lawful_with, with_digit, until_done, until_permitted, sign_holds, judged_from}
 use Rattle.extend.specs.Marking.{begun, grown, marks_joined}
-use Rattle.extend.specs.declared.judge.Judged.{Judged}
 use Rattle.extend.specs.declared.judge.Marking.{Marking}
 
 -- ---- marks
@@ -22,26 +22,23 @@ pub grown-is : (m : Marking) (done : Bool) (told : ℕ) → told ≡ cond done (
 grown-is m done told e = ap (λ t. record { told = t; weight = m.weight * 2; rest = m.rest / 2 }) e
 
 -- The digit of one more until goes from the later marks to those that are told.
-joined-digit : (m : Marking) (done : Bool) (r : Judged) → marks_joined m (with_digit done r) ≡ marks_joined (grown m done) r
-joined-digit m done r = by done r.ok r.marks
-  where
-    by : (done ok : Bool) (marks : ℕ) → marks_joined m (with_digit done (record { ok = ok; marks = marks })) ≡ marks_joined (grown m done) (record { ok = ok; marks = marks })
-    by done false marks = refl
-    by true true marks =
-        let e : m.told + m.weight * (1 + 2 * marks) ≡ m.told + m.weight + m.weight * 2 * marks =
-        rw (mul-add, mul_assoc m.weight 2 marks) (omega arith) in
-        ap lawful_with e
-    by false true marks =
-        let e : m.told + m.weight * (0 + 2 * marks) ≡ m.told + m.weight * 2 * marks =
-        rw (mul-add, mul_assoc m.weight 2 marks) (omega arith) in
-        ap lawful_with e
+joined-digit : (m : Marking) (done : Bool) (r : Option ℕ) → marks_joined m (with_digit done r) ≡ marks_joined (grown m done) r
+joined-digit m done None = refl
+joined-digit m true (Some marks) =
+    let e : m.told + m.weight * (1 + 2 * marks) ≡ m.told + m.weight + m.weight * 2 * marks =
+    rw (mul-add, mul_assoc m.weight 2 marks) (omega arith) in
+    ap lawful_with e
+joined-digit m false (Some marks) =
+    let e : m.told + m.weight * (0 + 2 * marks) ≡ m.told + m.weight * 2 * marks =
+    rw (mul-add, mul_assoc m.weight 2 marks) (omega arith) in
+    ap lawful_with e
 
 module _ (relations lefts rights : List ℕ) (value : ℕ → Value) (marks : ℕ) where
-  abbrev judged : ℕ → ℕ → ℕ → Judged
+  abbrev judged : ℕ → ℕ → ℕ → Option ℕ
   judged = judged_from relations lefts rights value
 
   -- what the whole list gives
-  abbrev pub answer : Judged
+  abbrev pub answer : Option ℕ
   answer = judged 0 (length relations) marks
 
   judged-until : (j n m : ℕ) → get_or relations j 0 ≡ 7
@@ -68,11 +65,11 @@ module _ (relations lefts rights : List ℕ) (value : ℕ → Value) (marks : �
   pub told-start : Told (begun marks) 0
   told-start =
       let e : length relations - 0 ≡ length relations = omega arith in
-      record { within = omega arith; below = omega arith; weight_le = omega arith; same = rw e (begun-joined answer.ok answer.marks) }
+      record { within = omega arith; below = omega arith; weight_le = omega arith; same = rw e (begun-joined answer) }
     where
-      begun-joined : (ok : Bool) (m : ℕ) → ◌≡◌ {A = Judged} (record { ok = ok; marks = m }) (marks_joined (begun marks) (record { ok = ok; marks = m }))
-      begun-joined true m = ap lawful_with (omega arith)
-      begun-joined false m = refl
+      begun-joined : (r : Option ℕ) → r ≡ marks_joined (begun marks) r
+      begun-joined (Some m) = ap lawful_with (omega arith)
+      begun-joined None = refl
 
   module _ (m : Marking) (j : ℕ) (more : j < length relations) (t : Told m j) where
     left_is : length relations - j ≡ suc (length relations - (j + 1))

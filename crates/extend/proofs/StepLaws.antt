@@ -6,6 +6,7 @@ use mathlib.Core.Path.{◌≡◌, refl, sym, ◌∙◌, ap, subst}
 use mathlib.Core.List.{List, [], ◌∷◌, ◌++◌}
 use lib.ListN.{length, get_or, take, drop, length-append, length-drop, drop_of_length-le, get_or-append}
 use lib.Seq.{take_all, drop-append-le, length-take-le, get_or-take, get_or-drop, get_or-append_seam}
+use Rattle.std.specs.Prelude.{unwrap_or}
 use Rattle.sheet.specs.Refusal.{window_bound, first_bound}
 use Rattle.sizes.specs.Room.{key_size}
 use Rattle.prepare.specs.Key.{with_zeros, encoded_key, size_in, letters_in, firsts_in, marks_in}
@@ -103,6 +104,6 @@ module _ (K : Store) (key : List ℕ) (a : ℕ) (k : IsKey K key) (room : K.widt
       new p b =
           let W = view_after K key a in
           let i =
-          encoded_letter (length l) (drop (length l - K.width) l) (firsts_from K W (size_in key) (firsts_in (length K.first_nodes) key)) (judged_in K W (length l - 1) (marks_in key)).marks p (omega arith)
+          encoded_letter (length l) (drop (length l - K.width) l) (firsts_from K W (size_in key) (firsts_in (length K.first_nodes) key)) (unwrap_or (judged_in K W (length l - 1) (marks_in key)) 0) p (omega arith)
           ∙ get_or-drop (length l - K.width) l p 0 in
           subst (HasValues K) (sym i) (after-values K key a k room h (length l - K.width + p) (omega arith))

@@ -8,6 +8,7 @@ use mathlib.Core.Logic.Dec
 use mathlib.Core.List.{List}
 use lib.IntN.{ℤ}
 use lib.ListN.{length}
+use Rattle.std.specs.Prelude.{is_some}
 use Rattle.sizes.specs.Room.{key_size, prepared_size}
 use Rattle.prepare.specs.Key.{size_in, firsts_in, marks_in}
 use Rattle.extend.specs.Step.{Store, letters_after, view_in, judged_in, key_from, SizesFit, Continues, Extends}
@@ -28,7 +29,7 @@ module _ {key : List ℕ} {a : ℕ} {prepared : List ℤ} {fresh : List ℕ} {pr
       lists = x.put ∙ sym y.put
 
       answers : ok ≡ ok'
-      answers = x.finished.answer ∙ ap (λ l. (judged_in K (view_in K key l) (length (letters_after K key a) - 1) (marks_in key)).ok) lists ∙ sym y.finished.answer
+      answers = x.finished.answer ∙ ap (λ l. is_some (judged_in K (view_in K key l) (length (letters_after K key a) - 1) (marks_in key))) lists ∙ sym y.finished.answer
 
       by : (b : Bool) → ok ≡ b → fresh' ≡ fresh''
       by false e = x.finished.kept e ∙ sym (y.finished.kept (sym answers ∙ e))

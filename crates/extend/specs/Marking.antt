@@ -1,7 +1,6 @@
 -- The marks of untils, told one after the other.
-use Rattle.std.specs.Prelude.{ℕ, ◌+◌, ◌*◌, ◌/◌, ◌<◌, Bool, cond}
-use Rattle.extend.specs.Step.{lawful_with}
-use Rattle.extend.specs.declared.judge.Judged.{Judged}
+use Rattle.std.specs.Prelude.{ℕ, ◌+◌, ◌*◌, ◌/◌, ◌<◌, Bool, cond, Option, Some, None}
+use Rattle.extend.specs.Step.{unlawful, lawful_with}
 use Rattle.extend.specs.declared.judge.Marking.{Marking}
 
 abbrev pub begun : ℕ → Marking
@@ -15,5 +14,6 @@ abbrev pub IsSmall : Marking → Type 0
 IsSmall m = (m.told < m.weight) × (m.weight < 4294967296)
 
 -- the answer for what comes later, with what is told before its marks
-abbrev pub marks_joined : Marking → Judged → Judged
-marks_joined m r = cond r.ok (lawful_with (m.told + m.weight * r.marks)) r
+abbrev pub marks_joined : Marking → Option ℕ → Option ℕ
+marks_joined m None = unlawful
+marks_joined m (Some marks) = lawful_with (m.told + m.weight * marks)

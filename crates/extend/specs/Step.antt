@@ -1,6 +1,6 @@
 -- One more letter after the record of a key, over stored nodes: whether the longer record is lawful, and its key. "Lawful", "letter", "first"
 -- and "until" are document 01's terms. These functions can be run; the crate's laws say that they agree with `lawful` and `key_of`.
-use Rattle.std.specs.Prelude.{ℕ, zero, suc, ◌+◌, ◌-◌, ◌*◌, ◌/◌, ◌≤◌, ◌<◌, min, ◌≡◌, Bool, true, false, cond, ◌||◌, List, [], ◌∷◌, ◌++◌, map, leb, ltb, eqb, ℤ, length, get_or, take, drop}
+use Rattle.std.specs.Prelude.{ℕ, zero, suc, ◌+◌, ◌-◌, ◌*◌, ◌/◌, ◌≤◌, ◌<◌, min, ◌≡◌, Bool, true, false, cond, ◌||◌, List, [], ◌∷◌, ◌++◌, map, leb, ltb, eqb, ℤ, length, get_or, take, drop, Option, Some, None, is_some, unwrap_or}
 use Rattle.sheet.specs.Refusal.{stream_bound, constraint_bound, first_bound, window_bound}
 use Rattle.meaning.specs.Value.{Value, truth}
 use Rattle.meaning.specs.Expression.{holds}
@@ -11,7 +11,6 @@ use Rattle.sides.specs.Mark.{odd}
 use Rattle.sizes.specs.Room.{key_size, window_room, prepared_size}
 use Rattle.prepare.specs.Key.{encoded_key, raised, lowered, digit, size_in, letters_in, firsts_in, marks_in}
 use Rattle.prepare.specs.Prepared.{window_of, Prepared, with_letter_after}
-use Rattle.extend.specs.declared.judge.Judged.{Judged}
 
 -- A stored sheet: its nodes; for each constraint its relation and the last nodes of its sides; the node of each `first`; the values of every
 -- letter, letter after letter; how many streams there are; D; and D+B.
@@ -42,15 +41,17 @@ store_of kinds values starts relations lefts rights first_nodes letter_values st
 
 -- ---- constraints, judged at one time
 
-abbrev pub unlawful : Judged
-unlawful = record { ok = false; marks = 0 }
+-- Whether a lawful record stays lawful, and the marks of the untils that are done then.
+abbrev pub unlawful : Option ℕ
+unlawful = None
 
-abbrev pub lawful_with : ℕ → Judged
-lawful_with m = record { ok = true; marks = m }
+abbrev pub lawful_with : ℕ → Option ℕ
+lawful_with m = Some m
 
 -- the answer for what comes later, with a digit before its marks
-abbrev pub with_digit : Bool → Judged → Judged
-with_digit b r = cond r.ok (lawful_with (digit b + 2 * r.marks)) r
+abbrev pub with_digit : Bool → Option ℕ → Option ℕ
+with_digit b None = unlawful
+with_digit b (Some marks) = lawful_with (digit b + 2 * marks)
 
 -- `value` has the value of a node. The next n constraints from the one numbered j on are judged; `marks` are those of their untils so far. The
 -- answer has the marks afterwards.
@@ -65,7 +66,7 @@ module _ (relations lefts rights : List ℕ) (value : ℕ → Value) where
   abbrev pub sign_holds : ℕ → Bool
   sign_holds j = holds (sign_at (get_or relations j 0)) (value (get_or lefts j 0)) (value (get_or rights j 0))
 
-  unfoldable pub judged_from : ℕ → ℕ → ℕ → Judged
+  unfoldable pub judged_from : ℕ → ℕ → ℕ → Option ℕ
   judged_from j zero marks = lawful_with 0
   judged_from j (suc n) marks =
       cond (eqb (get_or relations j 0) 7)
@@ -90,7 +91,7 @@ module _ (K : Store) where
   value_at W place node = value_in (node_value K.nodes W node place)
 
   -- The time newly judged is D letters back; there is none before D letters are there. `known` is how many letters of the record are there.
-  abbrev pub judged_in : View → ℕ → ℕ → Judged
+  abbrev pub judged_in : View → ℕ → ℕ → Option ℕ
   judged_in W known marks =
       cond (leb K.ahead known)
       (judged_from K.relations K.lefts K.rights (value_at W (known - K.ahead)) 0 (length K.relations) marks)
@@ -104,9 +105,9 @@ module _ (K : Store) where
   -- `letters` are those of the key and the new one. The longer record's key holds the last D+B of them.
   abbrev pub key_from : View → ℕ → List ℕ → ℕ → List ℕ → List ℕ
   key_from W size letters marks numbers =
-      encoded_key (length letters) (drop (length letters - K.width) letters) (firsts_from W size numbers) (judged_in W (length letters - 1) marks).marks
+      encoded_key (length letters) (drop (length letters - K.width) letters) (firsts_from W size numbers) (unwrap_or (judged_in W (length letters - 1) marks) 0)
 
-  unfoldable pub judged_after : List ℕ → ℕ → Judged
+  unfoldable pub judged_after : List ℕ → ℕ → Option ℕ
   judged_after key a = judged_in (view_after K key a) (length (letters_after K key a) - 1) (marks_in key)
 
   unfoldable pub key_after : List ℕ → ℕ → List ℕ
@@ -159,13 +160,13 @@ PreparedFor K key prepared = Prepared K.letter_values K.streams K.width (length 
 
 -- The answer for these letters, values, marks and numbers of firsts; `fresh` becomes the longer record's key if the answer is yes, and stays if it is no.
 pub record Finished (K : Store) (W : View) (size : ℕ) (letters : List ℕ) (marks : ℕ) (numbers fresh : List ℕ) (ok : Bool) (fresh' : List ℕ) : Type 0 where
-  pub answer : ok ≡ (judged_in K W (length letters - 1) marks).ok
+  pub answer : ok ≡ is_some (judged_in K W (length letters - 1) marks)
   pub new : ok ≡ true → fresh' ≡ key_from K W size letters marks numbers
   pub kept : ok ≡ false → fresh' ≡ fresh
 
 -- The answer and the key that one more letter leads to.
 pub record Extended (K : Store) (key : List ℕ) (a : ℕ) (fresh : List ℕ) (ok : Bool) (fresh' : List ℕ) : Type 0 where
-  pub answer : ok ≡ (judged_after K key a).ok
+  pub answer : ok ≡ is_some (judged_after K key a)
   pub new : ok ≡ true → fresh' ≡ key_after K key a
   pub kept : ok ≡ false → fresh' ≡ fresh
 

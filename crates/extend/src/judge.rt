@@ -2,15 +2,8 @@
 ghost use Rattle.std.specs.Prelude.{◌≡◌, ◌<◌, ◌≤◌, length};
 ghost use Rattle.nodes.specs.Bounded.{value_in};
 ghost use Rattle.nodes.specs.Evaluate.{stored, view, node_value};
-ghost use Rattle.extend.specs.Step.{unlawful, judged_from};
+ghost use Rattle.extend.specs.Step.{judged_from};
 ghost use Rattle.extend.specs.Marking.{IsSmall, begun, grown};
-
-// Whether a lawful record stays lawful, and the marks of the untils that are done then.
-#[derive(Clone, Copy)]
-pub struct Judged {
-    pub ok: bool,
-    pub marks: u32,
-}
 
 // The marks that are told so far, what the next one counts for, and the marks of the untils that are still to be judged.
 #[derive(Clone, Copy)]
@@ -44,16 +37,7 @@ fn mark_on(m: Marking, done: bool) -> Marking
     }
 }
 
-fn unlawful() -> Judged
-    ensures { result ≡ unlawful }
-{
-    Judged {
-        ok: false,
-        marks: 0,
-    }
-}
-
-// Judges every constraint once, in order, at a place of the window.
+// Judges every constraint once, in order, at a place of the window: the marks of the untils that are done then, if a lawful record stays lawful.
 pub fn judge(
     kinds: &[u8; 1024],
     values: &[i64; 1024],
@@ -67,38 +51,38 @@ pub fn judge(
     place: usize,
     whole: bool,
     marks: u32,
-) -> Judged
+) -> Option<u32>
     requires { (length lefts.now ≡ length relations.now) × (length rights.now ≡ length relations.now) × (length relations.now ≤ 32) }
     ensures { result ≡ judged_from relations.now lefts.now rights.now (λ node. value_in (node_value (stored kinds.now values.now starts.now) (view window.now streams firsts.now whole) node place)) 0 (length relations.now) marks }
 {
     let mut marking = begin(marks);
-    let mut j = 0;
-    while j < relations.len() {
-        let relation = relations[j];
+    for (j, &relation) in relations.iter().enumerate() {
         let left = lefts[j] as usize;
         let right = rights[j] as usize;
         if relation == nodes::UNTIL_RELATION {
-            let rest = marking.rest;
             let done = sides::is_done(
-                kinds, values, starts, right, window, streams, firsts, place, whole, rest,
+                kinds,
+                values,
+                starts,
+                right,
+                window,
+                streams,
+                firsts,
+                place,
+                whole,
+                marking.rest,
             );
             if !sides::is_permitted(
                 kinds, values, starts, left, window, streams, firsts, place, whole, done,
             ) {
-                return unlawful();
+                return None;
             }
             marking = mark_on(marking, done);
-        } else {
-            if !sides::sides_hold(
-                kinds, values, starts, relation, left, right, window, streams, firsts, place, whole,
-            ) {
-                return unlawful();
-            }
+        } else if !sides::sides_hold(
+            kinds, values, starts, relation, left, right, window, streams, firsts, place, whole,
+        ) {
+            return None;
         }
-        j += 1;
     }
-    Judged {
-        ok: true,
-        marks: marking.told as u32,
-    }
+    Some(marking.told as u32)
 }

@@ -23,7 +23,7 @@ pub fn write_key(
     requires { (length key.old ≡ key_size) × (count ≤ window_bound) × (length firsts.now ≤ first_bound) × (0 < count → count ≡ length letters.now + 1) × (count ≡ 0 → length letters.now ≡ 0) }
     ensures { key.new ≡ encoded_key size (take count (letters.now ++ (letter ∷ []))) firsts.now marks }
 {
-    basics::fill(key, 0);
+    key.fill(0);
     basics::put(key, 1, letters);
     if count != 0 {
         key[count] = letter;
@@ -48,12 +48,17 @@ pub fn raise_all(
     requires { length first_nodes.now ≤ length numbers.old }
     ensures { take (length first_nodes.now) numbers.new ≡ map (λ node. raised (value_in (node_value (stored kinds.now values.now starts.now) (view window.now streams firsts.now whole) node 0))) first_nodes.now }
 {
-    let mut i = 0;
-    while i < first_nodes.len() {
-        let node = first_nodes[i] as usize;
+    for (i, &node) in first_nodes.iter().enumerate() {
         numbers[i] = raised(evaluate(
-            kinds, values, starts, node, window, streams, firsts, 0, whole,
+            kinds,
+            values,
+            starts,
+            node as usize,
+            window,
+            streams,
+            firsts,
+            0,
+            whole,
         ));
-        i += 1;
     }
 }

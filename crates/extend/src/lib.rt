@@ -13,8 +13,7 @@ ghost use Rattle.sizes.specs.Room.{key_size};
 ghost use Rattle.prepare.specs.Key.{raised};
 ghost use Rattle.extend.specs.Step.{lawful_with, judged_from, store_of, IsReady, Finished, SizesFit, Extends};
 
-use basics::fewer;
-use judge::{Judged, judge};
+use judge::judge;
 use keys::{raise_all, write_key};
 use prepare::{Dimensions, add_letter};
 use sizes::{
@@ -37,12 +36,12 @@ fn judge_letter(
     ahead: usize,
     whole: bool,
     marks: u32,
-) -> Judged
+) -> Option<u32>
     requires { (length lefts.now ≡ length relations.now) × (length rights.now ≡ length relations.now) × (length relations.now ≤ 32) }
     ensures { result ≡ cond (leb ahead held) (judged_from relations.now lefts.now rights.now (λ node. value_in (node_value (stored kinds.now values.now starts.now) (view window.now streams firsts.now whole) node (held - ahead))) 0 (length relations.now) marks) (lawful_with marks) }
 {
     if held < ahead {
-        return Judged { ok: true, marks };
+        return Some(marks);
     }
     judge(
         kinds,
@@ -128,7 +127,7 @@ fn finish(
     let width = dimensions.width;
     let held = letters.len();
     let whole = size <= width;
-    let judged = judge_letter(
+    let Some(told) = judge_letter(
         kinds,
         values,
         starts,
@@ -142,10 +141,9 @@ fn finish(
         dimensions.ahead,
         whole,
         marks,
-    );
-    if !judged.ok {
+    ) else {
         return false;
-    }
+    };
     let mut numbers = [0u32; FIRST_BOUND];
     let filled = firsts_after(
         kinds,
@@ -162,9 +160,8 @@ fn finish(
         &mut numbers,
     );
     let count = held + 1;
-    let kept = fewer(count, width);
-    let from = fewer(count - kept, held);
-    let told = judged.marks;
+    let kept = count.min(width);
+    let from = (count - kept).min(held);
     write_key(
         fresh,
         count as u32,
@@ -181,16 +178,7 @@ fn finish(
 fn has_sizes(key: usize, prepared: usize, fresh: usize) -> bool
     ensures { Says result (SizesFit key prepared fresh) }
 {
-    if key != KEY_SIZE {
-        return false;
-    }
-    if prepared != PREPARED_SIZE {
-        return false;
-    }
-    if fresh != KEY_SIZE {
-        return false;
-    }
-    true
+    key == KEY_SIZE && prepared == PREPARED_SIZE && fresh == KEY_SIZE
 }
 
 // The dimensions within the bounds.
@@ -198,9 +186,9 @@ fn bounded(dimensions: Dimensions) -> Dimensions
     ensures { (result.streams ≡ min dimensions.streams stream_bound) × (result.ahead ≡ dimensions.ahead) × (result.width ≡ min dimensions.width window_bound) }
 {
     Dimensions {
-        streams: fewer(dimensions.streams, STREAM_BOUND),
+        streams: dimensions.streams.min(STREAM_BOUND),
         ahead: dimensions.ahead,
-        width: fewer(dimensions.width, WINDOW_BOUND),
+        width: dimensions.width.min(WINDOW_BOUND),
     }
 }
 
@@ -229,13 +217,13 @@ pub fn extend(
     }
     let few = bounded(dimensions);
     let streams = few.streams;
-    let count = fewer(
-        fewer(relations.len(), CONSTRAINT_BOUND),
-        fewer(lefts.len(), rights.len()),
-    );
-    let firsts_count = fewer(first_nodes.len(), FIRST_BOUND);
+    let count = relations
+        .len()
+        .min(CONSTRAINT_BOUND)
+        .min(lefts.len().min(rights.len()));
+    let firsts_count = first_nodes.len().min(FIRST_BOUND);
     let size = key[0] as usize;
-    let held = fewer(size, few.width);
+    let held = size.min(few.width);
     add_letter(prepared, letter_values, streams, held, letter);
     let letters_end = held + 1;
     let window_end = letters_end * streams;

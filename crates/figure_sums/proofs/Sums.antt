@@ -1,12 +1,9 @@
 -- Sums over letters, and cut sums of a row. By induction over the letters.
 use mathlib.Core.Path.{◌≡◌, refl}
-use Prim.Native.Nat.{ℕ, zero, suc, ◌+◌, ◌≤◌, ◌<◌, min}
+use Prim.Native.Nat.{ℕ, zero, suc, ◌≤◌, ◌<◌, min}
 use native.Mathlib.Omega.{arith}
 use native.Mathlib.Decide.{ℕ_discrete}
-use native.Mathlib.Numerals.{add-one}
-use mathlib.Core.List.{List}
-use lib.ListN.{get_or}
-use Rattle.figure_sums.specs.Sums.{letter_sum, figure_cut, row_sum}
+use Rattle.figure_sums.specs.Sums.{letter_sum, figure_cut}
 
 pub sum_same : (m : ℕ) (f g : ℕ → ℕ) → ((a : ℕ) → a < m → f a ≡ g a) → letter_sum m f ≡ letter_sum m g
 sum_same zero f g h = refl
@@ -24,7 +21,3 @@ sum-cut (suc m) f = let again = sum-cut m f in omega arith
 pub sum-part : (m : ℕ) (f : ℕ → ℕ) (a : ℕ) → a < m → f a ≤ letter_sum m f
 sum-part zero f a h = absurd (omega arith)
 sum-part (suc m) f a h = elim (ℕ_discrete a m) [ yes e ↦ rw e (omega arith) | no e ↦ let again = sum-part m f a (omega arith) in omega arith ]
-
--- One letter more of a row.
-pub row-sum-more : (row counts : List ℕ) (m : ℕ) {sum more r : ℕ} → sum ≡ row_sum row counts m → more ≡ get_or counts (get_or row m 0) 0 → r ≡ min (sum + more) figure_cut → r ≡ row_sum row counts (m + 1)
-row-sum-more row counts m s e p = rw add-one (omega (arith, s, e, p))

@@ -18,17 +18,11 @@ pub struct RowSums {
     pub ending: u64,
 }
 
-// The sum of two numbers, cut. Tested by a difference, since the sum can be too large.
+// The sum of two numbers, cut. The sum itself can be too large, and stays at the top of its type then.
 fn add_cut(sum: u64, more: u64) -> u64
     ensures { result ≡ min (sum + more) figure_cut }
 {
-    if FIGURE_CUT <= sum {
-        return FIGURE_CUT;
-    }
-    if FIGURE_CUT - sum <= more {
-        return FIGURE_CUT;
-    }
-    sum + more
+    sum.saturating_add(more).min(FIGURE_CUT)
 }
 
 // The number of the row that an entry names; 0 where it names none.
@@ -36,10 +30,7 @@ fn count_at(counts: &[u64], entry: u16) -> u64
     ensures { result ≡ get_or counts.now entry 0 }
 {
     let row = entry as usize;
-    if row < counts.len() {
-        return counts[row];
-    }
-    0
+    if row < counts.len() { counts[row] } else { 0 }
 }
 
 // The sums over the letters of a row.
@@ -48,36 +39,23 @@ pub fn row_sums(row: &[u16], counts: &[u64], final_counts: &[u64]) -> RowSums
 {
     let mut all: u64 = 0;
     let mut ending: u64 = 0;
-    let mut letter = 0;
-    while letter < row.len() {
-        let next = row[letter];
-        all = add_cut(all, count_at(counts, next));
-        ending = add_cut(ending, count_at(final_counts, next));
-        letter += 1;
+    for next in row {
+        all = add_cut(all, count_at(counts, *next));
+        ending = add_cut(ending, count_at(final_counts, *next));
     }
-    RowSums {
-        all: all,
-        ending: ending,
-    }
+    RowSums { all, ending }
 }
 
 // One record of no letters from a final row, and none from another.
 pub fn final_count(is_final: u8) -> u64
     ensures { result ≡ cond (eqb is_final 1) 1 0 }
 {
-    if is_final == 1 { 1 } else { 0 }
+    u64::from(is_final == 1)
 }
 
 // Whether no figure is above the highest.
 pub fn are_bounded(figures: &[u64]) -> bool
     ensures { Says result (AreBounded figures.now) }
 {
-    let mut i = 0;
-    while i < figures.len() {
-        if HIGHEST_FIGURE < figures[i] {
-            return false;
-        }
-        i += 1;
-    }
-    true
+    figures.iter().all(|figure| *figure <= HIGHEST_FIGURE)
 }

@@ -18,7 +18,7 @@ use Rattle.record_names.proofs.Plain.{plain_run}
 use Rattle.first_line.specs.declared.NumberPhase.{NumberPhase}
 use Rattle.first_line.specs.declared.NumberPhase.TheVariants.{Start, Zero, Digits, Ended, NoNumber}
 use Rattle.first_line.specs.declared.NumberState.{NumberState}
-use Rattle.first_line.specs.declared.LineNumber.{LineNumber}
+use Rattle.std.specs.Prelude.{Option as MachineOption}
 use Rattle.first_line.specs.Input.{one_natural, number_in}
 use Rattle.first_line.specs.Machine.{phase_byte, phase_end, cut_number, number_from, number_byte, number_end, line_of, number_line_start, number_line_byte, told_number, found_in, state_number, number_line_end}
 
@@ -93,7 +93,7 @@ state-after (b ∷ l) p v = state-after l (phase_byte p b) (cut_number (v * 10 +
 
 -- ---- the tokens of a line
 
-found : NumberState → LineNumber
+found : NumberState → MachineOption ℕ
 found s = found_in s.phase s.value
 
 abbrev read : NumberState → List Token → NumberState

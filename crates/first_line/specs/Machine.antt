@@ -1,6 +1,6 @@
 -- What is kept of an input whose bytes come one by one, in chunks of any size: of the line its number so far, and of the bytes behind it as many as decide
 -- the sheet's answer.
-use Rattle.std.specs.Prelude.{ℕ, ◌+◌, ◌*◌, ◌-◌, min, Bool, true, false, not, cond, ◌||◌, List, eqb, ltb, length, set}
+use Rattle.std.specs.Prelude.{Option as MachineOption, Some, None, is_some, ℕ, ◌+◌, ◌*◌, ◌-◌, min, Bool, true, false, not, cond, ◌||◌, List, eqb, ltb, length, set}
 use Rattle.std.proofs.Math.Option.{Option, none, some}
 use Rattle.text.specs.Bytes.{class_of}
 use Rattle.text.specs.Token.{is_digit}
@@ -10,7 +10,6 @@ use Rattle.first_line.specs.declared.NumberPhase.{NumberPhase}
 use Rattle.first_line.specs.declared.NumberPhase.TheVariants.{Start, Zero, Digits, Ended, NoNumber}
 use Rattle.first_line.specs.declared.NumberState.{NumberState}
 use Rattle.first_line.specs.declared.NumberLine.{NumberLine}
-use Rattle.first_line.specs.declared.LineNumber.{LineNumber}
 use Rattle.first_line.specs.declared.Taken.{Taken}
 
 -- ---- the number
@@ -60,29 +59,29 @@ number_line_start = record { barred = false; begun = false; number = number_from
 unfoldable pub number_line_byte : NumberLine → ℕ → NumberLine
 number_line_byte s b = line_of (s.barred || not (is_plain b)) (class_byte number_byte number_end (class_of b) (reading_of_line s) b)
 
--- A number as it is told: whether there is one, and the number, cut.
-abbrev pub told_number : Option ℕ → LineNumber
-told_number none = record { found = false; value = 0 }
-told_number (some n) = record { found = true; value = cut_number n }
+-- A number as it is told: the number, cut, if there is one.
+abbrev pub told_number : Option ℕ → MachineOption ℕ
+told_number none = None
+told_number (some n) = Some (cut_number n)
 
-abbrev pub found_in : NumberPhase → ℕ → LineNumber
-found_in Start v = told_number none
-found_in Zero v = told_number none
-found_in Digits v = told_number none
-found_in Ended v = record { found = true; value = v }
-found_in NoNumber v = told_number none
+abbrev pub found_in : NumberPhase → ℕ → MachineOption ℕ
+found_in Start v = None
+found_in Zero v = None
+found_in Digits v = None
+found_in Ended v = Some v
+found_in NoNumber v = None
 
-abbrev pub state_number : Bool → NumberState → LineNumber
-state_number barred s = cond barred (told_number none) (found_in s.phase s.value)
+abbrev pub state_number : Bool → NumberState → MachineOption ℕ
+state_number barred s = cond barred None (found_in s.phase s.value)
 
-unfoldable pub number_line_end : NumberLine → LineNumber
+unfoldable pub number_line_end : NumberLine → MachineOption ℕ
 number_line_end s = state_number s.barred (end_token number_byte number_end s.begun s.number)
 
 -- ---- the refusal
 
 -- The line's 3 among the sheet's numbers, behind 1 and 2; 0 where neither refuses.
-abbrev pub early_refusal : (found : Bool) (refusal : ℕ) → ℕ
-early_refusal found refusal = cond (eqb refusal 1) 1 (cond (eqb refusal 2) 2 (cond found refusal 3))
+abbrev pub early_refusal : (number : MachineOption ℕ) (refusal : ℕ) → ℕ
+early_refusal number refusal = cond (eqb refusal 1) 1 (cond (eqb refusal 2) 2 (cond (is_some number) refusal 3))
 
 -- ---- the input
 

@@ -2,15 +2,12 @@
 // line of any length takes the same memory; of the sheet as many bytes are kept as lent bytes have room for.
 #![tactic(auto)]
 
-ghost use Rattle.std.specs.Prelude.{◌≡◌, cond, ◌+◌, ◌-◌, ◌*◌};
-ghost use Rattle.std.proofs.Math.Option.{none};
+ghost use Rattle.std.specs.Prelude.{◌≡◌, true, cond, ◌+◌, ◌-◌, ◌*◌};
 ghost use Rattle.text.specs.Fold.{run_bytes};
-ghost use Rattle.first_line.specs.Machine.{first_digit, phase_byte, phase_end, cut_number, number_byte, number_end, number_line_byte, told_number, found_in, number_line_end, keeping, keep_byte, taken_start, early_refusal};
-
-use basics::either;
+ghost use Rattle.first_line.specs.Machine.{first_digit, phase_byte, phase_end, cut_number, number_byte, number_end, number_line_byte, found_in, number_line_end, keeping, keep_byte, taken_start, store_byte, early_refusal};
 
 // What the bytes of the line are so far: no token yet, `0` alone, digits, one number that has ended, or no number alone.
-#[derive(Clone, Copy)]
+#[derive(Clone, Copy, PartialEq, Eq)]
 pub enum NumberPhase {
     Start,
     Zero,
@@ -34,13 +31,6 @@ pub struct NumberLine {
     pub number: NumberState,
 }
 
-// Whether the line is a number, and the number, cut at 65, or 0.
-#[derive(Clone, Copy)]
-pub struct LineNumber {
-    pub found: bool,
-    pub value: u32,
-}
-
 // What is kept of an input: the line, whether it has ended, and how many of the lent bytes hold bytes of the sheet.
 #[derive(Clone, Copy)]
 pub struct Taken {
@@ -53,18 +43,20 @@ fn digit_phase(byte: u8) -> NumberPhase
     ensures { result ≡ phase_byte NumberPhase.Digits byte }
 {
     if integer_bytes::is_digit(byte) {
-        return NumberPhase::Digits;
+        NumberPhase::Digits
+    } else {
+        NumberPhase::NoNumber
     }
-    NumberPhase::NoNumber
 }
 
 fn first_digit(byte: u8) -> NumberPhase
     ensures { result ≡ first_digit byte }
 {
-    if byte == 48 {
-        return NumberPhase::Zero;
+    if byte == b'0' {
+        NumberPhase::Zero
+    } else {
+        digit_phase(byte)
     }
-    digit_phase(byte)
 }
 
 // "digits [..]; a leading zero stands only in `0`", and one token alone.
@@ -73,10 +65,8 @@ fn phase_byte(phase: NumberPhase, byte: u8) -> NumberPhase
 {
     match phase {
         NumberPhase::Start => first_digit(byte),
-        NumberPhase::Zero => NumberPhase::NoNumber,
         NumberPhase::Digits => digit_phase(byte),
-        NumberPhase::Ended => NumberPhase::NoNumber,
-        NumberPhase::NoNumber => NumberPhase::NoNumber,
+        NumberPhase::Zero | NumberPhase::Ended | NumberPhase::NoNumber => NumberPhase::NoNumber,
     }
 }
 
@@ -84,11 +74,8 @@ fn phase_end(phase: NumberPhase) -> NumberPhase
     ensures { result ≡ phase_end phase }
 {
     match phase {
-        NumberPhase::Start => NumberPhase::NoNumber,
-        NumberPhase::Zero => NumberPhase::Ended,
-        NumberPhase::Digits => NumberPhase::Ended,
-        NumberPhase::Ended => NumberPhase::NoNumber,
-        NumberPhase::NoNumber => NumberPhase::NoNumber,
+        NumberPhase::Zero | NumberPhase::Digits => NumberPhase::Ended,
+        NumberPhase::Start | NumberPhase::Ended | NumberPhase::NoNumber => NumberPhase::NoNumber,
     }
 }
 
@@ -96,19 +83,15 @@ fn phase_end(phase: NumberPhase) -> NumberPhase
 fn next_value(value: u32, byte: u8) -> u32
     ensures { result ≡ cut_number (value * 10 + (byte - 48)) }
 {
-    let next = (value as u64) * 10 + integer_bytes::digit(byte);
-    if next <= 65 {
-        return next as u32;
-    }
-    65
+    let next = u64::from(value) * 10 + integer_bytes::digit(byte);
+    next.min(65) as u32
 }
 
 fn number_byte(number: NumberState, byte: u8) -> NumberState
     ensures { result ≡ number_byte number byte }
 {
-    let phase = number.phase;
     NumberState {
-        phase: phase_byte(phase, byte),
+        phase: phase_byte(number.phase, byte),
         value: next_value(number.value, byte),
     }
 }
@@ -116,10 +99,9 @@ fn number_byte(number: NumberState, byte: u8) -> NumberState
 fn number_end(number: NumberState) -> NumberState
     ensures { result ≡ number_end number }
 {
-    let phase = number.phase;
     NumberState {
-        phase: phase_end(phase),
-        value: number.value,
+        phase: phase_end(number.phase),
+        ..number
     }
 }
 
@@ -127,10 +109,7 @@ fn number_end(number: NumberState) -> NumberState
 fn end_number(begun: bool, number: NumberState) -> NumberState
     ensures { result ≡ cond begun (number_end number) number }
 {
-    if begun {
-        return number_end(number);
-    }
-    number
+    if begun { number_end(number) } else { number }
 }
 
 // The line with one byte more. A bracket is a token by itself, and a byte that is in no token ends the one that is begun.
@@ -138,10 +117,10 @@ fn line_byte(line: NumberLine, byte: u8) -> NumberLine
     ensures { result ≡ number_line_byte line byte }
 {
     let number = line.number;
-    let barred = either(line.barred, !record_names::is_plain(byte));
+    let barred = line.barred | !record_names::is_plain(byte);
     if scan::is_inside(byte) {
         return NumberLine {
-            barred: barred,
+            barred,
             begun: true,
             number: number_byte(number, byte),
         };
@@ -149,39 +128,25 @@ fn line_byte(line: NumberLine, byte: u8) -> NumberLine
     let ended = end_number(line.begun, number);
     if text::is_bracket(byte) {
         return NumberLine {
-            barred: barred,
+            barred,
             begun: false,
             number: number_end(number_byte(ended, byte)),
         };
     }
     NumberLine {
-        barred: barred,
+        barred,
         begun: false,
         number: ended,
     }
 }
 
-fn no_number() -> LineNumber
-    ensures { result ≡ told_number none }
-{
-    LineNumber {
-        found: false,
-        value: 0,
-    }
-}
-
-fn found_in(phase: NumberPhase, value: u32) -> LineNumber
+fn found_in(phase: NumberPhase, value: u32) -> Option<u32>
     ensures { result ≡ found_in phase value }
 {
-    match phase {
-        NumberPhase::Start => no_number(),
-        NumberPhase::Zero => no_number(),
-        NumberPhase::Digits => no_number(),
-        NumberPhase::Ended => LineNumber {
-            found: true,
-            value: value,
-        },
-        NumberPhase::NoNumber => no_number(),
+    if phase == NumberPhase::Ended {
+        Some(value)
+    } else {
+        None
     }
 }
 
@@ -203,34 +168,37 @@ pub fn take_start() -> Taken
     }
 }
 
+// A byte behind the line, which is kept where there is room.
+fn store_byte(taken: Taken, byte: u8, sheet: &mut [u8]) -> Taken
+    requires { taken.behind ≡ true }
+    ensures { keeping result sheet.new ≡ store_byte (keeping taken sheet.old) byte }
+{
+    if sheet.len() <= taken.size {
+        return taken;
+    }
+    sheet[taken.size] = byte;
+    Taken {
+        size: taken.size + 1,
+        ..taken
+    }
+}
+
 // One byte of an input.
 fn take_byte(taken: Taken, byte: u8, sheet: &mut [u8]) -> Taken
     ensures { keeping result sheet.new ≡ keep_byte (keeping taken sheet.old) byte }
 {
-    let line = taken.line;
-    let size = taken.size;
     if taken.behind {
-        if size < sheet.len() {
-            sheet[size] = byte;
-            return Taken {
-                line: line,
-                behind: true,
-                size: size + 1,
-            };
-        }
-        return taken;
+        return store_byte(taken, byte, sheet);
     }
-    if byte == 10 {
+    if byte == b'\n' {
         return Taken {
-            line: line,
             behind: true,
-            size: size,
+            ..taken
         };
     }
     Taken {
-        line: line_byte(line, byte),
-        behind: false,
-        size: size,
+        line: line_byte(taken.line, byte),
+        ..taken
     }
 }
 
@@ -239,39 +207,31 @@ pub fn take_chunk(taken: Taken, chunk: &[u8], sheet: &mut [u8]) -> Taken
     ensures { keeping result sheet.new ≡ run_bytes keep_byte (keeping taken sheet.old) chunk.now }
 {
     let mut kept = taken;
-    let mut i = 0;
-    while i < chunk.len() {
-        kept = take_byte(kept, chunk[i], sheet);
-        i += 1;
+    for byte in chunk {
+        kept = take_byte(kept, *byte, sheet);
     }
     kept
 }
 
-// The number of the line, at its byte 10 or at the end of the input.
-pub fn line_number(line: NumberLine) -> LineNumber
+// The number of the line, cut at 65, at its byte 10 or at the end of the input; none where the line is no number.
+#[tactic(auto, unfolding(crate::specs::Machine::number_line_end))]
+pub fn line_number(line: NumberLine) -> Option<u32>
     ensures { result ≡ number_line_end line }
 {
-    let number = line.number;
-    let ended = end_number(line.begun, number);
     if line.barred {
-        return no_number();
+        return None;
     }
-    let phase = ended.phase;
-    found_in(phase, ended.value)
+    let ended = end_number(line.begun, line.number);
+    found_in(ended.phase, ended.value)
 }
 
 // The refusal of a sheet with that of the line before it, 0 for none: "a first line that is no integer from 0 up counts as 3". 1 and 2 come before it.
-pub fn early_refusal(found: bool, refusal: u32) -> u32
-    ensures { result ≡ early_refusal found refusal }
+pub fn early_refusal(number: Option<u32>, refusal: u32) -> u32
+    ensures { result ≡ early_refusal number refusal }
 {
-    if refusal == 1 {
-        return 1;
+    if refusal == 1 || refusal == 2 || number.is_some() {
+        refusal
+    } else {
+        3
     }
-    if refusal == 2 {
-        return 2;
-    }
-    if found {
-        return refusal;
-    }
-    3
 }

@@ -29,7 +29,8 @@ use Rattle.reader.specs.Stored.{stored_sheet, reading_of}
 use Rattle.reader.specs.declared.StoredSheet.{StoredSheet}
 use Rattle.streams.specs.Description.{description_of}
 use Rattle.compiled.specs.Answer.{refused_with, answer_of}
-use Rattle.compiled_sheet.specs.Told.{no_streams, sheet_streams, told_with, told, told_with_play, compiled_in, SheetCall}
+use Rattle.streams.specs.Description.{none_described}
+use Rattle.compiled_sheet.specs.Told.{sheet_streams, told_with, told, told_with_play, compiled_in, SheetCall}
 use Rattle.compiled_sheet.specs.declared.CompiledSheet.{CompiledSheet}
 use Rattle.compiled_sheet.proofs.Told.{numbers_of, told-numbers, play-refused}
 use Rattle.compiled_sheet.proofs.Sheets.{stored_description, stored-streams-fit, letters-told, streams-told, told_fit}
@@ -54,7 +55,7 @@ play-tells : (x : StoredSheet) {r : CompiledSheet} (forced : Bool) → r ≡ tol
 play-tells x {r} forced e = by (eqb r.refusal 0) forced
   where
     prevented : CompiledSheet
-    prevented = told_with (refused_with 16) 0 no_streams
+    prevented = told_with (refused_with 16) 0 none_described
 
     by : (b f : Bool) → cond b (cond f r prevented) r ≡ told x (compiled_in (cond b (cond f r prevented) r))
     by true true = e

@@ -6,7 +6,6 @@ ghost use Rattle.std.specs.Prelude.{length};
 ghost use Rattle.compile.specs.Lent.{room_of, tables_of};
 ghost use Rattle.game.specs.Call.{ForceSheetCall};
 
-use basics::fewer;
 use compiled_sheet::CompiledSheet;
 
 // Compiles a sheet's bytes with a play table: as the compile, with the play table among the lent tables, in the first rows of `play`; or a refusal, and every
@@ -29,8 +28,8 @@ pub fn force(
     let reading = reader::read(text);
     let sheet = reading.sheet;
     let held = choices::rows_held(compiled_sheet::stored_streams(sheet), play.len());
-    let rows = fewer(held, finals.len());
-    basics::clear_bytes(finals, rows);
+    let rows = held.min(finals.len());
+    basics::clear_from(finals, rows, 0);
     let told = compile::compile(
         text,
         entries,

@@ -1,10 +1,10 @@
 -- Descriptions of streams are compared place by place: they have the same streams exactly if these are as many and agree at each place; behind the eight
 -- places that are kept nothing differs. From the definition of a description, by induction over the streams.
-use Prim.Native.Nat.{ℕ, zero, suc, ◌+◌, ◌-◌, ◌*◌, ◌<◌, ◌≤◌, min}
+use Prim.Native.Nat.{ℕ, zero, suc, ◌+◌, ◌*◌, ◌<◌, ◌≤◌, min}
 use native.Mathlib.Omega.{arith}
 use native.Mathlib.Decide.{ℕ_discrete, dec_lt}
 use mathlib.Core.Path.{◌≡◌, refl, sym, ap, ap₂, subst, ◌∙◌}
-use mathlib.Core.Bool.{Bool, true, false, not, cond, true≢false}
+use mathlib.Core.Bool.{Bool, true, false, not, cond}
 use mathlib.Core.List.{◌∷◌, head-eq_of_cons-eq, tail-eq_of_cons-eq}
 use lib.Dec.{eqb}
 use lib.IntN.{ℤ, pos}
@@ -15,33 +15,15 @@ use mir.ValLaws.{to_z-of_z}
 use borrow.Author.Tests.{eq-eqb, ne_eqb, eqb-true, eqb-false}
 use Rattle.basics.specs.Answers.{Says}
 use Rattle.basics.proofs.Answers.{says_either}
-use Rattle.basics.proofs.Tests.{T-of_true, true_of_T}
-use Rattle.text.specs.Token.{same_bytes}
-use Rattle.text.proofs.Token.{same_bytes_reflects}
-use Rattle.basics.proofs.Reflects.{Reflects, from_true, from_false}
-use Rattle.meaning.specs.Value.{equal, compares}
 use Rattle.meaning.specs.Expression.{read_kind, set_kind, absent_stream}
-use Rattle.meaning.proofs.Value.{compares-equal}
 use Rattle.sheet.specs.Names.{name_in}
-use Rattle.arithmetic.proofs.Machine.{held, held_both}
+use Rattle.arithmetic.proofs.Machine.{held}
 use Rattle.streams.specs.Description.{kind_with, stream_in, described_from}
 use Rattle.streams.specs.declared.StreamsDescription.{StreamsDescription}
 use Rattle.streams.proofs.Fit.{streams-length}
-use Rattle.streams.proofs.Names.{name-part}
 use Rattle.given_tables.specs.Given.{SameStreams}
 
 -- ---- the parts of a stream
-
--- numbers that were held in locals are compared
-module _ (a b : ℤ) (fa : SFits w64 a) (fb : SFits w64 b) {r : Bool} (told : r ≡ compares equal (held a) (held b)) where
-  plain : r ≡ compares equal a b
-  plain = told ∙ held_both (compares equal) a b fa fb
-
-  pub end_same : r ≡ true → a ≡ b
-  end_same e = (compares-equal a b).0 (T-of_true (compares equal a b) (sym plain ∙ e))
-
-  pub end-other : r ≡ false → a ≡ b → ⊥
-  end-other e same = true≢false (sym (true_of_T (compares equal a b) ((compares-equal a b).1 same)) ∙ sym plain ∙ e)
 
 -- what holds of numbers that were held holds of the numbers, and the other way round
 pub held_same : (a b : ℤ) → SFits w64 a → SFits w64 b → held a ≡ held b → a ≡ b
@@ -71,18 +53,6 @@ module _ (kind other : ℕ) where
 -- ---- a stream
 
 module _ (a b : StreamsDescription) (k : ℕ) where
-  -- the bytes that are compared are the names
-  pub names-told : {m n : ℕ} → m ≡ min (get_or a.lengths k 0) 8 → n ≡ min (get_or b.lengths k 0) 8 → {r : Bool}
-      → r ≡ same_bytes (take (k * 8 + m - k * 8) (drop (k * 8) a.names)) (take (k * 8 + n - k * 8) (drop (k * 8) b.names))
-      → Says r (name_in a.names a.lengths k ≡ name_in b.names b.lengths k)
-  names-told {m} {n} e d {r} told = says_either r (λ t. from_true compared (sym same ∙ t)) (λ f. from_false compared (sym same ∙ f))
-    where
-      compared : Reflects (name_in a.names a.lengths k ≡ name_in b.names b.lengths k) (same_bytes (name_in a.names a.lengths k) (name_in b.names b.lengths k))
-      compared = same_bytes_reflects (name_in a.names a.lengths k) (name_in b.names b.lengths k)
-
-      same : r ≡ same_bytes (name_in a.names a.lengths k) (name_in b.names b.lengths k)
-      same = told ∙ ap₂ same_bytes (name-part a.names a.lengths k e) (name-part b.names b.lengths k d)
-
   pub stream-same : get_or a.lows k (pos 0) ≡ get_or b.lows k (pos 0) → get_or a.highs k (pos 0) ≡ get_or b.highs k (pos 0)
       → kind_with (get_or a.kinds k 0) ≡ kind_with (get_or b.kinds k 0) → name_in a.names a.lengths k ≡ name_in b.names b.lengths k → stream_in a k ≡ stream_in b k
   stream-same low high kind name = λ i. record { name = name i; kind = kind i; range = record { low = low i; high = high i } }
@@ -126,8 +96,8 @@ module _ (a b : StreamsDescription) where
   pub other-count : (a.count ≡ b.count → ⊥) → SameStreams a b → ⊥
   other-count n e = n (same_count e)
 
-  pub other-stream : (k : ℕ) → k < a.count → (stream_in a k ≡ stream_in b k → ⊥) → SameStreams a b → ⊥
-  other-stream k h n e = n (same-places 0 a.count (e ∙ ap (described_from b 0) (sym (same_count e))) k (omega arith) (omega arith))
+  pub each-same : SameStreams a b → (k : ℕ) → k < a.count → stream_in a k ≡ stream_in b k
+  each-same e k h = same-places 0 a.count (e ∙ ap (described_from b 0) (sym (same_count e))) k (omega arith) (omega arith)
 
   pub all_same : HasEightPlaces a → HasEightPlaces b → a.count ≡ b.count → ((k : ℕ) → k < min a.count 8 → stream_in a k ≡ stream_in b k) → SameStreams a b
   all_same ea eb c h = places_same 0 a.count (λ i l g. by i g (dec_lt i 8)) ∙ ap (described_from b 0) c

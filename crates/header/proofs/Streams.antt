@@ -5,6 +5,7 @@ use mathlib.Core.Path.{◌≡◌, refl, sym, ap, ap₂, ◌∙◌}
 use mathlib.Core.Bool.{Bool, true, false, cond, ◌&&◌, ◌||◌, true≢false, or-false}
 use mathlib.Core.List.{List, [], ◌∷◌, ◌++◌, map, append-nil, append_assoc, map-append}
 use mathlib.Core.Option.{Option, some, none}
+use Rattle.std.specs.Result.{is_err, result_unwrap_or}
 use native.Mathlib.Omega.{arith}
 use lib.Dec.{eqb}
 use lib.IntN.{ℤ, pos}
@@ -25,9 +26,8 @@ use Rattle.sheet.specs.Parser.{and_then}
 use Rattle.sheet.specs.Reading.{any_of, is_beyond, is_range_faulty, stream_from, streams_from}
 use Rattle.sheet.proofs.Names.{name-short}
 use Rattle.scan.specs.Place.{between, TokenAt, no_token, a_token}
-use Rattle.scan.specs.Integer.{integer_read}
+use Rattle.scan.specs.Integer.{IntegerRead, no_integer, integer_read}
 use Rattle.scan.specs.declared.Span.{Span}
-use Rattle.scan.specs.declared.IntegerRead.{IntegerRead}
 use Rattle.scan.proofs.Tokens.{between_none, token-empty, token-tokens}
 use Rattle.parse.specs.Bounded.{zero_beyond}
 use Rattle.parse.proofs.Leaves.{IsInteger, an_integer, no_integer_lem, integer-fits}
@@ -202,12 +202,6 @@ pub sofar_start : (names lows highs : List ℕ) {tables : StreamTables} → leng
 sofar_start names lows highs h e =
     record { before = []; same = then_some (streams_from (tokens names) (tokens lows) (tokens highs)); number = refl; fault = refl; stored = e; room = refl; few = omega arith }
 
-pub all_true : (a b c : Bool) → (a && b) && c ≡ true → (a ≡ true) × (b ≡ true) × (c ≡ true)
-all_true true true true e = (refl, refl, refl)
-all_true true true false e = absurd (true≢false (sym e))
-all_true true false c e = absurd (true≢false (sym e))
-all_true false b c e = absurd (true≢false (sym e))
-
 module _ {names lows highs : List ℕ} {name_at low_at high_at count : ℕ} {faulty : Bool} {tables : StreamTables} (k : SoFar names lows highs name_at low_at high_at count faulty tables)
     {name low high : Span} (name_found : TokenAt names name_at name) (low_found : TokenAt lows low_at low) (high_found : TokenAt highs high_at high) where
   abbrev name_token : Token
@@ -279,44 +273,47 @@ module _ {names lows highs : List ℕ} {name_at low_at high_at count : ℕ} {fau
     no_name h = missing (ap (λ b. b && first_is is_integer (tokens (drop low_at lows)) && first_is is_integer (tokens (drop high_at highs))) h)
 
     module _ (is_aname : is_name name_token ≡ true) where
-      pub no_low : {l : IntegerRead} → l ≡ integer_read low_token → l.ok ≡ false → streams_from (tokens names) (tokens lows) (tokens highs) ≡ none
+      pub no_low : {l : IntegerRead} → l ≡ integer_read low_token → l ≡ no_integer → streams_from (tokens names) (tokens lows) (tokens highs) ≡ none
       no_low p h = missing (ap₂ (λ a b. a && b && first_is is_integer (tokens (drop high_at highs))) is_aname (first-integer low_found ∙ no_integer_lem low_token p h))
 
-      module _ {l : IntegerRead} (low_read : l ≡ integer_read low_token) (low_ok : l.ok ≡ true) where
-        low_integer : IsInteger low_token l.beyond l.value
-        low_integer = an_integer low_token low_read low_ok
+      module _ {l : IntegerRead} (low_read : l ≡ integer_read low_token) (low_some : l ≡ no_integer → ⊥) where
+        low_integer : {b : Bool} {v : ℤ} → b ≡ is_err l → v ≡ result_unwrap_or l (pos 0) → IsInteger low_token b v
+        low_integer = an_integer low_token low_read low_some
 
         low_is : is_integer low_token ≡ true
-        low_is = to_true (T-reflects (is_integer low_token)) low_integer.is
+        low_is = to_true (T-reflects (is_integer low_token)) (low_integer refl refl).is
 
-        pub no_high : {h : IntegerRead} → h ≡ integer_read high_token → h.ok ≡ false → streams_from (tokens names) (tokens lows) (tokens highs) ≡ none
+        pub no_high : {h : IntegerRead} → h ≡ integer_read high_token → h ≡ no_integer → streams_from (tokens names) (tokens lows) (tokens highs) ≡ none
         no_high p h =
             missing
             (ap₂ (λ a b. a && b && first_is is_integer (tokens (drop high_at highs))) is_aname (first-integer low_found ∙ low_is) ∙ (first-integer high_found ∙ no_integer_lem high_token p h))
 
-        module _ {h : IntegerRead} (high_read : h ≡ integer_read high_token) (high_ok : h.ok ≡ true) where
-          high_integer : IsInteger high_token h.beyond h.value
-          high_integer = an_integer high_token high_read high_ok
+        module _ {h : IntegerRead} (high_read : h ≡ integer_read high_token) (high_some : h ≡ no_integer → ⊥) where
+          high_integer : {b : Bool} {v : ℤ} → b ≡ is_err h → v ≡ result_unwrap_or h (pos 0) → IsInteger high_token b v
+          high_integer = an_integer high_token high_read high_some
 
           high_is : is_integer high_token ≡ true
-          high_is = to_true (T-reflects (is_integer high_token)) high_integer.is
+          high_is = to_true (T-reflects (is_integer high_token)) (high_integer refl refl).is
 
           abbrev stream : Stream
           stream = stream_from name_token low_token high_token
 
           -- What is found of a range as stored is what the range is.
-          range-fault : l.beyond || h.beyond || lt_z (held h.value) (held l.value) ≡ is_range_faulty stream
-          range-fault =
-              ap₂ (λ a b. a || b || lt_z (held h.value) (held l.value)) low_integer.far high_integer.far
-              ∙ ap₂ (λ y x. is_beyond (integer_value low_token) || is_beyond (integer_value high_token) || lt_z y x) (stored-value high_integer) (stored-value low_integer)
+          range-fault : {b c : Bool} {v w : ℤ} → IsInteger low_token b v → IsInteger high_token c w → b || c || lt_z (held w) (held v) ≡ is_range_faulty stream
+          range-fault {v = v} {w = w} low_is_integer high_is_integer =
+              ap₂ (λ a b. a || b || lt_z (held w) (held v)) low_is_integer.far high_is_integer.far
+              ∙ ap₂ (λ y x. is_beyond (integer_value low_token) || is_beyond (integer_value high_token) || lt_z y x) (stored-value high_is_integer) (stored-value low_is_integer)
               ∙ stored-order (integer_value low_token) (integer_value high_token) (is_beyond (integer_value low_token)) (is_beyond (integer_value high_token))
 
           -- The stream is stored, and the places are after its tokens.
-          pub sofar_step : {new_names new_lengths : List ℕ} {new_lows new_highs : List ℤ} {new_faulty fault : Bool} → new_names ≡ sets tables.names (count * 8) name_token → new_lengths ≡ set tables.lengths count (length name_token)
-              → new_lows ≡ set tables.lows count (held l.value) → new_highs ≡ set tables.highs count (held h.value) → new_faulty ≡ faulty || fault
-              → fault ≡ l.beyond || h.beyond || lt_z (held h.value) (held l.value)
+          pub sofar_step : {b c : Bool} {v w : ℤ} → b ≡ is_err l → v ≡ result_unwrap_or l (pos 0) → c ≡ is_err h → w ≡ result_unwrap_or h (pos 0)
+              → {new_names new_lengths : List ℕ} {new_lows new_highs : List ℤ} {new_faulty fault : Bool} → new_names ≡ sets tables.names (count * 8) name_token → new_lengths ≡ set tables.lengths count (length name_token)
+              → new_lows ≡ set tables.lows count (held v) → new_highs ≡ set tables.highs count (held w) → new_faulty ≡ faulty || fault
+              → fault ≡ b || c || lt_z (held w) (held v)
               → SoFar names lows highs name.end low.end high.end (count + 1) new_faulty (stream_tables new_names new_lengths new_lows new_highs)
-          sofar_step {new_lows = new_lows} {new_highs = new_highs} en ek el eh ef er =
+          sofar_step {b = lowest_beyond} {c = highest_beyond} {v = lowest} {w = highest} low_far low_value high_far high_value {new_lows = new_lows} {new_highs = new_highs} en ek el eh ef er =
+              let low_is_integer = low_integer low_far low_value in
+              let high_is_integer = high_integer high_far high_value in
               let b = k.before in
               let e = ap length (token-tokens name_found a_name) in
               let few = k.few in
@@ -330,22 +327,12 @@ module _ {names lows highs : List ℕ} {name_at low_at high_at count : ℕ} {fau
                     from-tokens (name_token ∷ later_names) (low_token ∷ later_lows) (high_token ∷ later_highs) (token-tokens name_found a_name) (integer-tokens low_found low_is) (integer-tokens high_found high_is) (streams-more name_token low_token high_token later_names later_lows later_highs is_aname low_is high_is)
                     ∙ then_more (streams_from later_names later_lows later_highs) b stream;
                 number = omega arith;
-                fault = ef ∙ ap₂ (λ x y. x || y) k.fault (er ∙ range-fault ∙ sym (or-false (is_range_faulty stream))) ∙ sym (any_of-append is_range_faulty b (stream ∷ []));
+                fault = ef ∙ ap₂ (λ x y. x || y) k.fault (er ∙ range-fault low_is_integer high_is_integer ∙ sym (or-false (is_range_faulty stream))) ∙ sym (any_of-append is_range_faulty b (stream ∷ []));
                 stored =
                     ap₂ (λ x y. stream_tables x y new_lows new_highs) en ek
-                    ∙ ap₂ (λ x y. stream_tables (sets tables.names (count * 8) name_token) (set tables.lengths count (length name_token)) x y) (el ∙ ap (set tables.lows count) (stored-value low_integer)) (eh ∙ ap (set tables.highs count) (stored-value high_integer))
+                    ∙ ap₂ (λ x y. stream_tables (sets tables.names (count * 8) name_token) (set tables.lengths count (length name_token)) x y) (el ∙ ap (set tables.lows count) (stored-value low_is_integer)) (eh ∙ ap (set tables.highs count) (stored-value high_is_integer))
                     ∙ ap₂ (λ t c. with_stream t c stream) k.stored number
                     ∙ tables_more b stream below k.room short;
                 room = room-more b stream below k.room short;
                 few = omega arith;
               }
-
-    -- One of the three tokens is not of the form.
-    pub no_stream : {n : Bool} {l h : IntegerRead} → n ≡ is_name name_token → l ≡ integer_read low_token → h ≡ integer_read high_token → (n && l.ok) && h.ok ≡ false → streams_from (tokens names) (tokens lows) (tokens highs) ≡ none
-    no_stream {n} {l} {h} en el eh z = by n l.ok h.ok refl refl refl z
-      where
-        by : (a b c : Bool) → n ≡ a → l.ok ≡ b → h.ok ≡ c → (a && b) && c ≡ false → streams_from (tokens names) (tokens lows) (tokens highs) ≡ none
-        by false b c p q r e = no_name (sym en ∙ p)
-        by true false c p q r e = no_low (sym en ∙ p) el q
-        by true true false p q r e = no_high (sym en ∙ p) el q eh r
-        by true true true p q r e = absurd (true≢false e)

@@ -6,7 +6,7 @@ ghost use Rattle.std.proofs.lemmas.List.Edits.{sets};
 ghost use Rattle.text.specs.Bytes.{tokens};
 ghost use Rattle.header.specs.Streams.{stream_tables, no_stream_tables, StreamsOutcome, KindsOutcome, HeaderOutcome};
 
-use basics::{either, fewer};
+use scan::IntegerError;
 
 // Whether the header lines have the form, how many streams they give, and whether a range is refused.
 #[derive(Clone, Copy)]
@@ -40,11 +40,7 @@ fn put_name(names: &mut [u8; 64], lengths: &mut [u8; 8], stream: usize, name: &[
     ensures { (names.new ≡ sets names.old (stream * 8) name.now) × (lengths.new ≡ set lengths.old stream (length name.now)) }
 {
     let from = stream * 8;
-    let mut i = 0;
-    while i < name.len() {
-        names[from + i] = name[i];
-        i += 1;
-    }
+    names[from..from + name.len()].copy_from_slice(name);
     lengths[stream] = name.len() as u8;
 }
 
@@ -67,7 +63,7 @@ fn no_streams() -> StreamsRead
     }
 }
 
-// Reads the three header lines token by token and stores the streams.
+// Reads the three header lines token by token and stores the streams. An end beyond the bound is stored as 0.
 fn read_streams(
     names_line: &[u8],
     lows_line: &[u8],
@@ -99,27 +95,24 @@ fn read_streams(
         if name_start == name_end {
             return StreamsRead {
                 ok: (low_start == low_end) & (high_start == high_end),
-                count: count,
-                faulty: faulty,
+                count,
+                faulty,
             };
         }
         let named = scan::is_name(&names_line[name_start..name_end]);
         let lowest = scan::read_integer(&lows_line[low_start..low_end]);
         let highest = scan::read_integer(&highs_line[high_start..high_end]);
-        if !(named & lowest.ok & highest.ok) {
+        if !named
+            || lowest == Err(IntegerError::NoInteger)
+            || highest == Err(IntegerError::NoInteger)
+        {
             return no_streams();
         }
+        let least = lowest.unwrap_or(0);
+        let most = highest.unwrap_or(0);
         put_name(names, lengths, count, &names_line[name_start..name_end]);
-        put_range(lows, highs, count, lowest.value, highest.value);
-        faulty = either(
-            faulty,
-            lowest_refusal::range_faulty(
-                lowest.beyond,
-                highest.beyond,
-                lowest.value,
-                highest.value,
-            ),
-        );
+        put_range(lows, highs, count, least, most);
+        faulty |= lowest_refusal::range_faulty(lowest.is_err(), highest.is_err(), least, most);
         count += 1;
         name_at = name_end;
         low_at = low_end;
@@ -139,18 +132,14 @@ fn read_kinds(line: &[u8], count: usize, stream_kinds: &mut [u8; 8]) -> bool
     if total != count {
         return false;
     }
-    let mut stream = 0;
     let mut at = 0;
-    while stream < count {
-        let token = scan::next_token(line, at);
-        let start = token.start;
-        let end = token.end;
+    for stream in 0..count {
+        let scan::Span { start, end } = scan::next_token(line, at);
         let kind = vocabulary::stream_kind_code(&line[start..end]);
         if kind == nodes::NO_CODE {
             return false;
         }
         stream_kinds[stream] = kind;
-        stream += 1;
         at = end;
     }
     true
@@ -199,16 +188,16 @@ pub fn read_header(
         &mut highs,
     );
     let mut stream_kinds: [u8; 8] = [0; 8];
-    let said = read_kinds(kinds_line, fewer(streams.count, 8), &mut stream_kinds);
+    let said = read_kinds(kinds_line, streams.count.min(8), &mut stream_kinds);
     HeaderRead {
-        streams: streams,
-        said: said,
+        streams,
+        said,
         arrays: StreamArrays {
-            names: names,
-            lengths: lengths,
-            lows: lows,
-            highs: highs,
-            stream_kinds: stream_kinds,
+            names,
+            lengths,
+            lows,
+            highs,
+            stream_kinds,
         },
     }
 }

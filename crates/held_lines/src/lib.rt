@@ -5,8 +5,6 @@ ghost use Rattle.std.specs.Prelude.{◌≡◌, ◌+◌, ◌^◌, ◌≤◌, ◌<
 ghost use Rattle.letters.specs.Described.{described};
 ghost use Rattle.held_lines.specs.Held.{raised_count, cut_lines, block_lines, blocks_lines, held_lines};
 
-use basics::fewer;
-
 // One more line for a letter; a letter without a place is not counted.
 pub fn raise(counts: &mut [u64], letter: usize)
     ensures { counts.new ≡ raised_count counts.old letter }
@@ -20,20 +18,14 @@ pub fn raise(counts: &mut [u64], letter: usize)
 fn add_lines(a: u64, b: u64) -> u64
     ensures { result ≡ cut_lines (a + b) }
 {
-    if b <= 18446744073709551615 - a {
-        return a + b;
-    }
-    18446744073709551615
+    a.saturating_add(b)
 }
 
 // The count at a place; 0 beyond the list.
 fn count_at(counts: &[u64], at: usize) -> u64
     ensures { result ≡ get_or counts.now at 0 }
 {
-    if at < counts.len() {
-        return counts[at];
-    }
-    0
+    if at < counts.len() { counts[at] } else { 0 }
 }
 
 // The lines of so many letters from one on.
@@ -41,11 +33,9 @@ fn sum_block(counts: &[u64], from: usize, size: usize) -> u64
     requires { from + size < 2 ^ 64 }
     ensures { result ≡ cut_lines (block_lines counts.now from size) }
 {
-    let mut sum: u64 = 0;
-    let mut i = 0;
-    while i < size {
+    let mut sum = 0;
+    for i in 0..size {
         sum = add_lines(sum, count_at(counts, from + i));
-        i += 1;
     }
     sum
 }
@@ -55,12 +45,10 @@ fn sum_blocks(counts: &[u64], before: usize, size: usize, behind: usize, digit: 
     requires { (before ≤ 1025) × (size ≤ 1025) × (behind ≤ 1025) }
     ensures { result ≡ cut_lines (blocks_lines counts.now before size behind digit) }
 {
-    let mut sum: u64 = 0;
-    let mut i = 0;
-    while i < before {
+    let mut sum = 0;
+    for i in 0..before {
         let from = (i * size + digit as usize) * behind;
         sum = add_lines(sum, sum_block(counts, from, behind));
-        i += 1;
     }
     sum
 }
@@ -70,7 +58,7 @@ fn sum_blocks(counts: &[u64], before: usize, size: usize, behind: usize, digit: 
 pub fn held_lines(counts: &[u64], lows: &[i64], highs: &[i64], stream: usize, digit: u32) -> u64
     ensures { result ≡ held_lines counts.now (described lows.now highs.now) stream digit }
 {
-    if fewer(lows.len(), highs.len()) <= stream {
+    if lows.len().min(highs.len()) <= stream {
         return 0;
     }
     let next = stream + 1;

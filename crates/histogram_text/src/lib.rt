@@ -7,14 +7,13 @@ ghost use Rattle.print.specs.Append.{Appends};
 ghost use Rattle.pages.specs.Lines.{line_room, HoldsLine, IsPage};
 ghost use Rattle.histogram_text.specs.Output.{printed_stream_count, value_text, histogram_at, histogram_places};
 
-use basics::fewer;
 use pages::Page;
 
 // How many streams are printed, eight at most.
 fn stream_count(lows: &[i64], highs: &[i64]) -> usize
     ensures { result ≡ printed_stream_count lows.now highs.now }
 {
-    fewer(fewer(lows.len(), highs.len()), 8)
+    lows.len().min(highs.len()).min(8)
 }
 
 // How many places there are.
@@ -112,15 +111,12 @@ pub fn fill_page(
         let length = line_at(
             refusal, total, names, lengths, lows, highs, counts, place, &mut line,
         );
-        if fewer(out.len() - size, 256) < length {
+        if (out.len() - size).min(256) < length {
             break;
         }
         print::text(&line[..length], &mut out[size..]);
         size += length;
         place += 1;
     }
-    Page {
-        size: size,
-        next: place,
-    }
+    Page { size, next: place }
 }

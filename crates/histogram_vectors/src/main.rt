@@ -5,7 +5,6 @@
 
 ghost use Rattle.std.specs.Prelude.{◌<◌};
 
-use basics::fewer;
 use std::io::{Read, Write};
 use tally::LineCounts;
 
@@ -24,7 +23,7 @@ fn count_chunks(
     let mut reading = tally::begin();
     let mut at = 0;
     while at < record.len() {
-        let end = at + fewer(chunk, record.len() - at);
+        let end = at + chunk.min(record.len() - at);
         reading = tally::count_chunk(
             reading,
             &record[at..end],
@@ -75,7 +74,7 @@ fn count_record<W: Write>(out: &mut W, sheet: reader::StoredSheet, record: &[u8]
     let lengths = sheet.lengths;
     let lows = sheet.lows;
     let highs = sheet.highs;
-    let streams = fewer(sheet.streams, 8);
+    let streams = sheet.streams.min(8);
     let mut counts = [0u64; 1024];
     let counted = count_chunks(
         record,
@@ -118,7 +117,7 @@ fn answer<W: Write>(out: &mut W, text: &[u8], record: &[u8], chunk: usize)
 
 // One case, the sheet and the record parted by the place where the sheet ends.
 fn count_case<W: Write>(out: &mut W, bytes: &[u8], sheet_end: usize) {
-    let end = fewer(sheet_end, bytes.len());
+    let end = sheet_end.min(bytes.len());
     let text = &bytes[..end];
     let record = &bytes[end..];
     answer(out, text, record, 1);
@@ -129,14 +128,12 @@ fn count_case<W: Write>(out: &mut W, bytes: &[u8], sheet_end: usize) {
 // One case; whether there was one.
 fn one<R: Read, W: Write>(source: &mut R, out: &mut W) -> bool {
     let mut space = [0u8; 65536];
-    let case = cases::read_case(source, 8, &mut space);
-    let size = case.size;
-    let heading = case.heading;
-    let sheet_end = cases::number(&heading, 4) as usize;
-    if case.found {
-        count_case(out, &space[..size], sheet_end);
-    }
-    case.found
+    let Some(case) = cases::read_case(source, 8, &mut space) else {
+        return false;
+    };
+    let sheet_end = cases::number(&case.heading, 4) as usize;
+    count_case(out, &space[..case.size], sheet_end);
+    true
 }
 
 fn main(rt: HostRuntime) {

@@ -1,12 +1,11 @@
 // Reads a whole input into lent bytes. "a file it cannot read counts as empty" (document 02, S-1): where a read fails, nothing counts as read.
 #![tactic(auto)]
 
-ghost use Rattle.std.specs.Prelude.{◌≡◌, ◌≤◌, false, length, take, min, pos, negsuc, ◌≤ℤ◌, IsNone};
+ghost use Rattle.std.specs.Prelude.{◌≡◌, ◌≤◌, false, length, take, min, pos, negsuc, ◌≤ℤ◌, IsNone, IfSome};
 ghost use Rattle.std.specs.Str.{IsUtf8};
 ghost use Rattle.io.specs.Counts.{IsPrefixLen};
 ghost use Rattle.input.specs.Input.{answer_of, after_read, IsInput, ReadsFrom, ReadsFull, TakesFrom};
 
-use basics::fewer;
 use std::env::{Env, FillError};
 use std::io::Read;
 use std::rt::Files;
@@ -19,7 +18,7 @@ fn answer_of(got: std::io::Result<usize>) -> isize
     ensures { result ≡ answer_of got }
 {
     match got {
-        Ok(count) => fewer(count, 9223372036854775807) as isize,
+        Ok(count) => count.min(isize::MAX as usize) as isize,
         Err(_) => -1,
     }
 }
@@ -35,32 +34,14 @@ pub fn read_answer<R: Read>(source: &mut Option<R>, bytes: &mut [u8]) -> isize
     }
 }
 
-// Whether an argument is given, and its length. One that is missing has none, nor has one that is longer than its room.
-#[derive(Clone, Copy)]
-pub struct Argument {
-    pub given: bool,
-    pub size: usize,
-}
-
-// An argument without bytes.
-fn no_bytes(given: bool) -> Argument
-    ensures { (result.given ≡ given) × (result.size ≡ 0) }
-{
-    Argument { given, size: 0 }
-}
-
-// Puts the argument at this place to the front of the bytes.
-pub fn take_argument<E: Env>(rt: &E, place: usize, bytes: &mut [u8]) -> Argument
-    ensures within { IsPrefixLen result.size bytes.new }
-    ensures missing { result.given ≡ false → result.size ≡ 0 }
+// Puts the argument at this place to the front of the bytes; its length, if it is given. One that is longer than its room counts as one without bytes.
+pub fn take_argument<E: Env>(rt: &E, place: usize, bytes: &mut [u8]) -> Option<usize>
+    ensures within { IfSome result (λ size. IsPrefixLen size bytes.new) }
 {
     match rt.arg(place, bytes) {
-        Ok(size) => Argument {
-            given: true,
-            size: fewer(size, bytes.len()),
-        },
-        Err(FillError::TooLong) => no_bytes(true),
-        Err(FillError::NotPresent) => no_bytes(false),
+        Ok(size) => Some(size),
+        Err(FillError::TooLong) => Some(0),
+        Err(FillError::NotPresent) => None,
     }
 }
 
@@ -74,6 +55,14 @@ pub fn open_path<F: Files>(files: &F, path: &[u8]) -> Option<F::File>
     }
 }
 
+// Opens the file that the argument at this place names, for reading. A missing argument names none, nor does one that is longer than a path. What an argument
+// is and which file has its name no contract can say.
+pub fn open_argument<R: Env + Files>(rt: &R, place: usize) -> Option<R::File> {
+    let mut path = [0u8; 4096];
+    let size = take_argument(rt, place, &mut path)?;
+    open_path(rt, &path[..size])
+}
+
 // Reads to the front of the bytes until they are full, the input ends or a read fails; how many bytes it gets.
 pub fn read_full<R: Read>(source: &mut R, bytes: &mut [u8]) -> usize
     ensures { ReadsFull (R.remaining source.old) (R.remaining source.new) bytes.new result }
@@ -81,12 +70,8 @@ pub fn read_full<R: Read>(source: &mut R, bytes: &mut [u8]) -> usize
     let mut size = 0;
     while size < bytes.len() {
         match source.read(&mut bytes[size..]) {
-            Ok(count) => {
-                if count == 0 {
-                    break;
-                }
-                size += count;
-            }
+            Ok(0) => break,
+            Ok(count) => size += count,
             Err(_) => break,
         }
     }
@@ -122,11 +107,11 @@ fn after_read(got: isize, size: usize, room: usize) -> Progress
             more: false,
         };
     }
-    let count = fewer(got as usize, room - size);
+    let count = (got as usize).min(room - size);
     Progress {
         size: size + count,
         failed: false,
-        more: 0 < fewer(count, room - size - count),
+        more: 0 < count.min(room - size - count),
     }
 }
 
@@ -145,8 +130,5 @@ pub fn read_input<R: Read>(source: &mut Option<R>, bytes: &mut [u8]) -> Input
         failed = after.failed;
         more = after.more;
     }
-    Input {
-        size: size,
-        failed: failed,
-    }
+    Input { size, failed }
 }

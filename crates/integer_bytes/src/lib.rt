@@ -8,7 +8,7 @@ ghost use Rattle.scan.specs.Integer.{with_sign};
 ghost use Rattle.integer_bytes.specs.Phases.{digit_phase, next_phase, ends_integer, is_negative, next_magnitude};
 
 // What the bytes of a token are so far: none, `-` alone, `0` alone, digits, digits behind `-`, or no beginning of an integer.
-#[derive(Clone, Copy)]
+#[derive(Clone, Copy, PartialEq, Eq)]
 pub enum Phase {
     Empty,
     Minus,
@@ -21,40 +21,37 @@ pub enum Phase {
 pub fn is_digit(byte: u8) -> bool
     ensures { result ≡ is_digit byte }
 {
-    if byte < 48 {
-        return false;
-    }
-    byte <= 57
+    byte.is_ascii_digit()
 }
 
 fn digit_phase(byte: u8, phase: Phase) -> Phase
     ensures { result ≡ digit_phase byte phase }
 {
     if is_digit(byte) {
-        return phase;
+        phase
+    } else {
+        Phase::NoInteger
     }
-    Phase::NoInteger
 }
 
 fn first_phase(byte: u8) -> Phase
     ensures { result ≡ next_phase Phase.Empty byte }
 {
-    if byte == 45 {
-        return Phase::Minus;
+    match byte {
+        b'-' => Phase::Minus,
+        b'0' => Phase::Zero,
+        _ => digit_phase(byte, Phase::Digits),
     }
-    if byte == 48 {
-        return Phase::Zero;
-    }
-    digit_phase(byte, Phase::Digits)
 }
 
 fn minus_phase(byte: u8) -> Phase
     ensures { result ≡ next_phase Phase.Minus byte }
 {
-    if byte == 48 {
-        return Phase::NoInteger;
+    if byte == b'0' {
+        Phase::NoInteger
+    } else {
+        digit_phase(byte, Phase::MinusDigits)
     }
-    digit_phase(byte, Phase::MinusDigits)
 }
 
 // "An integer is digits with an optional `-` before them; a leading zero stands only in `0`, and `-0` is no integer."
@@ -74,53 +71,33 @@ pub fn next_phase(phase: Phase, byte: u8) -> Phase
 pub fn ends_integer(phase: Phase) -> bool
     ensures { result ≡ ends_integer phase }
 {
-    match phase {
-        Phase::Empty => false,
-        Phase::Minus => false,
-        Phase::Zero => true,
-        Phase::Digits => true,
-        Phase::MinusDigits => true,
-        Phase::NoInteger => false,
-    }
+    matches!(phase, Phase::Zero | Phase::Digits | Phase::MinusDigits)
 }
 
 pub fn is_negative(phase: Phase) -> bool
     ensures { result ≡ is_negative phase }
 {
-    match phase {
-        Phase::Empty => false,
-        Phase::Minus => false,
-        Phase::Zero => false,
-        Phase::Digits => false,
-        Phase::MinusDigits => true,
-        Phase::NoInteger => false,
-    }
+    phase == Phase::MinusDigits
 }
 
 // The number that a digit writes; 0 for the bytes before the digits.
 pub fn digit(byte: u8) -> u64
     ensures { result ≡ byte - 48 }
 {
-    if byte < 48 {
-        return 0;
-    }
-    (byte - 48) as u64
+    u64::from(byte.saturating_sub(b'0'))
 }
 
 // A magnitude beyond the bound stays at the bound's successor, so that no product wraps.
 pub fn next_magnitude(magnitude: u32, byte: u8) -> u32
     ensures { result ≡ next_magnitude magnitude byte }
 {
-    let next = (magnitude as u64) * 10 + digit(byte);
-    if next <= 1000000000 {
-        return next as u32;
-    }
-    1000000001
+    let next = u64::from(magnitude) * 10 + digit(byte);
+    next.min(1000000001) as u32
 }
 
 pub fn signed(magnitude: u32, negative: bool) -> i64
     ensures { result ≡ with_sign negative magnitude }
 {
-    let value = magnitude as i64;
-    if negative { 0 - value } else { value }
+    let value = i64::from(magnitude);
+    if negative { -value } else { value }
 }

@@ -5,38 +5,39 @@
 ghost use Rattle.std.specs.Prelude.{◌≤◌, length};
 
 use std::env::Env;
+use std::io::Write;
 use std::rt::Files;
 
-fn tell(rt: &impl Eprint, failed: bool, message: &str) {
-    if failed {
-        let _ = rt.eprint(message);
-    }
-}
-
-// Reads the file that an argument names to the front of the text; its length. A missing argument names none, nor does one that is longer than a path.
-fn read_sheet<R: Env + Files + Eprint>(
+// Reads the file that an argument names to the front of the text; its length. A read that fails is told. A missing argument names none, nor does one that is longer than a path.
+fn read_sheet<R: Env + Files, E: Write>(
     rt: &R,
+    err: &mut E,
     argument: usize,
     text: &mut [u8],
     message: &str,
 ) -> usize
     ensures { result ≤ length text.old }
 {
-    let mut path = [0u8; 4096];
-    let named = input::take_argument(rt, argument, &mut path);
-    let mut source = input::open_path(rt, &path[..named.size]);
+    let mut source = input::open_argument(rt, argument);
     let input = input::read_input(&mut source, text);
     drop(source);
-    tell(rt, input.failed, message);
+    output::tell(err, input.failed, message);
     input.size
 }
 
 fn main(rt: HostRuntime) {
     let mut first = [0u8; 16385];
-    let first_size = read_sheet(&rt, 1, &mut first, "join: the first sheet cannot be read\n");
+    let first_size = read_sheet(
+        &rt,
+        &mut rt.stderr(),
+        1,
+        &mut first,
+        "join: the first sheet cannot be read\n",
+    );
     let mut second = [0u8; 16385];
     let second_size = read_sheet(
         &rt,
+        &mut rt.stderr(),
         2,
         &mut second,
         "join: the second sheet cannot be read\n",
@@ -46,8 +47,8 @@ fn main(rt: HostRuntime) {
         &first[..first_size],
         &second[..second_size],
     );
-    tell(
-        &rt,
+    output::tell(
+        &mut rt.stderr(),
         !printed.whole,
         "join: the table cannot be written whole\n",
     );

@@ -5,11 +5,11 @@ use Rattle.automaton.specs.Stored.{final_at}
 use Rattle.automaton.specs.Join.{TwoTables}
 use Rattle.meaning.specs.Expression.{Stream}
 use Rattle.meaning.specs.Letter.{letter_count}
-use Rattle.streams.specs.Description.{description_of}
+use Rattle.streams.specs.Description.{none_described, description_of}
 use Rattle.outcome.specs.Compile.{CompileAnswer, Room, Tables, all_zero}
 use Rattle.given_tables.specs.Given.{GivenTable, table_entry, IsFitTable}
 use Rattle.joined_streams.specs.Joined.{joined_streams, cut_number, SharedAlike, WithinBounds}
-use Rattle.joined_streams.specs.Describing.{none_described, describe}
+use Rattle.joined_streams.specs.Describing.{describe}
 use Rattle.joined_streams.specs.declared.JoinedStreams.{JoinedStreams}
 use Rattle.pair_outcome.specs.Outcome.{PairTableOutcome}
 use Rattle.join_tables.specs.declared.JoinAnswer.{JoinAnswer}

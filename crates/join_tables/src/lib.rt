@@ -9,7 +9,6 @@ ghost use Rattle.given_tables.specs.Given.{given_table};
 ghost use Rattle.pair_outcome.specs.Outcome.{join_room, join_tables, pair_answer};
 ghost use Rattle.join_tables.specs.Outcome.{refused_join, told_by, JoinOutcome};
 
-use basics::fewer;
 use joined_streams::JoinedStreams;
 use pairs::PairSizes;
 use streams::StreamsDescription;
@@ -46,20 +45,15 @@ fn rows_lent(letters: usize, entries: usize, rows: RowTables) -> usize
     if letters == 0 {
         return 0;
     }
-    let work = fewer(
-        rows.keys,
-        fewer(
-            rows.live,
-            fewer(
-                rows.class,
-                fewer(
-                    rows.next,
-                    fewer(rows.heads, fewer(rows.links, rows.envelopes)),
-                ),
-            ),
-        ),
-    );
-    fewer(entries / letters, fewer(rows.finals, work))
+    (entries / letters)
+        .min(rows.finals)
+        .min(rows.keys)
+        .min(rows.live)
+        .min(rows.class)
+        .min(rows.next)
+        .min(rows.heads)
+        .min(rows.links)
+        .min(rows.envelopes)
 }
 
 // Whether both tables are well formed.
@@ -73,21 +67,19 @@ fn well_formed(
 ) -> bool
     ensures { Says result (IsWellFormed left_letters left_entries.now left_finals.now × IsWellFormed right_letters right_entries.now right_finals.now) }
 {
-    if !tables::is_well_formed(left_entries, left_finals, left_letters) {
-        return false;
-    }
-    tables::is_well_formed(right_entries, right_finals, right_letters)
+    tables::is_well_formed(left_entries, left_finals, left_letters)
+        && tables::is_well_formed(right_entries, right_finals, right_letters)
 }
 
 fn refused(refusal: u32) -> JoinAnswer
     ensures { result ≡ refused_join refusal }
 {
     JoinAnswer {
-        refusal: refusal,
+        refusal,
         states: 0,
         pairs: 0,
         letters: 0,
-        streams: joined_streams::no_streams(),
+        streams: StreamsDescription::none(),
     }
 }
 
@@ -96,22 +88,18 @@ fn refused(refusal: u32) -> JoinAnswer
 fn made(streams: JoinedStreams, rows: usize, pairs: usize, table: minimise::Minimised) -> JoinAnswer
     ensures { result ≡ told_by (pair_answer rows (min pairs situation_bound) table) streams }
 {
-    let refusal = table.refusal;
-    let counted = fewer(pairs, 4096) as u32;
-    let description = streams.streams;
-    if refusal == 0 {
-        return JoinAnswer {
+    match table.refusal {
+        0 => JoinAnswer {
             refusal: 0,
             states: table.states,
-            pairs: counted,
+            pairs: pairs.min(4096) as u32,
             letters: streams.letters,
-            streams: description,
-        };
+            streams: streams.streams,
+        },
+        refusal if pairs != 0 => refused(refusal),
+        _ if rows < 4096 => refused(10),
+        _ => refused(8),
     }
-    if pairs != 0 {
-        return refused(refusal);
-    }
-    if rows < 4096 { refused(10) } else { refused(8) }
 }
 
 // The refusal of the tables and streams: 11 where a table is not well formed, else that of the streams.
@@ -130,10 +118,11 @@ fn answered(
 ) -> JoinAnswer
     ensures { result ≡ cond (eqb refusal 0) (told_by (pair_answer rows (min pairs situation_bound) table) streams) (refused_join refusal) }
 {
-    if refusal != 0 {
-        return refused(refusal);
+    if refusal == 0 {
+        made(streams, rows, pairs, table)
+    } else {
+        refused(refusal)
     }
-    made(streams, rows, pairs, table)
 }
 
 fn letters_of(refusal: u32, streams: JoinedStreams) -> usize
@@ -198,19 +187,17 @@ pub fn join_tables(
             envelopes: envelopes.len(),
         },
     );
-    let left_cuts = streams.left;
-    let right_cuts = streams.right;
     let pairs = pairs::find_pairs(
         left_entries,
         left_finals,
         right_entries,
         right_finals,
-        &left_cuts,
-        &right_cuts,
+        &streams.left,
+        &streams.right,
         PairSizes {
-            left_letters: left_letters,
-            right_letters: right_letters,
-            letters: letters,
+            left_letters,
+            right_letters,
+            letters,
             limit: compiled::most_situations(rows),
         },
         entries,

@@ -18,12 +18,12 @@ use Rattle.nodes.specs.Bounds.{lows_of, highs_of}
 use Rattle.sheet.specs.Names.{eight_bytes, ShortNames}
 use Rattle.header.specs.Streams.{padded, name_bytes, name_lengths, stream_kind_codes}
 use Rattle.header.proofs.Streams.{padded-set, padded_sets, padded-further}
-use Rattle.streams.specs.Description.{kind_with, stream_in, described_from, description_of}
+use Rattle.streams.specs.Description.{none_described, kind_with, stream_in, described_from, description_of}
 use Rattle.streams.specs.declared.StreamsDescription.{StreamsDescription}
 use Rattle.streams.proofs.Fit.{streams-length, stream_origin}
 use Rattle.streams.proofs.Stored.{description_stored}
 use Rattle.joined_streams.specs.Joined.{place_of, other_streams, joined_streams}
-use Rattle.joined_streams.specs.Describing.{none_described, describe, appended, only_counted, with_described, with_others, joined_description}
+use Rattle.joined_streams.specs.Describing.{describe, appended, only_counted, with_described, with_others, joined_description}
 use Rattle.joined_streams.proofs.Joining.{others-none}
 
 -- ---- one stream more

@@ -1,17 +1,18 @@
 -- The place of a name among streams that are described, by comparing it with one name after the other; what stands at a place. By induction over the
 -- streams.
-use Prim.Native.Nat.{ℕ, zero, suc, ◌+◌, ◌-◌, ◌*◌, ◌≤◌, ◌<◌, min}
+use Prim.Native.Nat.{ℕ, zero, suc, ◌+◌, ◌-◌, ◌≤◌, ◌<◌}
 use native.Mathlib.Omega.{arith}
 use native.Mathlib.Decide.{ℕ_discrete}
 use mathlib.Core.Path.{◌≡◌, refl, sym, ap, ap₂, subst, ◌∙◌}
-use mathlib.Core.Bool.{Bool, cond}
-use mathlib.Core.List.{List, [], ◌∷◌, Memᴰ}
-use lib.ListN.{length, get_or, take, drop, set}
-use lib.Seq.{sets, take-suc, get_or-drop, length-take-le, get_or-set_same, get_or-set_other}
-use Rattle.basics.specs.Answers.{Says}
-use Rattle.basics.proofs.Answers.{says_either}
-use Rattle.basics.proofs.Lists.{sets_append}
-use Rattle.basics.proofs.Reflects.{to_true, to_false, from_true, from_false}
+use mathlib.Core.Bool.{true, false, true≢false, cond}
+use Rattle.std.proofs.Common.{Option, None, Some, append_assoc}
+use Rattle.std.specs.Option.{MatchOption, is_some, unwrap_or}
+use mathlib.Core.List.{List, [], ◌∷◌, ◌++◌, Memᴰ}
+use lib.ListN.{length, get_or, take, set}
+use borrow.Rule.Slice.PartMut.{put_mid}
+use Rattle.std.proofs.lemmas.List.Edits.{sets-eq}
+use lib.Seq.{drop-drop, sets, get_or-set_same, get_or-set_other}
+use Rattle.basics.proofs.Reflects.{to_true, to_false}
 use Rattle.text.specs.Bytes.{Token}
 use Rattle.text.specs.Token.{same_bytes}
 use Rattle.text.proofs.Token.{same_bytes_reflects}
@@ -21,7 +22,6 @@ use Rattle.sheet.specs.Form.{names_of}
 use Rattle.sheet.specs.Names.{name_in}
 use Rattle.streams.specs.Description.{stream_in, described_from, description_of}
 use Rattle.streams.specs.declared.StreamsDescription.{StreamsDescription}
-use Rattle.streams.proofs.Names.{name-part}
 use Rattle.joined_streams.specs.Joined.{place_of}
 
 -- ---- what stands at a place of a list
@@ -46,25 +46,11 @@ set-every P list n v room here before k = by (ℕ_discrete k n)
     by (yes e) = rw (e, get_or-set_same list n v 0 room) here
     by (no e) = rw (get_or-set_other list n k v 0 e) (before k)
 
--- ---- names that are compared and copied
-
--- the bytes that are compared are the names
-pub names-told : (a b : StreamsDescription) (i j : ℕ) {m n : ℕ} → m ≡ min (get_or a.lengths i 0) 8 → n ≡ min (get_or b.lengths j 0) 8 → {r : Bool}
-    → r ≡ same_bytes (take (i * 8 + m - i * 8) (drop (i * 8) a.names)) (take (j * 8 + n - j * 8) (drop (j * 8) b.names))
-    → Says r (name_in a.names a.lengths i ≡ name_in b.names b.lengths j)
-names-told a b i j {m} {n} e d {r} told =
-    let compared = same_bytes_reflects (name_in a.names a.lengths i) (name_in b.names b.lengths j) in
-    let same = told ∙ ap₂ same_bytes (name-part a.names a.lengths i e) (name-part b.names b.lengths j d) in
-    says_either r (λ t. from_true compared (sym same ∙ t)) (λ f. from_false compared (sym same ∙ f))
-
--- one byte more is copied
-pub byte-copied : (names given : List ℕ) (place start i : ℕ) → i < length (drop start given) → set (sets names place (take i (drop start given))) (place + i) (get_or given (start + i) 0) ≡ sets names place (take (i + 1) (drop start given))
-byte-copied names given place start i h =
-    let long = length-take-le i (drop start given) (omega arith) in
-    let next : i + 1 ≡ suc i = omega arith in
-    ap₂ (λ (k v : ℕ). set (sets names place (take i (drop start given))) k v) (ap (place +◌) (sym long)) (sym (get_or-drop start given i 0))
-    ∙ sets_append names place (take i (drop start given)) (get_or (drop start given) i 0 ∷ [])
-    ∙ ap (sets names place) (sym (take-suc (drop start given) i 0 h)) ∙ ap (λ k. sets names place (take k (drop start given))) (sym next)
+-- a name that is copied over a part of the bytes stands there
+pub name-copied : (names name part : List ℕ) (place k : ℕ) → part ≡ name → k ≡ length name → place + length name ≤ length names → put_mid place k names part ≡ sets names place name
+name-copied names name part place k e n h =
+    let stands = sets-eq name names place h in
+    ap₂ (λ (m : ℕ) (l : List ℕ). put_mid place m names l) n e ∙ ap (λ l. take place names ++ (name ++ l)) (drop-drop (length name) place names) ∙ sym (rw append_assoc at stands)
 
 -- ---- streams that are described
 
@@ -104,3 +90,26 @@ module _ (s : StreamsDescription) where
 
   pub place-missing : (name : Token) → ((j : ℕ) → j < s.count → name_in s.names s.lengths j ≡ name → ⊥) → s.count ≡ place_of (description_of s) name
   place-missing name before = sym (none_from name 0 s.count (λ j l k. before j (omega arith)))
+
+  -- What is said of the place that is found, or not.
+  abbrev pub PlaceTold : Token → Option ℕ → Type 0
+  PlaceTold name r = MatchOption r (place_of (description_of s) name ≡ s.count) (λ p. (p < s.count) × (p ≡ place_of (description_of s) name))
+
+  pub place-found : (name : Token) (r : Option ℕ)
+      → MatchOption r ((k : ℕ) → 0 ≤ k → k < s.count → name_in s.names s.lengths k ≡ name → ⊥) (λ p. (0 ≤ p) × (p < s.count) × (name_in s.names s.lengths p ≡ name) × ((k : ℕ) → 0 ≤ k → k < p → name_in s.names s.lengths k ≡ name → ⊥))
+      → PlaceTold name r
+  place-found name None h = sym (place-missing name (λ j l. h j (omega arith) l))
+  place-found name (Some p) h = (h.1, place_is name p h.1 (λ j l. h.3 j (omega arith) l) h.2)
+
+  -- A place that is missing is behind the streams, one that is among them is found.
+  pub missing-place : (name : Token) (r : Option ℕ) → PlaceTold name r → is_some r ≡ false → place_of (description_of s) name ≡ s.count
+  missing-place name None h e = h
+  missing-place name (Some p) h e = absurd (true≢false e)
+
+  pub found-place : (name : Token) (r : Option ℕ) → PlaceTold name r → is_some r ≡ true → place_of (description_of s) name ≡ s.count → ⊥
+  found-place name None h e q = absurd (true≢false (sym e))
+  found-place name (Some p) h e q = omega (arith, h.0, h.1)
+
+  pub place-there : (name : Token) (r : Option ℕ) → PlaceTold name r → place_of (description_of s) name < s.count → unwrap_or r 0 ≡ place_of (description_of s) name
+  place-there name None h l = absurd (omega (arith, h))
+  place-there name (Some p) h l = h.1

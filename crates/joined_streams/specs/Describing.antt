@@ -1,5 +1,5 @@
 -- How joined streams are described, stream by stream, and how the cuts of all joined letters stand in a list.
-use Rattle.std.specs.Prelude.{ℕ, zero, suc, ◌+◌, ◌*◌, ◌≤◌, ◌<◌, ◌≡◌, cond, eqb, ltb, ℤ, pos, length, get_or, set, replicate}
+use Rattle.std.specs.Prelude.{ℕ, zero, suc, ◌+◌, ◌*◌, ◌≤◌, ◌<◌, ◌≡◌, cond, eqb, ltb, ℤ, pos, length, get_or, set}
 use mathlib.Core.List.{List, Memᴰ}
 use Rattle.std.proofs.lemmas.List.Edits.{sets}
 use Rattle.meaning.specs.Expression.{Stream}
@@ -8,12 +8,9 @@ use Rattle.sheet.specs.Refusal.{stream_bound, letter_bound}
 use Rattle.sheet.specs.Names.{name_in}
 use Rattle.nodes.specs.Bounds.{lows_of, highs_of}
 use Rattle.header.specs.Streams.{padded, name_bytes, name_lengths, stream_kind_codes}
-use Rattle.streams.specs.Description.{stream_in, description_of}
+use Rattle.streams.specs.Description.{none_described, stream_in, description_of}
 use Rattle.streams.specs.declared.StreamsDescription.{StreamsDescription}
 use Rattle.joined_streams.specs.Joined.{place_of, cut_number, IsAlike, Covers}
-
-abbrev pub none_described : StreamsDescription
-none_described = record { count = 0; names = replicate 64 0; lengths = replicate 8 0; lows = replicate 8 (pos 0); highs = replicate 8 (pos 0); kinds = replicate 8 0 }
 
 -- The description of streams: eight bytes for each name, zeros behind the streams.
 abbrev pub describe : List Stream → StreamsDescription

@@ -3,11 +3,11 @@ use Rattle.std.specs.Prelude.{ℕ, ◌≡◌, List, replicate}
 use Rattle.meaning.specs.Expression.{Stream}
 use Rattle.meaning.specs.Letter.{letter_count}
 use Rattle.sheet.specs.Refusal.{letter_bound}
-use Rattle.streams.specs.Description.{description_of, StreamsFit}
+use Rattle.streams.specs.Description.{none_described, description_of, StreamsFit}
 use Rattle.streams.specs.declared.StreamsDescription.{StreamsDescription}
 use Rattle.joined_streams.specs.declared.JoinedStreams.{JoinedStreams}
 use Rattle.joined_streams.specs.Joined.{joined_streams, SharedAlike, WithinBounds}
-use Rattle.joined_streams.specs.Describing.{none_described, describe, HoldsCuts}
+use Rattle.joined_streams.specs.Describing.{describe, HoldsCuts}
 
 -- with a refusal nothing is told
 abbrev pub refused_streams : ℕ → JoinedStreams

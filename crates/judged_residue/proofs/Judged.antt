@@ -11,6 +11,7 @@ use lib.IntN.{ℤ, pos}
 use lib.ListN.{length, get_or, drop, length-append, length-drop, get_or-append}
 use lib.Seq.{length-take-le}
 use borrow.Author.Tests.{le-leb, lt-ltb}
+use Rattle.std.specs.Prelude.{Option, Some, None, is_some}
 use Rattle.meaning.specs.Value.{Value, truth}
 use Rattle.meaning.specs.Expression.{holds}
 use Rattle.nodes.specs.Bounded.{value_in}
@@ -18,11 +19,10 @@ use Rattle.nodes.specs.Code.{sign_at}
 use Rattle.nodes.specs.Evaluate.{Nodes, has_node, View, view, places, node_value}
 use Rattle.evaluate.proofs.Recursion.{HasArrays}
 use Rattle.sides.specs.Mark.{odd}
-use Rattle.prepare.specs.Key.{digit, lowered, size_in, letters_in, firsts_in, marks_in}
+use Rattle.prepare.specs.Key.{lowered, size_in, letters_in, firsts_in, marks_in}
 use Rattle.prepare.specs.Prepared.{letter_at, window_of}
 use Rattle.prepare.proofs.KeyLists.{window_of-snoc, window_of-long}
-use Rattle.extend.specs.declared.judge.Judged.{Judged}
-use Rattle.extend.specs.Step.{Store, unlawful, lawful_with, with_digit, until_permitted, until_done, sign_holds, judged_from, view_after, letters_after, judged_in, judged_after, IsReady, IsKey, HasValues}
+use Rattle.extend.specs.Step.{Store, unlawful, with_digit, until_permitted, until_done, sign_holds, judged_from, view_after, letters_after, judged_in, judged_after, IsReady, IsKey, HasValues}
 use Rattle.extend.proofs.StepLaws.{after-values}
 use Rattle.residue.specs.Residue.{tree_of, tree_level, with_letter, letter_view}
 use Rattle.residue.proofs.Residue.{Awaits, node_residue_value, tree_agree}
@@ -149,13 +149,14 @@ module _ (K : Store) (key : List ℕ) (k : IsKey K key) (ready : IsReady K) (som
 
 -- ---- a constraint that fails
 
-fails-here : {a c : Bool} (x y : Judged) → a ≡ false → c ≡ false → (cond a x (cond c y unlawful)).ok ≡ false
-fails-here {a} {c} x y p q = ap (λ a. (cond a x (cond c y unlawful)).ok) p ∙ ap (λ c. (cond c y unlawful).ok) q
+fails-here : {a c : Bool} (x y : Option ℕ) → a ≡ false → c ≡ false → is_some (cond a x (cond c y unlawful)) ≡ false
+fails-here {a} {c} x y p q = ap (λ a. is_some (cond a x (cond c y unlawful))) p ∙ ap (λ c. is_some (cond c y unlawful)) q
 
-fails-digit : (d : Bool) (x : Judged) → x.ok ≡ false → (with_digit d x).ok ≡ false
-fails-digit d x h = ap (λ o. (cond o (lawful_with (digit d + 2 * x.marks)) x).ok) h ∙ h
+fails-digit : (d : Bool) (x : Option ℕ) → is_some x ≡ false → is_some (with_digit d x) ≡ false
+fails-digit d None h = refl
+fails-digit d (Some marks) h = h
 
-fails-later : (a b c d : Bool) (x y : Judged) → x.ok ≡ false → y.ok ≡ false → (cond a (cond b (with_digit d x) unlawful) (cond c y unlawful)).ok ≡ false
+fails-later : (a b c d : Bool) (x y : Option ℕ) → is_some x ≡ false → is_some y ≡ false → is_some (cond a (cond b (with_digit d x) unlawful) (cond c y unlawful)) ≡ false
 fails-later true true c d x y h k = fails-digit d x h
 fails-later true false c d x y h k = refl
 fails-later false b true d x y h k = k
@@ -164,7 +165,7 @@ fails-later false b false d x y h k = refl
 -- A constraint that fails, whichever it is, makes the letter unlawful: one that reads only the first streams refuses a whole block.
 module _ (relations lefts rights : List ℕ) (value : ℕ → Value) where
   pub judged_from-fails : (n j marks i : ℕ) → i < n → eqb (get_or relations (j + i) 0) 7 ≡ false → sign_holds relations lefts rights value (j + i) ≡ false
-      → (judged_from relations lefts rights value j n marks).ok ≡ false
+      → is_some (judged_from relations lefts rights value j n marks) ≡ false
   unfolding judged_from
   judged_from-fails zero j marks i h r f = absurd (not-suc-le-zero h)
   judged_from-fails (suc n) j marks zero h r f =

@@ -6,7 +6,6 @@ ghost use Rattle.outcome.specs.Compile.{CompileCall};
 ghost use Rattle.compiled.specs.Answer.{answer_of};
 ghost use Rattle.lend.specs.Lend.{rows_lent, room_of_rows, tables_of_rows, LentCall};
 
-use basics::fewer;
 use compiled::Compiled;
 
 // "256 rows, or 32,768 divided by the letters, cut to a whole number, if that is fewer"
@@ -14,9 +13,10 @@ pub fn rows_lent(letters: usize) -> usize
     ensures { result ≡ rows_lent letters }
 {
     if letters == 0 {
-        return 0;
+        0
+    } else {
+        (32768 / letters).min(256)
     }
-    fewer(256, 32768 / letters)
 }
 
 // Room for the keys, with 16 numbers a row, and for a work table with one.
@@ -67,8 +67,8 @@ fn compile_parts(text: &[u8], letters: usize, entries: &mut [u16], finals: &mut 
 {
     let rows = rows_lent(letters);
     let room = rows * letters;
-    basics::clear_entries(entries, room);
-    basics::clear_bytes(finals, rows);
+    basics::clear_from(entries, room, 0);
+    basics::clear_from(finals, rows, 0);
     compile_in_rows(text, rows, &mut entries[..room], &mut finals[..rows])
 }
 

@@ -6,19 +6,16 @@ ghost use Rattle.std.proofs.Common.{SFits};
 ghost use Rattle.meaning.specs.Letter.{size};
 ghost use Rattle.letters.specs.Described.{ranged, described, cut_count, LetterCountCall, LetterNumberCall, has_letter, with_letter, has_room, with_letters};
 
-use basics::fewer;
-
 // How far a value lies above a lower one; 1,024 where it is more. The sum and the difference are taken only where they do not wrap.
 fn distance(low: i64, high: i64) -> u32
     requires { low ≤ℤ high }
     ensures { result ≡ min (nat_abs (high -ℤ low)) 1024 }
 {
-    if low < 9223372036854774784 {
-        if low + 1024 <= high {
-            return 1024;
-        }
+    if low < 9223372036854774784 && low + 1024 <= high {
+        1024
+    } else {
+        (high - low) as u32
     }
-    (high - low) as u32
 }
 
 // How many values a stream has; 1,025 where they are more.
@@ -26,9 +23,10 @@ pub fn values(low: i64, high: i64) -> u32
     ensures { result ≡ cut_count (size (ranged low high).range) }
 {
     if high < low {
-        return 0;
+        0
+    } else {
+        distance(low, high) + 1
     }
-    distance(low, high) + 1
 }
 
 // The product of two counts, cut before it can wrap.
@@ -36,21 +34,15 @@ fn product(a: u32, b: u32) -> u32
     requires { (a ≤ 1025) × (b ≤ 1025) }
     ensures { result ≡ cut_count (a * b) }
 {
-    let all = a * b;
-    if all <= 1025 {
-        return all;
-    }
-    1025
+    (a * b).min(1025)
 }
 
 // How many letters there are: exact up to 1,024, and 1,025 where they are more.
 pub fn letter_count(lows: &[i64], highs: &[i64]) -> u32
     ensures { LetterCountCall lows.now highs.now result }
 {
-    let mut i = fewer(lows.len(), highs.len());
     let mut count: u32 = 1;
-    while 0 < i {
-        i -= 1;
+    for i in (0..lows.len().min(highs.len())).rev() {
         count = product(values(lows[i], highs[i]), count);
     }
     count
@@ -61,7 +53,7 @@ fn raised(low: i64, digit: u32) -> i64
     requires { SFits w64 (low +ℤ pos digit) }
     ensures { result ≡ low +ℤ pos digit }
 {
-    low + digit as i64
+    low + i64::from(digit)
 }
 
 // Writes the values of a letter that is there. Its caller has counted the letters, so that they are not counted again for each letter.
@@ -69,10 +61,8 @@ fn write_letter(lows: &[i64], highs: &[i64], number: u32, out: &mut [i64])
     requires { has_letter (described lows.now highs.now) number (length out.old) ≡ true }
     ensures { out.new ≡ with_letter (described lows.now highs.now) number out.old }
 {
-    let mut i = fewer(lows.len(), highs.len());
     let mut rest = number;
-    while 0 < i {
-        i -= 1;
+    for i in (0..lows.len().min(highs.len())).rev() {
         let size = values(lows[i], highs[i]);
         out[i] = raised(lows[i], rest % size);
         rest /= size;
@@ -84,13 +74,7 @@ pub fn letter_values(lows: &[i64], highs: &[i64], number: u32, out: &mut [i64]) 
     ensures { (result ≡ has_letter (described lows.now highs.now) number (length out.old)) × (out.new ≡ with_letter (described lows.now highs.now) number out.old) }
 {
     let count = letter_count(lows, highs);
-    if 1024 < count {
-        return false;
-    }
-    if count <= number {
-        return false;
-    }
-    if out.len() < fewer(lows.len(), highs.len()) {
+    if 1024 < count || count <= number || out.len() < lows.len().min(highs.len()) {
         return false;
     }
     write_letter(lows, highs, number, out);
@@ -102,32 +86,20 @@ pub fn letter_number(lows: &[i64], highs: &[i64], letter: &[i64]) -> u32
     ensures { LetterNumberCall lows.now highs.now letter.now result }
 {
     let count = letter_count(lows, highs);
-    if count == 0 {
-        return 1024;
-    }
-    if 1024 < count {
-        return 1024;
-    }
-    let n = fewer(lows.len(), highs.len());
-    if letter.len() != n {
+    let n = lows.len().min(highs.len());
+    if count == 0 || 1024 < count || letter.len() != n {
         return 1024;
     }
     let mut number: u32 = 0;
-    let mut i = 0;
-    while i < n {
+    for (i, &value) in letter.iter().enumerate() {
         let low = lows[i];
         let high = highs[i];
-        let value = letter[i];
-        if value < low {
-            return 1024;
-        }
-        if high < value {
+        if value < low || high < value {
             return 1024;
         }
         let size = values(low, high);
         let digit = distance(low, value);
         number = number * size + digit;
-        i += 1;
     }
     number
 }
@@ -143,17 +115,14 @@ pub fn fill_letters(lows: &[i64], highs: &[i64], out: &mut [i64]) -> bool
     if count == 0 {
         return true;
     }
-    let n = fewer(lows.len(), highs.len());
+    let n = lows.len().min(highs.len());
     if out.len() / (count as usize) < n {
         return false;
     }
-    let mut number: u32 = 0;
     let mut at = 0;
-    while number < count {
-        let end = at + n;
-        write_letter(lows, highs, number, &mut out[at..end]);
-        at = end;
-        number += 1;
+    for number in 0..count {
+        write_letter(lows, highs, number, &mut out[at..at + n]);
+        at += n;
     }
     true
 }

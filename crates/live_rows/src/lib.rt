@@ -10,10 +10,7 @@ ghost use Rattle.live_rows.specs.Sets.{IsSet, LiveWithout, SameBeyond, LiveOutco
 fn has_room(rows: usize, letters: usize, entries: usize, flags: usize) -> bool
     ensures { Says result ((rows * letters ≤ entries) × (rows ≤ flags)) }
 {
-    if flags < rows {
-        return false;
-    }
-    basics::rows_fit(rows, letters, entries)
+    rows <= flags && basics::rows_fit(rows, letters, entries)
 }
 
 // Marks the live rows. If the rows are more than the entries or the flags have, nothing changes.
@@ -23,7 +20,7 @@ pub fn find_live(entries: &[u16], flags: &[u8], letters: usize, live: &mut [u32]
     if !has_room(live.len(), letters, entries.len(), flags.len()) {
         return;
     }
-    basics::fill(live, 1);
+    live.fill(1);
     marks::prune(entries, letters, live);
     marks::keep_flagged(flags, live);
     marks::grow(entries, letters, live);
@@ -34,36 +31,19 @@ fn mark_pending(live: &[u32], flags: &[u8], pending: &mut [u32])
     requires { (length live.now ≤ length flags.now) × (length pending.old ≡ length live.now) }
     ensures { IsSet pending.new (length live.now) (LiveWithout live.now flags.now) }
 {
-    let mut row = 0;
-    while row < live.len() {
-        let at = row;
-        row += 1;
-        if live[at] != 1 {
-            pending[at] = 0;
-        } else if flags[at] == 1 {
-            pending[at] = 0;
-        } else {
-            pending[at] = 1;
-        }
+    for (row, mark) in live.iter().enumerate() {
+        pending[row] = u32::from(*mark == 1 && flags[row] != 1);
     }
 }
 
-// Sets the byte of each row: 1 if it is live and not marked in `endless`, and else 0.
+// Sets the byte of each row: 1 if it is live and not marked in `endless`, and else 0. One function with `mark_pending` over the type of the numbers is no plainer: its
+// contract would need a trait that says which number 1 is.
 fn set_finals(live: &[u32], endless: &[u32], finals: &mut [u8])
     requires { (length endless.now ≡ length live.now) × (length live.now ≤ length finals.old) }
     ensures { IsSet finals.new (length live.now) (LiveWithout live.now endless.now) × SameBeyond finals.old finals.new (length live.now) }
 {
-    let mut row = 0;
-    while row < live.len() {
-        let at = row;
-        row += 1;
-        if live[at] != 1 {
-            finals[at] = 0;
-        } else if endless[at] == 1 {
-            finals[at] = 0;
-        } else {
-            finals[at] = 1;
-        }
+    for (row, mark) in live.iter().enumerate() {
+        finals[row] = u8::from(*mark == 1 && endless[row] != 1);
     }
 }
 
@@ -78,10 +58,7 @@ pub fn find_finals(
 )
     ensures { FinalsOutcome letters entries.now live.now pending.old flags.old pending.new flags.new }
 {
-    if pending.len() != live.len() {
-        return;
-    }
-    if !has_room(live.len(), letters, entries.len(), flags.len()) {
+    if pending.len() != live.len() || !has_room(live.len(), letters, entries.len(), flags.len()) {
         return;
     }
     mark_pending(live, flags, pending);

@@ -18,13 +18,7 @@ pub struct Tested {
 pub fn range_faulty(low_beyond: bool, high_beyond: bool, low: i64, high: i64) -> bool
     ensures { result ≡ low_beyond || high_beyond || lt_z high low }
 {
-    if low_beyond {
-        return true;
-    }
-    if high_beyond {
-        return true;
-    }
-    high < low
+    low_beyond || high_beyond || high < low
 }
 
 // 3 where the line of kinds or the constraint lines are not of the form, else 4 where a name of line 1 is refused, else 0: "The lowest that applies
@@ -45,22 +39,7 @@ pub fn form_refusal(formless: bool, named: bool) -> u32
 fn counts_refused(letters: u32, untils: usize, firsts: usize, ahead: u32, back: u32) -> bool
     ensures { result ≡ ltb 1024 letters || ltb 8 untils || ltb 8 firsts || ltb 6 (ahead + back) }
 {
-    if 1024 < letters {
-        return true;
-    }
-    if 8 < untils {
-        return true;
-    }
-    if 8 < firsts {
-        return true;
-    }
-    if 6 < ahead {
-        return true;
-    }
-    if 6 < back {
-        return true;
-    }
-    6 < ahead + back
+    1024 < letters || 8 < untils || 8 < firsts || 6 < ahead || 6 < back || 6 < ahead + back
 }
 
 fn failed(number: u32) -> Tested
@@ -102,8 +81,8 @@ pub fn lowest_refusal(
     }
     Tested {
         refusal: 0,
-        letters: letters,
-        ahead: ahead,
-        back: back,
+        letters,
+        ahead,
+        back,
     }
 }

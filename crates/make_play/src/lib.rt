@@ -4,7 +4,6 @@
 ghost use Rattle.std.specs.Prelude.{◌≡◌};
 ghost use Rattle.make_play.specs.Parts.{kept_if, PlayMade};
 
-use basics::fewer;
 use compiled_sheet::CompiledSheet;
 
 // Clears entries and final bytes where nothing can be forced.
@@ -12,8 +11,8 @@ fn keep_if(forced: bool, entries: &mut [u16], finals: &mut [u8])
     ensures { (entries.new ≡ kept_if forced entries.old) × (finals.new ≡ kept_if forced finals.old) }
 {
     if !forced {
-        basics::clear_entries(entries, 0);
-        basics::clear_bytes(finals, 0);
+        entries.fill(0);
+        finals.fill(0);
     }
 }
 
@@ -31,8 +30,8 @@ pub fn make_play(
     let choices = choices::choice_count(streams) as usize;
     let mut choice = [0u16; 1024];
     choices::fill_choices(streams, &mut choice);
-    let letters = fewer(told.letters as usize, 1024);
-    let states = fewer(told.states as usize, live.len());
+    let letters = (told.letters as usize).min(1024);
+    let states = (told.states as usize).min(live.len());
     let forced = winning_rows::find_play(
         entries,
         finals,

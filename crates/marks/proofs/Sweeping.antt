@@ -2,7 +2,7 @@
 -- the laws of marks.
 use mathlib.Core.Path.{◌≡◌, refl, sym, ◌∙◌}
 use mathlib.Core.Logic.{◌⊎◌, ⊎_elim}
-use mathlib.Core.Bool.{Bool, true, false, not, beq}
+use mathlib.Core.Bool.{Bool, true, false, not, beq, ◌||◌}
 use mathlib.Core.List.{List, [], ◌∷◌}
 use Prim.Native.Nat.{ℕ, zero, suc, ◌+◌, ◌<◌}
 use native.Mathlib.Nat.{not-suc-le-zero}
@@ -130,21 +130,15 @@ module _ {letters : ℕ} {entries : List ℕ} where
   pub swept_fewer : {to : Bool} {Seen : ℕ → Type 0} {old new : List ℕ} {changed : Bool} → changed ≡ true → Swept to letters entries Seen old new changed → rows_left to new < rows_left to old
   swept_fewer {to} {Seen} {old} {new} e r = let q : Swept to letters entries Seen old new true = rw e at r in q.outcome
 
-  -- the rows of P, and then those of Q: where these turned something, and where they did not
-  module _ {to : Bool} {P Q R : ℕ → Type 0} {first old new : List ℕ} {c d : Bool} (f : (s : ℕ) → R s → P s ⊎ Q s) (p : Swept to letters entries P first old c) (q : Swept to letters entries Q old new d) where
-    pub swept_turned : d ≡ true → Swept to letters entries R first new true
-    swept_turned e = record { same = q.same ∙ p.same; turns = turns_then letters entries to first old new p.same p.turns q.turns; outcome = outcome c p.outcome (swept_fewer e q) }
-      where
-        outcome : (c : Bool) → SweepOutcome c to letters entries P first old → rows_left to new < rows_left to old → rows_left to new < rows_left to first
-        outcome true a b = omega arith
-        outcome false a b = rw a.0 at b
-
-    pub swept_kept : d ≡ false → Swept to letters entries R first new c
-    swept_kept e = record { same = q.same ∙ p.same; turns = turns_then letters entries to first old new p.same p.turns q.turns; outcome = outcome c p.outcome (rw e at q) }
-      where
-        outcome : (c : Bool) → SweepOutcome c to letters entries P first old → Swept to letters entries Q old new false → SweepOutcome c to letters entries R first new
-        outcome true a b = rw b.outcome.0 a
-        outcome false a b = (b.outcome.0 ∙ a.0, λ s r. ⊎_elim (λ h. a.1 s h) (λ h. rw a.0 at (b.outcome.1 s h)) (f s r))
+  -- the rows of P, and then those of Q
+  pub swept_then : {to : Bool} {P Q R : ℕ → Type 0} {first old new : List ℕ} {c d : Bool} → ((s : ℕ) → R s → P s ⊎ Q s) → Swept to letters entries P first old c → Swept to letters entries Q old new d → Swept to letters entries R first new (c || d)
+  swept_then {to} {P} {Q} {R} {first} {old} {new} {c} {d} f p q = record { same = q.same ∙ p.same; turns = turns_then letters entries to first old new p.same p.turns q.turns; outcome = outcome c d p.outcome q.outcome }
+    where
+      outcome : (c d : Bool) → SweepOutcome c to letters entries P first old → SweepOutcome d to letters entries Q old new → SweepOutcome (c || d) to letters entries R first new
+      outcome true true a b = omega arith
+      outcome true false a b = rw b.0 a
+      outcome false true a b = rw a.0 at b
+      outcome false false a b = (b.0 ∙ a.0, λ s r. ⊎_elim (λ h. a.1 s h) (λ h. rw a.0 at (b.1 s h)) (f s r))
 
   -- fewer rows
   pub swept_seen : {to : Bool} {P Q : ℕ → Type 0} {old new : List ℕ} {changed : Bool} → ((s : ℕ) → Q s → P s) → Swept to letters entries P old new changed → Swept to letters entries Q old new changed

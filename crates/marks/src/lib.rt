@@ -22,15 +22,10 @@ fn has_marked(entries: &[u16], start: usize, letters: usize, marks: &[u32]) -> b
     requires { start + letters ≤ length entries.now }
     ensures { Says result (HasMarked entries.now marks.now start letters) }
 {
-    let mut a = 0;
-    while a < letters {
-        let row = entries[start + a] as usize;
-        if row < marks.len() {
-            if marks[row] == 1 {
-                return true;
-            }
+    for entry in &entries[start..start + letters] {
+        if number_at(marks, *entry) == 1 {
+            return true;
         }
-        a += 1;
     }
     false
 }
@@ -40,13 +35,10 @@ fn turn_row(entries: &[u16], letters: usize, to: bool, row: usize, marks: &mut [
     requires { (row < length marks.old) × (length marks.old * letters ≤ length entries.now) }
     ensures { Swept to letters entries.now (λ s. s ≡ row) marks.old marks.new result }
 {
-    if (marks[row] == 1) == to {
+    if (marks[row] == 1) == to || has_marked(entries, row * letters, letters, marks) != to {
         return false;
     }
-    if has_marked(entries, row * letters, letters, marks) != to {
-        return false;
-    }
-    marks[row] = to as u32;
+    marks[row] = u32::from(to);
     true
 }
 
@@ -56,12 +48,8 @@ fn sweep_down(entries: &[u16], letters: usize, to: bool, marks: &mut [u32]) -> b
     ensures { Swept to letters entries.now (λ s. s < length marks.old) marks.old marks.new result }
 {
     let mut changed = false;
-    let mut row = marks.len();
-    while row > 0 {
-        row -= 1;
-        if turn_row(entries, letters, to, row, marks) {
-            changed = true;
-        }
+    for row in (0..marks.len()).rev() {
+        changed |= turn_row(entries, letters, to, row, marks);
     }
     changed
 }
@@ -72,13 +60,8 @@ fn sweep_up(entries: &[u16], letters: usize, to: bool, marks: &mut [u32]) -> boo
     ensures { Swept to letters entries.now (λ s. s < length marks.old) marks.old marks.new result }
 {
     let mut changed = false;
-    let mut row = 0;
-    while row < marks.len() {
-        let at = row;
-        row += 1;
-        if turn_row(entries, letters, to, at, marks) {
-            changed = true;
-        }
+    for row in 0..marks.len() {
+        changed |= turn_row(entries, letters, to, row, marks);
     }
     changed
 }
@@ -88,14 +71,9 @@ fn sweeps(entries: &[u16], letters: usize, to: bool, marks: &mut [u32])
     requires { length marks.old * letters ≤ length entries.now }
     ensures { Closed to letters entries.now marks.old marks.new }
 {
-    loop {
-        if !sweep_down(entries, letters, to, marks) {
-            break;
-        }
-        if !sweep_up(entries, letters, to, marks) {
-            break;
-        }
-    }
+    'sweeps: while sweep_down(entries, letters, to, marks)
+        && sweep_up(entries, letters, to, marks)
+    {}
 }
 
 // Clears each mark from which no endless path leads through marked rows. If the rows are more than the entries have,
@@ -121,14 +99,9 @@ pub fn grow(entries: &[u16], letters: usize, marks: &mut [u32])
 pub fn keep_flagged(flags: &[u8], marks: &mut [u32])
     ensures { IsFlagged flags.now marks.old marks.new }
 {
-    let mut row: usize = 0;
-    while row < marks.len() {
-        let at = row;
-        row += 1;
-        if flags.len() <= at {
-            marks[at] = 0;
-        } else if flags[at] != 1 {
-            marks[at] = 0;
+    for (row, mark) in marks.iter_mut().enumerate() {
+        if flags.len() <= row || flags[row] != 1 {
+            *mark = 0;
         }
     }
 }

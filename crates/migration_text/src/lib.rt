@@ -6,8 +6,6 @@ ghost use Rattle.std.specs.Prelude.{◌≡◌, ◌≤◌, length, take};
 ghost use Rattle.print.specs.Append.{Appends};
 ghost use Rattle.migration_text.specs.Migration.{most_states, text_room, migration_heading, migrated_from, migration_output, Writes};
 
-use basics::fewer;
-
 // A line for each state in order, from a place on. Gives the place behind them.
 fn fill_lines(states: &[u16], start: usize, out: &mut [u8]) -> usize
     requires { (length states.now ≤ most_states) × (length out.old ≡ text_room) × (start ≡ length migration_heading) }
@@ -30,7 +28,7 @@ fn fill_text(refusal: u32, states: &[u16], out: &mut [u8]) -> usize
     if refusal != 0 {
         return print::refusal_line(refusal, out);
     }
-    let count = fewer(states.len(), 256);
+    let count = states.len().min(256);
     let start = print::text(b"old new\n", out);
     fill_lines(&states[..count], start, out)
 }

@@ -8,6 +8,8 @@ ghost use Rattle.minimise.specs.Outcome.{MinimiseOutcome};
 ghost use Rattle.minimise.specs.Compacting.{IsNumbered, IsState, IsNameable, IsMoved, IsCompacted};
 ghost use Rattle.minimise.specs.Reducing.{RowsJudged, HasWord, Tabled, Ran};
 
+use automaton::NO_STATE;
+
 // The answer: 0 and the number of states, or a refusal and 0. Laid out as in C, so that an exported function can give it back.
 #[repr(C)]
 #[derive(Clone, Copy)]
@@ -23,13 +25,10 @@ fn number_classes(class: &[u32], number: &mut [u32], first: &mut [u32]) -> usize
     ensures { IsNumbered class.now number.new first.new (length class.now) result }
 {
     let mut count = 0;
-    let mut row = 0;
-    while row < class.len() {
-        let at = row;
-        row += 1;
-        if class[at] as usize == row {
-            number[at] = count as u32;
-            first[count] = at as u32;
+    for (row, c) in class.iter().enumerate() {
+        if *c as usize == row + 1 {
+            number[row] = count as u32;
+            first[count] = row as u32;
             count += 1;
         }
     }
@@ -42,7 +41,11 @@ fn state_of(class: &[u32], number: &[u32], entry: u16) -> u16
     ensures { IsState class.now number.now entry result }
 {
     let c = marks::number_at(class, entry) as usize;
-    if c == 0 { 65535 } else { number[c - 1] as u16 }
+    if c == 0 {
+        NO_STATE
+    } else {
+        number[c - 1] as u16
+    }
 }
 
 // Moves a row up from `from` to `to`, with each entry renamed.
@@ -58,11 +61,8 @@ fn move_row(
     requires nameable { IsNameable class.now number.now }
     ensures { IsMoved class.now number.now entries.old entries.new from to letters (from + letters) }
 {
-    let mut a = 0;
-    while a < letters {
-        let entry = entries[from + a];
-        entries[to + a] = state_of(class, number, entry);
-        a += 1;
+    for a in 0..letters {
+        entries[to + a] = state_of(class, number, entries[from + a]);
     }
 }
 
@@ -81,8 +81,7 @@ fn move_rows(
     requires letters_in_bounds { (length class.now * letters ≤ length entries.old) × (length class.now ≤ length finals.old) × (length first.now ≡ length class.now) }
     ensures { IsCompacted letters class.now number.now first.now entries.old finals.old entries.new finals.new count }
 {
-    let mut state = 0;
-    while state < count {
+    for state in 0..count {
         let row = first[state] as usize;
         move_row(
             entries,
@@ -93,7 +92,6 @@ fn move_rows(
             number,
         );
         finals[state] = finals[row];
-        state += 1;
     }
 }
 
@@ -138,25 +136,7 @@ fn build_table(
 fn have_room(rows: usize, a: usize, b: usize, c: usize, d: usize, e: usize, f: usize) -> bool
     ensures { Says result ((rows ≤ a) × (rows ≤ b) × (rows ≤ c) × (rows ≤ d) × (rows ≤ e) × (rows ≤ f)) }
 {
-    if a < rows {
-        return false;
-    }
-    if b < rows {
-        return false;
-    }
-    if c < rows {
-        return false;
-    }
-    if d < rows {
-        return false;
-    }
-    if e < rows {
-        return false;
-    }
-    if f < rows {
-        return false;
-    }
-    true
+    rows <= a && rows <= b && rows <= c && rows <= d && rows <= e && rows <= f
 }
 
 // The table before what lies beyond the used rows is cleared. The work tables are cut to the rows.
@@ -190,10 +170,7 @@ fn run(
     }
     let refusal = find_refusal(entries, flags, letters, &mut live[..rows]);
     if refusal != 0 {
-        return Minimised {
-            refusal: refusal,
-            states: 0,
-        };
+        return Minimised { refusal, states: 0 };
     }
     let states = build_table(
         entries,

@@ -12,10 +12,8 @@ use std::io::{Read, Write};
 fn read_entries(heading: &[u8], text: &[u8], entries: &mut [u16]) {
     let flags = cases::bytes_lent(heading, 16, text);
     let size = cases::entries_lent(heading, 12, entries);
-    let mut i = 0;
-    while i < size {
-        entries[i] = (number(text, flags + i * 2) % 65536) as u16;
-        i += 1;
+    for (i, entry) in entries[..size].iter_mut().enumerate() {
+        *entry = (number(text, flags + i * 2) % 65536) as u16;
     }
 }
 
@@ -125,13 +123,11 @@ fn run_case<W: Write>(out: &mut W, heading: &[u8], text: &mut [u8]) {
 // One case; whether there was one.
 fn one<R: Read, W: Write>(source: &mut R, out: &mut W) -> bool {
     let mut space = [0u8; 65536];
-    let case = cases::read_case(source, 44, &mut space);
-    let size = case.size;
-    let heading = case.heading;
-    if case.found {
-        run_case(out, &heading, &mut space[..size]);
-    }
-    case.found
+    let Some(case) = cases::read_case(source, 44, &mut space) else {
+        return false;
+    };
+    run_case(out, &case.heading, &mut space[..case.size]);
+    true
 }
 
 fn main(rt: HostRuntime) {

@@ -11,6 +11,7 @@ use lib.ListN.{length, length-append, length-map}
 use lib.Signed.{◌≤ℤ◌, ≤ℤ_refl, le_z_yes}
 use borrow.Author.Tests.{leb-true, lt-ltb, le-leb}
 use mathlib.Core.Logic.{◌↔◌}
+use Rattle.std.specs.Prelude.{Option, Some, is_some}
 use Rattle.basics.proofs.Lists.{All-map, get_d_map}
 use Rattle.basics.specs.Lists.{All}
 use Rattle.meaning.specs.Arithmetic.{Operator, Interval, hull, truth_interval, operator_interval}
@@ -24,7 +25,7 @@ use Rattle.nodes.specs.Code.{operator_code}
 use Rattle.nodes.specs.Postfix.{Node}
 use Rattle.nodes.specs.Bounded.{in_bound}
 use Rattle.nodes.specs.Evaluate.{Nodes, nodes_of, kind_of, left_end}
-use Rattle.nodes.specs.Bounds.{no_range, range_within, usable, combined, truth_range, operator_range, branch_range, stream_range, count_limit, leaf_summary, first_summary, next_summary, negation_summary, operator_summary, conditional_summary, fby_summary, summary_by_kind, summary_before, node_summary, ends_in_bound, bounded_interval, summary_of, lows_of, highs_of}
+use Rattle.nodes.specs.Bounds.{no_range, range_within, combined, truth_range, operator_range, branch_range, stream_range, count_limit, leaf_summary, first_summary, next_summary, negation_summary, operator_summary, conditional_summary, fby_summary, summary_by_kind, summary_before, node_summary, ends_in_bound, bounded_interval, summary_of, lows_of, highs_of}
 use Rattle.nodes.specs.declared.Range.{Range}
 use Rattle.nodes.specs.declared.Summary.{Summary}
 use Rattle.nodes.proofs.Parts.{and_true_left, and_true_right}
@@ -35,8 +36,8 @@ use Rattle.nodes.proofs.Summing.{summary-path, summary_before-node}
 
 -- ---- intervals
 
-abbrev known : Interval → Range
-known I = record { ok = true; low = I.low; high = I.high }
+abbrev known : Interval → Option Range
+known I = Some (record { low = I.low; high = I.high })
 
 all_append : {X : Type 0} (p : X → Bool) (xs ys : List X) → all p (xs ++ ys) ≡ (all p xs && all p ys)
 all_append p [] ys = refl
@@ -47,28 +48,24 @@ all_append p (x ∷ xs) ys = ap (λ b. p x && b) (all_append p xs ys) ∙ sym (a
     and_assoc false b c = refl
 
 -- A range that is there only if its ends are within the bound.
-abbrev shown : Bool → Interval → Range
+abbrev shown : Bool → Interval → Option Range
 shown b I = cond b (known I) no_range
-
-usable-shown : (b : Bool) (I : Interval) → (b ≡ true → ends_in_bound I ≡ true) → usable (shown b I) ≡ b
-usable-shown true I h = h refl
-usable-shown false I h = refl
 
 joined-shown : (f : Interval → Interval → Interval) (a b : Bool) (I J : Interval) → (a ≡ true → ends_in_bound I ≡ true) → (b ≡ true → ends_in_bound J ≡ true)
     → combined f (shown a I) (shown b J) ≡ shown (ends_in_bound (f I J) && (a && b)) (f I J)
-joined-shown f a b I J ha hb = both a b (usable-shown a I ha) (usable-shown b J hb)
+joined-shown f a b I J ha hb = both a b ha hb
   where
-    fold : (t : Bool) (r : Range) → cond t r no_range ≡ cond (t && true) r no_range
+    fold : (t : Bool) (r : Option Range) → cond t r no_range ≡ cond (t && true) r no_range
     fold true r = refl
     fold false r = refl
 
-    none : (t : Bool) (r : Range) → no_range ≡ cond (t && false) r no_range
+    none : (t : Bool) (r : Option Range) → no_range ≡ cond (t && false) r no_range
     none true r = refl
     none false r = refl
 
-    both : (a b : Bool) → usable (shown a I) ≡ a → usable (shown b J) ≡ b → combined f (shown a I) (shown b J) ≡ shown (ends_in_bound (f I J) && (a && b)) (f I J)
-    both true true p q = simp (p, q) (fold (ends_in_bound (f I J)) (known (f I J)))
-    both true false p q = simp (p, q) (none (ends_in_bound (f I J)) (known (f I J)))
+    both : (a b : Bool) → (a ≡ true → ends_in_bound I ≡ true) → (b ≡ true → ends_in_bound J ≡ true) → combined f (shown a I) (shown b J) ≡ shown (ends_in_bound (f I J) && (a && b)) (f I J)
+    both true true p q = simp (p refl, q refl) (fold (ends_in_bound (f I J)) (known (f I J)))
+    both true false p q = (none (ends_in_bound (f I J)) (known (f I J)))
     both false b p q = none (ends_in_bound (f I J)) (known (f I J))
 
 module _ (ss : List Stream) where
@@ -127,12 +124,17 @@ module _ (ss : List Stream) where
       → branch_range (bounded_interval ss c) (bounded_interval ss a) (bounded_interval ss b) ≡ bounded_interval ss f
   branch_range_lem c a b f q i =
       let H = hull (interval ss a) (interval ss b) in
-      ap (λ r. cond (bounded_interval ss c).ok r no_range) (joined-shown hull (all_inside a) (all_inside b) (interval ss a) (interval ss b) (self a) (self b))
+      split (all_inside c)
+      ∙ ap (λ r. cond (all_inside c) r no_range) (joined-shown hull (all_inside a) (all_inside b) (interval ss a) (interval ss b) (self a) (self b))
       ∙ by (all_inside c) (ends_in_bound H) (all_inside a && all_inside b)
       ∙ sym (ap₂ (λ l I. shown (all inside l) I) q i
       ∙ ap₂ (λ I t. shown (ends_in_bound I && t) H) i (all_append inside (subexpressions c) (subexpressions a ++ subexpressions b) ∙ ap (λ t. all_inside c && t) (all_append inside (subexpressions a) (subexpressions b))))
     where
-      by : (u e t : Bool) → cond (shown u (interval ss c)).ok (shown (e && t) (hull (interval ss a) (interval ss b))) no_range ≡ shown (e && (u && t)) (hull (interval ss a) (interval ss b))
+      split : (u : Bool) → branch_range (shown u (interval ss c)) (bounded_interval ss a) (bounded_interval ss b) ≡ cond u (combined hull (bounded_interval ss a) (bounded_interval ss b)) no_range
+      split true = refl
+      split false = refl
+
+      by : (u e t : Bool) → cond u (shown (e && t) (hull (interval ss a) (interval ss b))) no_range ≡ shown (e && (u && t)) (hull (interval ss a) (interval ss b))
       by true e t = refl
       by false true t = refl
       by false false t = refl
@@ -196,7 +198,7 @@ module _ (ss : List Stream) where
   unfolding subexpressions interval reach back firsts
   negation-is e = summary-path (truth-range ss e (negation e) refl refl) refl refl refl refl
 
-  operator-range : (o : Operator) (a b : Range) → operator_range (operator_code o) a b ≡ combined (operator_interval o) a b
+  operator-range : (o : Operator) (a b : Option Range) → operator_range (operator_code o) a b ≡ combined (operator_interval o) a b
   operator-range o a b = let c = operator_code-coded o in simp (c.range, c.names)
 
   binary-is : (o : Operator) (a b : Expression) → node_count (binary o a b) ≤ count_limit → operator_summary (operator_code o) (summary_of ss a) (summary_of ss b) ≡ summary_of ss (binary o a b)
@@ -292,18 +294,18 @@ ends-in_bounds I e =
 
 module _ (ss : List Stream) (ordered : (k : ℕ) → k < length ss → (range_of ss k).low ≤ℤ (range_of ss k).high) where
   -- "6: an expression's interval leaves ±1,000,000,000": the range is there exactly if no interval in the expression does.
-  pub bounded-in_bounds : (e : Expression) → NamesBelow (length ss) e → ((bounded_interval ss e).ok ≡ true) ↔ All (λ f. InBounds (interval ss f)) (subexpressions e)
+  pub bounded-in_bounds : (e : Expression) → NamesBelow (length ss) e → (is_some (bounded_interval ss e) ≡ true) ↔ All (λ f. InBounds (interval ss f)) (subexpressions e)
   bounded-in_bounds e n = (
     λ h. All-map (subexpressions e) (λ f t. ends-in_bounds (interval ss f) t) (all-All (subexpressions e) (ok_true (all (λ f. ends_in_bound (interval ss f)) (subexpressions e)) (interval ss e) h)),
     λ h. shown_ok _ (interval ss e) (All-all (subexpressions e) (both (subexpressions e) (subexpressions-below (length ss) e n) h)),
   )
     where
-      ok_true : (b : Bool) (I : Interval) → (shown b I).ok ≡ true → b ≡ true
+      ok_true : (b : Bool) (I : Interval) → is_some (shown b I) ≡ true → b ≡ true
       ok_true true I h = refl
       ok_true false I h = h
 
-      shown_ok : (b : Bool) (I : Interval) → b ≡ true → (shown b I).ok ≡ true
-      shown_ok b I h = ap (λ t. (shown t I).ok) h
+      shown_ok : (b : Bool) (I : Interval) → b ≡ true → is_some (shown b I) ≡ true
+      shown_ok b I h = ap (λ t. is_some (shown t I)) h
 
       all-All : (es : List Expression) → all (λ f. ends_in_bound (interval ss f)) es ≡ true → All (λ f. ends_in_bound (interval ss f) ≡ true) es
       all-All [] h = tt

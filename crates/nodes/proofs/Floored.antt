@@ -3,7 +3,7 @@
 use Prim.Native.Nat.{ℕ, suc, ◌+◌, ◌-◌}
 use mathlib.Core.Path.{◌≡◌, refl, ap, ap₂, ◌∙◌}
 use mathlib.Core.List.{List, [], ◌∷◌, ◌++◌, map}
-use lib.IntN.{ℤ, pos}
+use lib.IntN.{pos}
 use lib.ListN.{length, length-map}
 use Rattle.meaning.specs.Value.{less, at_most, equal, at_least, greater, different}
 use Rattle.meaning.specs.Arithmetic.{Operator, add, subtract, multiply, divide, remainder, compare, and, or, floored_divide, floored_remainder}
@@ -12,7 +12,7 @@ use Rattle.meaning.specs.Window.{firsts, side_firsts, all_firsts, all_untils}
 use Rattle.sheet.specs.Release.{floored_operator, floored, floored_constraint}
 use Rattle.sheet.proofs.Release.{map-parts, floored-left, floored-right}
 use Rattle.nodes.specs.Code.{operator_code, floored_kind, relation_code}
-use Rattle.nodes.specs.Postfix.{Node, node, postfix, side_nodes, all_nodes, StoredConstraint, stored_constraint, stored_constraints, kinds_of, values_of, starts_of}
+use Rattle.nodes.specs.Postfix.{Node, node, postfix, side_nodes, all_nodes, stored_constraint, stored_constraints, kinds_of, values_of, starts_of}
 
 abbrev floored_node : Node → Node
 floored_node x = node (floored_kind x.kind) x.value x.start

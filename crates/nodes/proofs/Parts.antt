@@ -1,13 +1,13 @@
 -- Where the parts of stored nodes end: the laws of `left_end`, and of the answers that go from part to part (`answer_up_to`).
-use Prim.Native.Nat.{ℕ, zero, suc, ◌-◌, ◌≤◌, ◌<◌}
+use Prim.Native.Nat.{ℕ, zero, suc, ◌-◌, ◌≤◌}
 use native.Mathlib.Omega.{arith}
 use native.Mathlib.Decide.{ℕ_discrete}
 use mathlib.Core.Path.{◌≡◌, refl, sym, ◌∙◌, ap}
 use mathlib.Core.Bool.{Bool, true, false, cond, ◌&&◌}
 use mathlib.Core.List.{List, [], ◌∷◌}
 use lib.Dec.{leb}
-use lib.ListN.{length, get_or, get_or-eq_default}
-use borrow.Author.Tests.{leb-true, le-leb, lt-leb, eq-eqb, ne_eqb}
+use lib.ListN.{get_or, get_or-eq_default}
+use borrow.Author.Tests.{leb-true, le-leb, eq-eqb, ne_eqb}
 use Rattle.nodes.specs.Evaluate.{Nodes, HoldsParts, integer_node, name_node, first_node, next_node, negation_node, conditional_node, fby_node, operator_node, kind_of, left_end, answer_up_to}
 
 -- ---- the part to the left
@@ -15,9 +15,6 @@ use Rattle.nodes.specs.Evaluate.{Nodes, HoldsParts, integer_node, name_node, fir
 module _ (starts : List ℕ) where
   pub left_end-at : (t : ℕ) → get_or starts t 0 ≤ t → left_end starts (suc t) ≡ get_or starts t 0
   left_end-at t h = simp (le-leb (get_or starts t 0) t h)
-
-  left_end-behind : (t : ℕ) → t < get_or starts t 0 → left_end starts (suc t) ≡ 0
-  left_end-behind t h = simp (lt-leb (get_or starts t 0) t h)
 
   pub left_end-≤ : (e : ℕ) → left_end starts e ≤ e - 1
   left_end-≤ zero = omega arith
@@ -32,22 +29,6 @@ module _ (starts : List ℕ) where
 
   pub left_within : (i e : ℕ) → e ≤ i → left_end starts e ≤ i
   left_within i e h = omega (arith, left_end-≤ e)
-
-  -- The three answers that reading the list at the last node of a part can lead to.
-  module _ (e : ℕ) (h : e ≡ 0 → ⊥) where
-    at_last : (x : ℕ) → left_end starts (suc (e - 1)) ≡ x → x ≡ left_end starts e
-    at_last x p = let s : suc (e - 1) ≡ e = omega arith in sym p ∙ ap (left_end starts) s
-
-    pub start-left_end : get_or starts (e - 1) 0 ≤ e - 1 → get_or starts (e - 1) 0 ≡ left_end starts e
-    start-left_end l = at_last _ (left_end-at (e - 1) l)
-
-    pub behind-left_end : e - 1 < get_or starts (e - 1) 0 → 0 ≡ left_end starts e
-    behind-left_end l = at_last _ (left_end-behind (e - 1) l)
-
-    pub beyond-left_end : length starts ≤ e - 1 → 0 ≡ left_end starts e
-    beyond-left_end l =
-        let z = get_or-eq_default starts 0 l in
-        at_last _ (left_end-at (e - 1) (omega arith) ∙ z)
 
 -- The part to the left of a part that ends up to e ends up to e.
 pub left-before : (starts : List ℕ) {r : ℕ} (d e : ℕ) → r ≡ left_end starts d → d ≤ e → r ≤ e

@@ -3,6 +3,7 @@ use Prim.Native.Nat.{ℕ, suc, ◌≤◌}
 use native.Mathlib.Omega.{arith}
 use mathlib.Core.Path.{◌≡◌, refl, ◌∙◌, ap, ap₂}
 use mathlib.Core.List.{List}
+use Rattle.std.specs.Prelude.{Option}
 use lib.IntN.{ℤ}
 use lib.ListN.{get_or}
 use Rattle.nodes.specs.Evaluate.{Nodes, Kind, integer_node, name_node, first_node, next_node, negation_node, conditional_node, fby_node, operator_node, kind_of, left_end, answer_up_to}
@@ -12,7 +13,7 @@ use Rattle.nodes.specs.declared.Summary.{Summary}
 use Rattle.nodes.proofs.Parts.{left_within, answer-step}
 
 -- Summaries are equal field by field.
-pub summary-path : {r r' : Range} {a a' b b' f f' h h' : ℕ} → r ≡ r' → a ≡ a' → b ≡ b' → f ≡ f' → h ≡ h'
+pub summary-path : {r r' : Option Range} {a a' b b' f f' h h' : ℕ} → r ≡ r' → a ≡ a' → b ≡ b' → f ≡ f' → h ≡ h'
     → ◌≡◌ {A = Summary} (record { range = r; reach = a; back = b; firsts = f; furthest = h }) (record { range = r'; reach = a'; back = b'; firsts = f'; furthest = h' })
 summary-path p q r s t = λ i. record { range = p i; reach = q i; back = r i; firsts = s i; furthest = t i }
 

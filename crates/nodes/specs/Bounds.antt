@@ -1,6 +1,6 @@
 -- Interval, reach, back and firsts of a stored node, over arbitrary lists of nodes (document 01, "Intervals and the normal form", "Letters,
 -- situations, table"). proofs/ shows that on the nodes of an expression they are the expression's.
-use Rattle.std.specs.Prelude.{ℕ, suc, ◌+◌, ◌-◌, min, max, Bool, true, false, cond, ◌&&◌, List, map, leb, ltb, ℤ, pos, negsuc, length, get_or}
+use Rattle.std.specs.Prelude.{Option, Some, None, ℕ, suc, ◌+◌, ◌-◌, min, max, Bool, cond, ◌&&◌, List, map, leb, ltb, ℤ, pos, negsuc, length, get_or}
 use Rattle.meaning.specs.Arithmetic.{Interval, hull, truth_interval, operator_interval}
 use Rattle.meaning.specs.Expression.{Expression, Stream}
 use Rattle.meaning.specs.Interval.{interval, subexpressions}
@@ -13,38 +13,42 @@ use Rattle.nodes.specs.declared.Summary.{Summary}
 
 -- ---- intervals within the bound
 
-abbrev pub no_range : Range
-no_range = record { ok = false; low = pos 0; high = pos 0 }
+abbrev pub no_range : Option Range
+no_range = None
 
 -- The interval itself, where both ends are within the magnitude bound: "6: an expression's interval leaves ±1,000,000,000."
-abbrev pub range_within : Interval → Range
-range_within I = cond (in_bound I.low && in_bound I.high) (record { ok = true; low = I.low; high = I.high }) no_range
+abbrev pub range_within : Interval → Option Range
+range_within I = cond (in_bound I.low && in_bound I.high) (Some (record { low = I.low; high = I.high })) no_range
 
 abbrev pub interval_of : Range → Interval
 interval_of r = record { low = r.low; high = r.high }
 
--- There is an interval, and its ends are within the bound.
+-- Both ends of an interval are within the bound.
 abbrev pub usable : Range → Bool
-usable r = r.ok && (in_bound r.low && in_bound r.high)
+usable r = in_bound r.low && in_bound r.high
 
--- The interval that is made of two, where both are there.
-abbrev pub combined : (Interval → Interval → Interval) → Range → Range → Range
-combined f a b = cond (usable a && usable b) (range_within (f (interval_of a) (interval_of b))) no_range
+-- The interval that is made of two, where both are there and their ends are within the bound.
+abbrev pub combined : (Interval → Interval → Interval) → Option Range → Option Range → Option Range
+combined f None b = no_range
+combined f (Some a) None = no_range
+combined f (Some a) (Some b) = cond (usable a && usable b) (range_within (f (interval_of a) (interval_of b))) no_range
 
 -- "0 to 1 for truth values"
-abbrev pub truth_range : Range → Range
-truth_range a = cond a.ok (range_within truth_interval) no_range
+abbrev pub truth_range : Option Range → Option Range
+truth_range None = no_range
+truth_range (Some a) = range_within truth_interval
 
 -- The interval of what the operator with a node's kind gives.
-abbrev pub operator_range : ℕ → Range → Range → Range
+abbrev pub operator_range : ℕ → Option Range → Option Range → Option Range
 operator_range k a b = cond (leb 7 k && ltb k 22) (combined (operator_interval (operator_at k)) a b) no_range
 
 -- "the hull of both sides for `fby` and of both branches for `if`"; a condition without an interval leaves none.
-abbrev pub branch_range : Range → Range → Range → Range
-branch_range c a b = cond c.ok (combined hull a b) no_range
+abbrev pub branch_range : Option Range → Option Range → Option Range → Option Range
+branch_range None a b = no_range
+branch_range (Some c) a b = combined hull a b
 
 -- The range of the stream with a stored number.
-abbrev pub stream_range : List ℤ → List ℤ → ℤ → Range
+abbrev pub stream_range : List ℤ → List ℤ → ℤ → Option Range
 stream_range lows highs (pos k) =
     cond (ltb k (length lows) && ltb k (length highs)) (range_within (record { low = get_or lows k (pos 0); high = get_or highs k (pos 0) })) no_range
 stream_range lows highs (negsuc k) = no_range
@@ -62,7 +66,7 @@ abbrev pub no_summary : Summary
 no_summary = record { range = no_range; reach = 0; back = 0; firsts = 0; furthest = 0 }
 
 -- "Reach: 0 for a name or integer"; "Back: 0 for a name, an integer and `first`".
-abbrev pub leaf_summary : Range → Summary
+abbrev pub leaf_summary : Option Range → Summary
 leaf_summary r = record { range = r; reach = 0; back = 0; firsts = 0; furthest = 0 }
 
 abbrev pub first_summary : Summary → Summary
@@ -138,9 +142,9 @@ abbrev pub ends_in_bound : Interval → Bool
 ends_in_bound I = in_bound I.low && in_bound I.high
 
 -- An expression's interval, where the intervals of the expression and of every expression inside it are within the bound.
-abbrev pub bounded_interval : List Stream → Expression → Range
+abbrev pub bounded_interval : List Stream → Expression → Option Range
 bounded_interval ss e =
-    cond (all (λ f. ends_in_bound (interval ss f)) (subexpressions e)) (record { ok = true; low = (interval ss e).low; high = (interval ss e).high }) no_range
+    cond (all (λ f. ends_in_bound (interval ss f)) (subexpressions e)) (Some (record { low = (interval ss e).low; high = (interval ss e).high })) no_range
 
 abbrev pub summary_of : List Stream → Expression → Summary
 summary_of ss e = record { range = bounded_interval ss e; reach = reach e; back = back e; firsts = length (firsts e); furthest = largest_over reach (firsts e) }

@@ -18,6 +18,7 @@ use Rattle.normal.specs.Table.{stream_limit, flat, put_rows, RewritingFits, Wrot
 use Rattle.normal_entries.specs.declared.Made.{Made}
 use Rattle.normal_entries.specs.declared.NormalForm.{NormalForm}
 use Rattle.normal.specs.declared.RowsWritten.{RowsWritten}
+use Rattle.std.specs.Prelude.{Option}
 use Rattle.nodes.specs.declared.Range.{Range}
 use Rattle.normal.proofs.Writing.{length-flat, put-append, put-more, row_of, written, room-left, room-right}
 
@@ -224,7 +225,7 @@ module _ (ls : List Line) (streams : ℕ) {count : ℕ} (e : length ls ≡ count
   pub streams-added : streams ≤ r.stream
   streams-added = omega (arith, streams-more streams ls, w.streams)
 
-  module _ (range : ℕ → Range) (spans : List ℕ) (room : ℕ) where
+  module _ (range : ℕ → Option Range) (spans : List ℕ) (room : ℕ) where
     pub made-short : {x : Made} → room < r.row → x ≡ refused_made 10 → x ≡ made_tables ls streams range spans room
     unfolding made_tables
     made-short h q = let c = rows-counted in q ∙ sym (simp (lt-ltb room (length (all_rows streams ls)) (omega arith)))

@@ -13,6 +13,7 @@ use Rattle.basics.proofs.Lists.{All-get_or, get_d_map}
 use Rattle.basics.specs.Lists.{All}
 use Rattle.meaning.specs.Arithmetic.{Interval}
 use mathlib.Core.Bool.{Bool, true, false, cond}
+use Rattle.std.specs.Prelude.{Option, None}
 use Rattle.nodes.specs.declared.Range.{Range}
 use Rattle.scan.specs.declared.Span.{Span}
 use Rattle.spans.specs.Token.{span}
@@ -73,7 +74,7 @@ flat-at (r ∷ rows) (suc i) k h l =
     let e : suc i * 7 + k ≡ 7 + (i * 7 + k) = omega arith in
     ap (λ j. get_or (numbers_of r ++ flat rows) j 0) e ∙ get_or-append-add (numbers_of r) (flat rows) (i * 7 + k) 0 ∙ flat-at rows i k (omega arith) l
 
-ends_at : (range : ℕ → Range) (numbers : List ℕ) (n i k : ℕ) → i < n → k < 2 → get_or (ends_up_to range numbers n) (i * 2 + k) (pos 0) ≡ get_or (ends_of (range (source_at numbers i))) k (pos 0)
+ends_at : (range : ℕ → Option Range) (numbers : List ℕ) (n i k : ℕ) → i < n → k < 2 → get_or (ends_up_to range numbers n) (i * 2 + k) (pos 0) ≡ get_or (ends_of (range (source_at numbers i))) k (pos 0)
 unfolding ends_up_to
 ends_at range numbers zero i k h l = absurd (omega arith)
 ends_at range numbers (suc n) i k h l = by (dec_lt i n) (ends_at range numbers n i k)
@@ -202,7 +203,7 @@ record HasRows (rows : List Row) (numbers : List ℕ) (ss : List Span) : Type 0 
   same : (j : ℕ) → j < spans_from → get_or numbers j 0 ≡ get_or (numbers_with rows) j 0
   spans : (e : ℕ) → stored_span numbers e ≡ span_before ss e
 
-module _ (rows : List Row) (range : ℕ → Range) (interval : ℕ → Interval) (fits : length rows ≤ row_bound)
+module _ (rows : List Row) (range : ℕ → Option Range) (interval : ℕ → Interval) (fits : length rows ≤ row_bound)
     (sound : All (λ r. ends_of (range r.source) ≡ (interval r.source).low ∷ (interval r.source).high ∷ []) rows) {numbers : List ℕ} {ss : List Span} (has : HasRows rows numbers ss) where
   abbrev entry : Row → Entry
   entry r = entry_for ss r (interval r.source)
@@ -286,7 +287,7 @@ module _ (rows : List Row) (range : ℕ → Range) (interval : ℕ → Interval)
           ∙ sym (ap (λ j. get_or (map entry rows ++ replicate (room - length rows) blank) j blank) e ∙ get_or-append-add (map entry rows) (replicate (room - length rows) blank) (i - length rows) blank ∙ zeros-at (room - length rows) (i - length rows) blank)
 
 -- The tables that are made, and a list of blanks.
-pub made-listing : (text : List ℕ) (rows : List Row) (range : ℕ → Range) (interval : ℕ → Interval) → length rows ≤ row_bound → All (λ r. ends_of (range r.source) ≡ (interval r.source).low ∷ (interval r.source).high ∷ []) rows → length (spans_in text) ≤ span_bound
+pub made-listing : (text : List ℕ) (rows : List Row) (range : ℕ → Option Range) (interval : ℕ → Interval) → length rows ≤ row_bound → All (λ r. ends_of (range r.source) ≡ (interval r.source).low ∷ (interval r.source).high ∷ []) rows → length (spans_in text) ≤ span_bound
     → (room : ℕ) → length rows ≤ room → listed (stored_entry (with_spans (numbers_with rows) (span_table text)) (ends_with range rows)) room ≡ map (λ r. entry_for (spans_in text) r (interval r.source)) rows ++ replicate (room - length rows) blank
 made-listing text rows range interval fits sound few room h =
     let long = numbers-long rows fits in
@@ -296,5 +297,5 @@ pub blanks : (t : List ℕ) (u : List ℤ) (room : ℕ) → t ≡ replicate 3094
 unfolding ends_up_to
 blanks t u room p q =
     (λ i. listed (stored_entry (p i) (q i)) room)
-    ∙ listing [] (λ e. record { ok = false; low = pos 0; high = pos 0 }) (λ e. record { low = pos 0; high = pos 0 }) (omega arith) tt {ss = []} (record { same = λ j h. refl; spans = no_span_stored }) room (omega arith)
+    ∙ listing [] (λ e. None) (λ e. record { low = pos 0; high = pos 0 }) (omega arith) tt {ss = []} (record { same = λ j h. refl; spans = no_span_stored }) room (omega arith)
     ∙ ap (λ k. replicate k blank) (let e : room - 0 ≡ room = omega arith in e)

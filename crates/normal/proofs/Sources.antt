@@ -3,9 +3,10 @@
 use Prim.Native.Nat.{ℕ, suc, ◌+◌, ◌-◌, ◌≤◌, ◌<◌}
 use native.Mathlib.Omega.{arith}
 use mathlib.Core.Path.{◌≡◌, refl, sym, ◌∙◌, ap, subst}
-use mathlib.Core.Bool.{Bool, true, false, cond}
+use mathlib.Core.Bool.{Bool, true, false, cond, false≢true}
 use mathlib.Core.List.{List, [], ◌∷◌, ◌++◌}
 use lib.IntN.{ℤ}
+use Rattle.std.specs.Prelude.{Some, is_some}
 use lib.ListN.{length, get_or, length-append}
 use lib.Signed.{◌≤ℤ◌, le_z_yes}
 use Rattle.basics.proofs.Lists.{All-append, member-All}
@@ -38,10 +39,10 @@ abbrev pub ends_of_interval : Interval → List ℤ
 ends_of_interval I = I.low ∷ I.high ∷ []
 
 -- A range that is there has the ends of its interval.
-known-ends : (b : Bool) (I : Interval) → (cond b (record { ok = true; low = I.low; high = I.high }) no_range).ok ≡ true
-    → ends_of (cond b (record { ok = true; low = I.low; high = I.high }) no_range) ≡ ends_of_interval I
+known-ends : (b : Bool) (I : Interval) → is_some (cond b (Some (record { low = I.low; high = I.high })) no_range) ≡ true
+    → ends_of (cond b (Some (record { low = I.low; high = I.high })) no_range) ≡ ends_of_interval I
 known-ends true I h = refl
-known-ends false I h = let y : ◌≡◌ {A = ℕ} 0 1 = cc in absurd (omega arith)
+known-ends false I h = absurd (false≢true h)
 
 -- The forms that rows have: sides are nodes, of which there are N, and all else is streams.
 pub data RowForm (N : ℕ) : Row → Type 0 where

@@ -1,5 +1,5 @@
 -- What stands in the tables for the reader's answer to a text: the entries of the sheet, or a refusal's number with zeros.
-use Rattle.std.specs.Prelude.{ℕ, List, length}
+use Rattle.std.specs.Prelude.{Option, ℕ, List, length}
 use Rattle.meaning.specs.Expression.{Sheet}
 use Rattle.sheet.specs.Refusal.{Answer, refused, sheet}
 use Rattle.nodes.specs.Postfix.{all_nodes}
@@ -14,7 +14,7 @@ use Rattle.normal.specs.Table.{made_tables}
 use Rattle.normal_entries.specs.declared.Made.{Made}
 
 -- The range of the part of the sheet's stored nodes that ends before a place.
-abbrev pub sheet_range : Sheet → ℕ → Range
+abbrev pub sheet_range : Sheet → ℕ → Option Range
 sheet_range s = range_before (nodes_of (all_nodes 0 0 s.constraints)) (lows_of s.streams) (highs_of s.streams)
 
 abbrev pub entries_for : List ℕ → Answer → ℕ → Made

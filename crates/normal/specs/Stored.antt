@@ -1,5 +1,5 @@
 -- What stored constraints add, over arbitrary lists of nodes. proofs/ shows that on the nodes of a sheet it is what the sheet's lines add.
-use Rattle.std.specs.Prelude.{ℕ, zero, suc, List, [], ◌∷◌, ℤ, get_or}
+use Rattle.std.specs.Prelude.{Option, ℕ, zero, suc, List, [], ◌∷◌, ℤ, get_or}
 use Rattle.nodes.specs.Evaluate.{Nodes, Kind, integer_node, name_node, first_node, next_node, negation_node, conditional_node, fby_node, operator_node, kind_of, left_end, answer_up_to}
 use Rattle.nodes.specs.Bounds.{no_range, node_summary}
 use Rattle.nodes.specs.declared.Range.{Range}
@@ -35,6 +35,6 @@ module _ (kinds starts : List ℕ) where
   stored_lines (p ∷ relations) (l ∷ lefts) (r ∷ rights) = stored_line p l r ∷ stored_lines relations lefts rights
 
 -- The range of the part that ends before a place.
-abbrev pub range_before : Nodes → List ℤ → List ℤ → ℕ → Range
+abbrev pub range_before : Nodes → List ℤ → List ℤ → ℕ → Option Range
 range_before N lows highs zero = no_range
 range_before N lows highs (suc i) = (node_summary N lows highs i).range

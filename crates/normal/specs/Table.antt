@@ -1,5 +1,5 @@
 -- Rows put into tables of numbers, and the ends of their ranges (`normal_entries/specs/Entries` has where they stand).
-use Rattle.std.specs.Prelude.{ℕ, zero, suc, ◌+◌, ◌-◌, ◌*◌, ◌≤◌, ◌<◌, ◌≡◌, cond, List, [], ◌∷◌, ◌++◌, ltb, ℤ, pos, length, get_or, replicate}
+use Rattle.std.specs.Prelude.{Option, unwrap_or, ℕ, zero, suc, ◌+◌, ◌-◌, ◌*◌, ◌≤◌, ◌<◌, ◌≡◌, cond, List, [], ◌∷◌, ◌++◌, ltb, ℤ, pos, length, get_or, replicate}
 use Rattle.std.proofs.lemmas.List.Edits.{sets}
 use Rattle.meaning.specs.Window.{join_over}
 use Rattle.nodes.specs.declared.Range.{Range}
@@ -62,21 +62,25 @@ pub record HasLines (kinds relations lefts rights : List ℕ) : Type 0 where
 abbrev pub source_at : List ℕ → ℕ → ℕ
 source_at numbers i = get_or numbers (i * 7 + 6) 0
 
-abbrev pub ends_of : Range → List ℤ
-ends_of r = r.low ∷ r.high ∷ []
+-- The range, or that from 0 to 0 where there is none.
+abbrev pub range_or_zeros : Option Range → Range
+range_or_zeros r = unwrap_or r (record { low = pos 0; high = pos 0 })
 
-unfoldable pub ends_up_to : (ℕ → Range) → List ℕ → ℕ → List ℤ
+abbrev pub ends_of : Option Range → List ℤ
+ends_of r = (range_or_zeros r).low ∷ (range_or_zeros r).high ∷ []
+
+unfoldable pub ends_up_to : (ℕ → Option Range) → List ℕ → ℕ → List ℤ
 ends_up_to range numbers zero = []
 ends_up_to range numbers (suc n) = ends_up_to range numbers n ++ ends_of (range (source_at numbers n))
 
 abbrev pub numbers_with : List Row → List ℕ
 numbers_with rows = put_rows (replicate 30944 0) 0 rows
 
-abbrev pub ends_with : (ℕ → Range) → List Row → List ℤ
+abbrev pub ends_with : (ℕ → Option Range) → List Row → List ℤ
 ends_with range rows = sets (replicate 8256 (pos 0)) 0 (ends_up_to range (numbers_with rows) (length rows))
 
 -- The tables with the entries of lines in them, or a refusal with tables of zeros.
-unfoldable pub made_tables : List Line → ℕ → (ℕ → Range) → List ℕ → ℕ → Made
+unfoldable pub made_tables : List Line → ℕ → (ℕ → Option Range) → List ℕ → ℕ → Made
 made_tables ls streams range spans room =
     let rows = all_rows streams ls in
     cond (ltb room (length rows))

@@ -13,9 +13,8 @@ ghost use Rattle.normal.specs.Stored.{rewriting_before, stored_line, stored_line
 ghost use Rattle.normal_entries.specs.Entries.{row_bound, blank, refused_made};
 ghost use Rattle.normal.specs.Table.{stream_limit, put_rows, RewritingFits, Wrote, WroteLine, WroteLines, LinesHaveRoom, HasLines, ends_up_to, made_tables};
 
-use basics::clear_entries;
 use nodes::{Range, left_end};
-use normal_entries::{Entry, Made, NormalForm, fill, put_spans, refused, refused_answer, wide};
+use normal_entries::{Entry, Made, NormalForm, fill, put_spans, refused, refused_answer};
 
 // The row and the stream behind the last.
 #[derive(Clone, Copy)]
@@ -28,10 +27,7 @@ struct RowsWritten {
 fn last_node(end: usize) -> usize
     ensures { result ≡ end - 1 }
 {
-    if end == 0 {
-        return 0;
-    }
-    end - 1
+    end.saturating_sub(1)
 }
 
 fn put_row(
@@ -106,18 +102,12 @@ fn write_rows(
     ensures { Wrote (rewriting_before kinds.now starts.now end) row stream table.old table.new result }
 {
     if end == 0 {
-        return RowsWritten {
-            row: row,
-            stream: stream,
-        };
+        return RowsWritten { row, stream };
     }
     let last = end - 1;
     let kind = kinds[last];
     if kind < nodes::FIRST_NODE {
-        return RowsWritten {
-            row: row,
-            stream: stream,
-        };
+        return RowsWritten { row, stream };
     }
     if kind == nodes::NEXT_NODE {
         put_next(table, row, stream, last);
@@ -210,12 +200,11 @@ fn write_lines(
 {
     let mut row = relations.len();
     let mut stream = streams;
-    let mut j = 0;
-    while j < relations.len() {
+    for (j, relation) in relations.iter().enumerate() {
         let next = write_line(
             kinds,
             starts,
-            relations[j],
+            *relation,
             lefts[j] as usize,
             rights[j] as usize,
             j,
@@ -225,15 +214,11 @@ fn write_lines(
         );
         row = next.row;
         stream = next.stream;
-        j += 1;
     }
-    RowsWritten {
-        row: row,
-        stream: stream,
-    }
+    RowsWritten { row, stream }
 }
 
-// The range of the part that ends before `end`.
+// The range of the part that ends before `end`, if it has one within the bound.
 fn range_before(
     kinds: &[u8],
     values: &[i64],
@@ -241,18 +226,13 @@ fn range_before(
     lows: &[i64],
     highs: &[i64],
     end: usize,
-) -> Range
+) -> Option<Range>
     ensures { result ≡ range_before (stored kinds.now values.now starts.now) lows.now highs.now end }
 {
     if end == 0 {
-        return Range {
-            ok: false,
-            low: 0,
-            high: 0,
-        };
+        return None;
     }
-    let summary = bounds::summary(kinds, values, starts, lows, highs, end - 1);
-    summary.range
+    bounds::summary(kinds, values, starts, lows, highs, end - 1).range
 }
 
 // Stores the ends of the range of a row.
@@ -265,7 +245,7 @@ fn put_range(ends: &mut [i64; 8256], row: usize, low: i64, high: i64)
     ends[at + 1] = high;
 }
 
-// Writes the ends of the ranges of the first `rows` rows.
+// Writes the ends of the ranges of the first `rows` rows, zeros where there is none.
 fn write_ends(
     kinds: &[u8],
     values: &[i64],
@@ -279,12 +259,13 @@ fn write_ends(
     requires { rows ≤ row_bound }
     ensures { ends.new ≡ sets ends.old 0 (ends_up_to (range_before (stored kinds.now values.now starts.now) lows.now highs.now) numbers.now rows) }
 {
-    let mut i = 0;
-    while i < rows {
-        let source = wide(numbers[i * 7 + 6]);
-        let range = range_before(kinds, values, starts, lows, highs, source);
+    for i in 0..rows {
+        let source = usize::from(numbers[i * 7 + 6]);
+        let range = range_before(kinds, values, starts, lows, highs, source).unwrap_or(Range {
+            low: 0,
+            high: 0,
+        });
         put_range(ends, i, range.low, range.high);
-        i += 1;
     }
 }
 
@@ -320,7 +301,7 @@ fn make(
     );
     let rows = written.row;
     if room < rows {
-        clear_entries(&mut made.numbers, 0);
+        made.numbers.fill(0);
         made.answer = refused_answer(10);
         return;
     }

@@ -1,19 +1,19 @@
 -- Entries in tables: what the loops over entries and spans leave, and what the entries read.
 use Prim.Native.Nat.{ℕ, zero, suc, ◌+◌, ◌-◌, ◌*◌, ◌≤◌, ◌<◌}
 use native.Mathlib.Omega.{arith}
-use native.Mathlib.Numerals.{add-one}
-use mathlib.Core.Path.{◌≡◌, refl, sym, ◌∙◌, ap}
+use mathlib.Core.Path.{◌≡◌, refl, sym, ◌∙◌, ap, ap₂}
 use mathlib.Core.Bool.{Bool, true, false, cond, ◌&&◌, ◌||◌}
-use mathlib.Core.List.{List, [], ◌∷◌, ◌++◌}
+use mathlib.Core.List.{List, [], ◌∷◌, ◌++◌, append_assoc}
 use lib.Dec.{eqb, ltb}
 use lib.IntN.{ℤ, pos}
-use lib.ListN.{length, get_or, set, take, length-append}
-use lib.Seq.{sets, take-suc-set, take-length}
+use lib.ListN.{length, get_or, set, take, drop, length-append}
+use lib.Seq.{sets, take-suc, take-suc-set, take-length, take_all, drop-drop}
+use borrow.Rule.Slice.PartMut.{put_mid}
+use Rattle.std.proofs.lemmas.List.Edits.{sets-eq}
 use borrow.Author.Tests.{eq-eqb, ne_eqb, lt-ltb, le-ltb}
-use Rattle.basics.proofs.Lists.{sets_append}
 use Rattle.spans.specs.Stored.{span_bound}
 use Rattle.normal_entries.specs.Entries.{row_bound, spans_from, with_spans, blank, row_in, stored_place, stored_span, stored_entry, listed}
-use Rattle.normal_entries.specs.Fields.{right_is_node, replaces_in, entry_with}
+use Rattle.normal_entries.specs.Fields.{replaces_in, entry_with}
 use Rattle.normal_entries.specs.declared.Entry.{Entry}
 
 module _ (numbers : List ℕ) (ends : List ℤ) (i : ℕ) where
@@ -41,32 +41,24 @@ module _ (f : ℕ → Entry) where
 
 -- ---- spans
 
--- The numbers with the first i of the spans' numbers stored behind them.
-abbrev pub spans_up_to : List ℕ → List ℕ → ℕ → List ℕ
-spans_up_to numbers spans i = sets numbers spans_from (listed (λ k. get_or spans k 0) i)
-
 pub length-listed : {X : Type 0} (f : ℕ → X) (n : ℕ) → length (listed f n) ≡ n
 unfolding listed
 length-listed f zero = refl
 length-listed f (suc n) = let h = length-listed f n in length-append (listed f n) (f n ∷ []) ∙ omega arith
 
-pub spans-begin : (numbers spans : List ℕ) → numbers ≡ spans_up_to numbers spans 0
+listed-taken : (l : List ℕ) (n : ℕ) → n ≤ length l → listed (λ k. get_or l k 0) n ≡ take n l
 unfolding listed
-spans-begin numbers spans = refl
+listed-taken l zero h = refl
+listed-taken l (suc n) h = ap (λ m. m ++ (get_or l n 0 ∷ [])) (listed-taken l n (omega arith)) ∙ sym (take-suc l n 0 h)
 
-pub spans-more : (numbers spans : List ℕ) {old new : List ℕ} (i : ℕ) → old ≡ spans_up_to numbers spans i → new ≡ set old (spans_from + i) (get_or spans i 0) → new ≡ spans_up_to numbers spans (i + 1)
-unfolding listed
-spans-more numbers spans i p e =
-    let f : ℕ → ℕ = λ k. get_or spans k 0 in
-    let at : spans_from + i ≡ spans_from + length (listed f i) = omega (arith, length-listed f i) in
-    e
-    ∙ (λ j. set (p j) (at j) (get_or spans i 0))
-    ∙ sets_append numbers spans_from (listed f i) (f i ∷ [])
-    ∙ ap (spans_up_to numbers spans) (sym (add-one i))
-
-pub spans-whole : (numbers spans : List ℕ) {new : List ℕ} {i : ℕ} → new ≡ spans_up_to numbers spans i → i ≡ 2048 → new ≡ with_spans numbers spans
+-- The spans copied into the part of a list behind the entries.
+pub spans-copied : (numbers spans : List ℕ) {new : List ℕ} → new ≡ spans → length spans ≡ 2048 → length numbers ≡ 30944 → put_mid spans_from 2048 numbers new ≡ with_spans numbers spans
 unfolding with_spans
-spans-whole numbers spans p e = p ∙ ap (spans_up_to numbers spans) e
+spans-copied numbers spans {new} e s h =
+    let all : listed (λ k. get_or spans k 0) 2048 ≡ spans = listed-taken spans 2048 (omega arith) ∙ take_all 2048 spans (omega arith) in
+    ap₂ (λ m w. put_mid spans_from m numbers w) (sym s) e
+    ∙ ap (λ t. take spans_from numbers ++ (spans ++ t)) (drop-drop (length spans) spans_from numbers)
+    ∙ sym (append_assoc (take spans_from numbers) spans (drop (spans_from + length spans) numbers)) ∙ sym (sets-eq spans numbers spans_from (omega arith)) ∙ ap (sets numbers spans_from) (sym all)
 
 module _ (numbers : List ℕ) (which : ℕ) where
   pub place_none : {e : ℕ} → e ≡ 0 → 0 ≡ stored_place numbers which e
@@ -107,9 +99,3 @@ module _ (kind left right : ℕ) where
 
       pub replaces_right : right ≤ left → 0 ≡ replaces_in kind left right
       replaces_right l = by_order false (le-ltb left right l)
-
-pub constraint-right : (kind : ℕ) → kind ≡ 1 → true ≡ right_is_node kind
-constraint-right kind h = sym (ap (λ b. b || eqb kind 3) (eq-eqb kind 1 h))
-
-pub other-right : (kind : ℕ) → (kind ≡ 1 → ⊥) → eqb kind 3 ≡ right_is_node kind
-other-right kind h = sym (ap (λ b. b || eqb kind 3) (ne_eqb kind 1 h))

@@ -43,12 +43,6 @@ pub struct Made {
     pub ends: [i64; 8256],
 }
 
-pub fn wide(x: u16) -> usize
-    ensures { result ≡ x }
-{
-    x as usize
-}
-
 // The answer of a refusal.
 pub fn refused_answer(number: u32) -> NormalForm
     ensures { result ≡ (refused_made number).answer }
@@ -65,13 +59,8 @@ pub fn refused_answer(number: u32) -> NormalForm
 pub fn refused(number: u32) -> Made
     ensures { result ≡ refused_made number }
 {
-    let answer = NormalForm {
-        refusal: number,
-        entries: 0,
-        added: 0,
-    };
     Made {
-        answer: answer,
+        answer: refused_answer(number),
         numbers: [0; 30944],
         ends: [0; 8256],
     }
@@ -81,11 +70,7 @@ pub fn refused(number: u32) -> Made
 pub fn put_spans(numbers: &mut [u16; 30944], spans: &[u16; 2048])
     ensures { numbers.new ≡ with_spans numbers.old spans.now }
 {
-    let mut i = 0;
-    while i < 2048 {
-        numbers[28896 + i] = spans[i];
-        i += 1;
-    }
+    numbers[28896..].copy_from_slice(spans);
 }
 
 // Whether the left of an entry of this kind is a node.
@@ -99,10 +84,7 @@ fn left_is_node(kind: u16) -> bool
 fn right_is_node(kind: u16) -> bool
     ensures { result ≡ right_is_node kind }
 {
-    if kind == 1 {
-        return true;
-    }
-    kind == 3
+    kind == 1 || kind == 3
 }
 
 // A stream's number, and 0 for a node.
@@ -116,20 +98,18 @@ fn stream_of(is_node: bool, number: u16) -> u16
 fn behind_node(is_node: bool, node: u16, other: usize) -> usize
     ensures { result ≡ cond is_node (suc node) other }
 {
-    if is_node { wide(node) + 1 } else { other }
+    if is_node {
+        usize::from(node) + 1
+    } else {
+        other
+    }
 }
 
 // 1 where the left stream of an entry stands for a whole `next` or `fby`, else 0.
 fn replaces(kind: u16, left: u16, right: u16) -> u16
     ensures { result ≡ replaces_in kind left right }
 {
-    if kind == 5 {
-        return 1;
-    }
-    if kind != 4 {
-        return 0;
-    }
-    if left < right { 1 } else { 0 }
+    u16::from(kind == 5 || kind == 4 && left < right)
 }
 
 // A place of the span of the node that stands before `end`: its begin, or its end where `which` is 1. 0 where there is no node.
@@ -137,14 +117,10 @@ fn stored_place(numbers: &[u16; 30944], end: usize, which: usize) -> u16
     requires { which < 2 }
     ensures { result ≡ stored_place numbers.now which end }
 {
-    if end == 0 {
+    if end == 0 || 1024 < end {
         return 0;
     }
-    let node = end - 1;
-    if 1024 <= node {
-        return 0;
-    }
-    numbers[28896 + node * 2 + which]
+    numbers[28896 + (end - 1) * 2 + which]
 }
 
 // An entry of zeros.
@@ -185,10 +161,10 @@ pub fn entry_at(numbers: &[u16; 30944], ends: &[i64; 8256], i: usize) -> Entry
     let right = numbers[at + 4];
     let is_left = left_is_node(kind);
     let is_right = right_is_node(kind);
-    let before_left = behind_node(is_left, left, wide(numbers[at + 6]));
+    let before_left = behind_node(is_left, left, usize::from(numbers[at + 6]));
     let before_right = behind_node(is_right, right, 0);
     Entry {
-        kind: kind,
+        kind,
         relation: numbers[at + 1],
         stream_kind: ADDED_STREAM_KIND,
         replaces: replaces(kind, left, right),
@@ -209,9 +185,7 @@ pub fn entry_at(numbers: &[u16; 30944], ends: &[i64; 8256], i: usize) -> Entry
 pub fn fill(list: &mut [Entry], numbers: &[u16; 30944], ends: &[i64; 8256])
     ensures { list.new ≡ listed (stored_entry numbers.now ends.now) (length list.old) }
 {
-    let mut i = 0;
-    while i < list.len() {
-        list[i] = entry_at(numbers, ends, i);
-        i += 1;
+    for (i, entry) in list.iter_mut().enumerate() {
+        *entry = entry_at(numbers, ends, i);
     }
 }

@@ -4,14 +4,13 @@
 ghost use Rattle.std.specs.Prelude.{◌≡◌, ◌*◌, ◌≤◌, min};
 ghost use Rattle.opened_tables.specs.Used.{used_rows};
 
-use basics::fewer;
 use opening::OpenedTable;
 
 // How many rows of its array a table uses.
 pub fn used_rows(table: OpenedTable) -> usize
     ensures { result ≡ used_rows table }
 {
-    fewer(table.states as usize, 256)
+    (table.states as usize).min(256)
 }
 
 // How many entries so many rows take, and no more than the array has.
@@ -19,7 +18,7 @@ fn entries_of(rows: usize, letters: u32) -> usize
     requires { rows ≤ 256 }
     ensures { result ≡ min (rows * letters) 32768 }
 {
-    fewer(rows * letters as usize, 32768)
+    (rows * letters as usize).min(32768)
 }
 
 // How many entries the used rows of a table take.

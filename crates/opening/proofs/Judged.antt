@@ -1,5 +1,7 @@
 -- A start is judged by what is read of its text, and a number by its size: an integer beyond the bound is no state, since there are fewer states.
 use Prim.Native.Nat.{ℕ, ◌≤◌, ◌<◌}
+use Rattle.std.specs.Prelude.{Ok}
+use Rattle.std.specs.Result.{is_err, result_unwrap_or}
 use native.Mathlib.Omega.{arith}
 use mathlib.Core.Path.{◌≡◌, refl, sym, ◌∙◌, ap, subst}
 use mathlib.Core.Bool.{Bool, true, false, cond, ◌&&◌}
@@ -47,33 +49,23 @@ module _ (states : ℕ) (t : Token) where
   abbrev read_as : Bool → Bool → Option ℕ
   read_as is below = cond (is && below) (some (nat_abs (integer_value t))) none
 
-  pub unread-none : (integer_read t).ok ≡ false → none ≡ start_state states (some t)
+  pub read-none : states ≤ magnitude_bound → is_err (integer_read t) ≡ true → none ≡ start_state states (some t)
   unfolding integer_read start_state
-  unread-none e = by (is_integer t) (is_beyond (integer_value t)) e
+  read-none h e = by (is_integer t) (is_beyond (integer_value t)) refl e
     where
-      by : (is beyond : Bool) → (cond is (integer_within beyond (integer_value t)) no_integer).ok ≡ false → none ≡ read_as is (is_state_below states (integer_value t))
-      by true true q = not-both (sym q)
-      by true false q = not-both (sym q)
-      by false beyond q = refl
-
-  pub beyond-start : states ≤ magnitude_bound → (integer_read t).beyond ≡ true → none ≡ start_state states (some t)
-  unfolding integer_read start_state
-  beyond-start h e = by (is_integer t) (is_beyond (integer_value t)) refl e
-    where
-      by : (is beyond : Bool) → is_beyond (integer_value t) ≡ beyond → (cond is (integer_within beyond (integer_value t)) no_integer).beyond ≡ true → none ≡ read_as is (is_state_below states (integer_value t))
+      by : (is beyond : Bool) → is_beyond (integer_value t) ≡ beyond → is_err (cond is (integer_within beyond (integer_value t)) no_integer) ≡ true → none ≡ read_as is (is_state_below states (integer_value t))
       by true true p q = beyond-none (integer_value t) h p
       by true false p q = not-both q
       by false beyond p q = refl
 
-  pub read-start : (integer_read t).ok ≡ true → (integer_read t).beyond ≡ false → state_below states (integer_read t).value ≡ start_state states (some t)
+  pub read-start : {z : ℤ} → integer_read t ≡ Ok z → state_below states z ≡ start_state states (some t)
   unfolding integer_read start_state
-  read-start e b = by (is_integer t) (is_beyond (integer_value t)) e b
+  read-start {z} e = by (is_integer t) (is_beyond (integer_value t)) e
     where
-      by : (is beyond : Bool) → (cond is (integer_within beyond (integer_value t)) no_integer).ok ≡ true → (cond is (integer_within beyond (integer_value t)) no_integer).beyond ≡ false
-          → state_below states (cond is (integer_within beyond (integer_value t)) no_integer).value ≡ read_as is (is_state_below states (integer_value t))
-      by true true p q = not-both (sym q)
-      by true false p q = refl
-      by false beyond p q = not-both p
+      by : (is beyond : Bool) → cond is (integer_within beyond (integer_value t)) no_integer ≡ Ok z → state_below states z ≡ read_as is (is_state_below states (integer_value t))
+      by true true q = not-both (sym (ap is_err q))
+      by true false q = ap (state_below states) (sym (ap (λ r. result_unwrap_or r (pos 0)) q))
+      by false beyond q = not-both (sym (ap is_err q))
 
   -- ---- whether there is a text
 

@@ -1,10 +1,9 @@
 -- The state to start from, by the text that says it (document 02, S-1: "this one may get a third, the state to start from instead of 0"), and how such a
 -- text is judged. Programs that begin in a state of a table have it from here.
-use Rattle.std.specs.Prelude.{ℕ, Bool, true, false, cond, ◌&&◌, List, ltb, ℤ, pos, negsuc, nat_abs}
+use Rattle.std.specs.Prelude.{Option as MachineOption, Some, None, ℕ, Bool, true, false, cond, ◌&&◌, List, ltb, ℤ, pos, negsuc, nat_abs}
 use Rattle.std.proofs.Math.Option.{Option, none, some}
 use Rattle.text.specs.Bytes.{Token}
 use Rattle.text.specs.Token.{is_integer, integer_value}
-use Rattle.opening.specs.declared.Start.{Start}
 
 -- The text of a start, where one is given.
 abbrev pub start_text : Bool → List ℕ → Option Token
@@ -27,7 +26,7 @@ start_state states (some t) = cond (is_integer t && is_state_below states (integ
 abbrev pub state_below : ℕ → ℤ → Option ℕ
 state_below states value = cond (is_state_below states value) (some (nat_abs value)) none
 
--- Whether there is a state, and which one; 0 where there is none.
-abbrev pub judged : Option ℕ → Start
-judged none = record { ok = false; state = 0 }
-judged (some state) = record { ok = true; state = state }
+-- The state, if there is one.
+abbrev pub judged : Option ℕ → MachineOption ℕ
+judged none = None
+judged (some state) = Some state

@@ -2,7 +2,6 @@
 #![tactic(auto)]
 
 ghost use Rattle.std.specs.Prelude.{◌≡◌, ◌≤◌};
-ghost use Rattle.std.proofs.Math.Option.{none};
 ghost use Rattle.sheet.specs.Refusal.{magnitude_bound};
 ghost use Rattle.opening.specs.Start.{start_text, start_state, state_below, judged};
 ghost use Rattle.opening.specs.Opens.{OpensTable};
@@ -16,55 +15,32 @@ pub struct OpenedTable {
     pub sheet: reader::StoredSheet,
 }
 
-// Whether a start is a state of the table, and the state, or 0.
-#[derive(Clone, Copy)]
-struct Start {
-    ok: bool,
-    state: u32,
-}
-
-fn no_start() -> Start
-    ensures { result ≡ judged none }
-{
-    Start {
-        ok: false,
-        state: 0,
-    }
-}
-
 // The state that a number is, of so many states.
-fn state_of(value: i64, states: u32) -> Start
+fn state_of(value: i64, states: u32) -> Option<u32>
     ensures { result ≡ judged (state_below states value) }
 {
     if value < 0 {
-        return no_start();
+        return None;
     }
     let number = value as u64;
     if number < states as u64 {
-        return Start {
-            ok: true,
-            state: number as u32,
-        };
+        return Some(number as u32);
     }
-    no_start()
+    None
 }
 
 // The state to start from: 0, or the one that the text says where a start is given. An integer beyond the bound is no state, whatever its length.
-fn judge_start(states: u32, given: bool, start: &[u8]) -> Start
+fn judge_start(states: u32, given: bool, start: &[u8]) -> Option<u32>
     requires { states ≤ magnitude_bound }
     ensures { result ≡ judged (start_state states (start_text given start.now)) }
 {
     if !given {
-        return Start { ok: true, state: 0 };
+        return Some(0);
     }
-    let read = scan::read_integer(start);
-    if !read.ok {
-        return no_start();
-    }
-    if read.beyond {
-        return no_start();
-    }
-    state_of(read.value, states)
+    let Ok(value) = scan::read_integer(start) else {
+        return None;
+    };
+    state_of(value, states)
 }
 
 // Reads and compiles the sheet, in the rows that programs lend, and judges the start. Entries and final bytes are those of the table, with zeros behind
@@ -78,34 +54,30 @@ pub fn open_table(
 ) -> OpenedTable
     ensures { OpensTable text.now (start_text given start.now) result entries.new finals.new }
 {
-    let reading = reader::read(text);
-    let sheet = reading.sheet;
-    let letters = sheet.letters as usize;
-    let compiled = lend::compile_lent(text, letters, entries, finals);
-    let refusal = compiled.refusal;
-    if refusal != 0 {
+    let sheet = reader::read(text).sheet;
+    let compiled = lend::compile_lent(text, sheet.letters as usize, entries, finals);
+    if compiled.refusal != 0 {
         return OpenedTable {
-            refusal: refusal,
+            refusal: compiled.refusal,
             states: 0,
             state: 0,
-            sheet: sheet,
+            sheet,
         };
     }
-    let judged = judge_start(compiled.states, given, start);
-    if !judged.ok {
-        basics::clear_entries(entries, 0);
-        basics::clear_bytes(finals, 0);
+    let Some(state) = judge_start(compiled.states, given, start) else {
+        entries.fill(0);
+        finals.fill(0);
         return OpenedTable {
             refusal: 11,
             states: 0,
             state: 0,
-            sheet: sheet,
+            sheet,
         };
-    }
+    };
     OpenedTable {
         refusal: 0,
         states: compiled.states,
-        state: judged.state,
-        sheet: sheet,
+        state,
+        sheet,
     }
 }

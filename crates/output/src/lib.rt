@@ -2,10 +2,9 @@
 // standard output no contract can say, so a program that prints a text in parts counts the bytes of the writes that were whole.
 #![tactic(auto)]
 
-ghost use Rattle.std.specs.Prelude.{take};
+ghost use Rattle.std.specs.Prelude.{take, cond, []};
 ghost use Rattle.output.specs.Output.{Hands, WritesWhole};
 
-use basics::fewer;
 use std::io::Write;
 
 // How many bytes were taken by writes, and whether each write took all of its bytes.
@@ -35,7 +34,7 @@ pub fn write_front<W: Write>(out: &mut W, bytes: &[u8], size: usize) -> Handed
     ensures hands { Hands (take size bytes.now) result.size result.whole }
     ensures written { WritesWhole (W.contents out.old) (W.contents out.new) (take size bytes.now) result.whole }
 {
-    let count = fewer(size, bytes.len());
+    let count = size.min(bytes.len());
     if count == 0 {
         return Handed {
             size: 0,
@@ -52,4 +51,14 @@ pub fn write_front<W: Write>(out: &mut W, bytes: &[u8], size: usize) -> Handed
         size: count,
         whole: true,
     }
+}
+
+// Writes a message where there is something to tell, and nothing where there is not; whether all that was to be written was.
+pub fn tell<W: Write>(out: &mut W, something: bool, message: &str) -> bool
+    ensures { WritesWhole (W.contents out.old) (W.contents out.new) (cond something message.now []) result }
+{
+    if !something {
+        return true;
+    }
+    write_whole(out, message.as_bytes())
 }

@@ -26,6 +26,10 @@ places_or refusal count = cond (eqb refusal 0) count 1
 abbrev pub line_room : ℕ
 line_room = 256
 
+-- So many lines at most has a text that is written page by page.
+abbrev pub most_lines : ℕ
+most_lines = 65536
+
 -- The line stands at the front of the bytes and takes so many of them; or it is too long, and the number is more than there is room for.
 pub record HoldsLine (line out : List ℕ) (size : ℕ) : Type 0 where
   pub held : length line ≤ line_room → (size ≡ length line) × (take size out ≡ line)

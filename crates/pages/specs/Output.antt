@@ -7,6 +7,7 @@ use Rattle.print.specs.Text.{heading_line}
 use Rattle.table_text.specs.Table.{place_text}
 use Rattle.print.specs.Lines.{lines_from, stored_names}
 use Rattle.pages.specs.Lines.{or_refused, places_or}
+use Rattle.pages.specs.declared.Table.{Table}
 
 -- What is printed: a refusal's number, or 0 and the table of so many states. A name is stored as eight bytes and a length.
 pub record Printout : Type 0 where
@@ -18,6 +19,20 @@ pub record Printout : Type 0 where
   pub highs : List ℤ
   pub entries : List ℕ
   pub finals : List ℕ
+
+-- A table as it is lent.
+abbrev pub printout_of_table : Table → Printout
+printout_of_table t =
+    record {
+      refusal = t.refusal;
+      states = t.states;
+      names = t.names.now;
+      lengths = t.lengths.now;
+      lows = t.lows.now;
+      highs = t.highs.now;
+      entries = t.entries.now;
+      finals = t.finals.now;
+    }
 
 -- "a heading with the names, then a line for each entry that is not 65,535, by state and letter"; any other entry has no text.
 abbrev pub table_line : Printout → ℕ → List ℕ

@@ -1,13 +1,16 @@
-// Fills lent bytes with whole lines of what `sluice` prints, from a place on, so that a program only has to write the filled bytes. Place 0 has the
-// heading, or the line of a refusal, and the places after it have the lines of the entries, or nothing where an entry is 65,535.
+// Fills lent bytes with whole lines of a text from a place on, and writes all of a text page by page. The text that is given here is what `sluice` prints: place 0
+// has the heading, or the line of a refusal, and the places after it have the lines of the entries, or nothing where an entry is 65,535.
 #![tactic(auto)]
 
-ghost use Rattle.std.specs.Prelude.{◌≡◌, ℕ, ◌+◌, ◌≤◌, ◌<◌, length, take};
-ghost use Rattle.std.proofs.lemmas.List.Edits.{sets};
-ghost use Rattle.pages.specs.Lines.{line_room, HoldsLine, IsPage};
-ghost use Rattle.pages.specs.Output.{output_at, place_count};
+ghost use Rattle.std.specs.Prelude.{◌≡◌, ℕ, ◌≤◌, ◌<◌, List, length};
+ghost use Rattle.output.specs.Output.{Hands};
+ghost use Rattle.print.specs.Text.{refusal_line};
+ghost use Rattle.print.specs.Lines.{lines_from};
+ghost use Rattle.pages.specs.Lines.{line_room, most_lines, HoldsLine, IsPage};
+ghost use Rattle.pages.specs.Output.{printout_of_table, output_at, places_of};
 
-use basics::fewer;
+use output::Handed;
+use std::io::Write;
 
 // How many of the lent bytes hold lines, and the place after them.
 #[derive(Clone, Copy)]
@@ -16,89 +19,117 @@ pub struct Page {
     pub next: usize,
 }
 
-// How many places there are.
-fn place_count(refusal: u32, states: u32, lows: &[i64], highs: &[i64], entries: &[u16]) -> usize
-    ensures { result ≡ place_count refusal states lows.now highs.now entries.now }
-{
-    if refusal != 0 {
-        return 1;
-    }
-    let count = letters::letter_count(lows, highs);
-    fewer(states as usize * count as usize, entries.len()) + 1
+// A text by its places, each a line or nothing.
+pub trait PlacedText {
+    ghost line: { Self → ℕ → List ℕ };
+
+    ghost count: { Self → ℕ };
+
+    // How many places there are.
+    fn place_count(&self) -> usize
+        ensures { result ≡ count self.now };
+
+    // Writes the line at a place to the front of the bytes and gives its length.
+    fn line_at(&self, place: usize, out: &mut [u8]) -> usize
+        requires room { length out.old ≡ line_room }
+        requires inside { place < count self.now }
+        ensures { HoldsLine (line self.now place) out.new result };
 }
 
-// Writes the line at a place to the front of the bytes and gives its length.
-fn line_at(
-    refusal: u32,
-    names: &[u8],
-    lengths: &[u8],
-    lows: &[i64],
-    highs: &[i64],
-    entries: &[u16],
-    finals: &[u8],
-    place: usize,
-    line: &mut [u8],
-) -> usize
-    requires { length line.old ≡ line_room }
-    ensures { (states : ℕ) → HoldsLine (output_at (record { refusal = refusal; states = states; names = names.now; lengths = lengths.now; lows = lows.now; highs = highs.now; entries = entries.now; finals = finals.now }) place) line.new result }
-{
-    if refusal != 0 {
-        if place != 0 {
-            return 0;
+// What `sluice` prints: a refusal's number, or 0 and the table of so many states. A name is stored as eight bytes and a length.
+#[derive(Clone, Copy)]
+pub struct Table<'a> {
+    pub refusal: u32,
+    pub states: u32,
+    pub names: &'a [u8],
+    pub lengths: &'a [u8],
+    pub lows: &'a [i64],
+    pub highs: &'a [i64],
+    pub entries: &'a [u16],
+    pub finals: &'a [u8],
+}
+
+impl<'a> PlacedText for Table<'a> {
+    ghost line = { λ t. output_at (printout_of_table t) };
+
+    ghost count = { λ t. places_of (printout_of_table t) };
+
+    fn place_count(&self) -> usize {
+        if self.refusal != 0 {
+            return 1;
         }
-        return print::refusal_line(refusal, line);
+        let count = letters::letter_count(self.lows, self.highs);
+        (self.states as usize * count as usize).min(self.entries.len()) + 1
     }
-    if place == 0 {
-        return print::heading(names, lengths, lows.len(), line);
+
+    fn line_at(&self, place: usize, out: &mut [u8]) -> usize {
+        if self.refusal != 0 {
+            return print::refusal_line(self.refusal, out);
+        }
+        if place == 0 {
+            return print::heading(self.names, self.lengths, self.lows.len(), out);
+        }
+        table_text::entry_text(
+            self.entries,
+            self.finals,
+            self.lows,
+            self.highs,
+            place - 1,
+            out,
+        )
     }
-    table_text::entry_text(entries, finals, lows, highs, place - 1, line)
 }
 
-// Copies the first bytes of a line to a place.
-fn copy(line: &[u8], size: usize, out: &mut [u8], at: usize)
-    requires { (size ≤ length line.now) × (at + size ≤ length out.old) }
-    ensures { out.new ≡ sets out.old at (take size line.now) }
+// The lines of the places from `from` on, as many as the bytes have room for.
+pub fn fill_page<T: PlacedText>(text: &T, from: usize, out: &mut [u8]) -> Page
+    ensures { IsPage (T.line text.now) (T.count text.now) from out.old out.new result }
 {
-    let mut i = 0;
-    while i < size {
-        out[at + i] = line[i];
-        i += 1;
-    }
-}
-
-// The lines of the places from `from` on, as many as the bytes have room for: "a heading with the names, then a line for each entry that is not 65,535, by
-// state and letter", or "the one line" of a refusal.
-pub fn fill_page(
-    refusal: u32,
-    states: u32,
-    names: &[u8],
-    lengths: &[u8],
-    lows: &[i64],
-    highs: &[i64],
-    entries: &[u16],
-    finals: &[u8],
-    from: usize,
-    out: &mut [u8],
-) -> Page
-    ensures { IsPage (output_at (record { refusal = refusal; states = states; names = names.now; lengths = lengths.now; lows = lows.now; highs = highs.now; entries = entries.now; finals = finals.now })) (place_count refusal states lows.now highs.now entries.now) from out.old out.new result }
-{
-    let count = place_count(refusal, states, lows, highs, entries);
+    let count = text.place_count();
     let mut line = [0u8; 256];
     let mut size = 0;
-    let mut place = from;
-    while place < count {
-        let length = line_at(
-            refusal, names, lengths, lows, highs, entries, finals, place, &mut line,
-        );
-        if fewer(out.len() - size, 256) < length {
-            break;
+    for place in from..count {
+        let length = text.line_at(place, &mut line);
+        if (out.len() - size).min(256) < length {
+            return Page { size, next: place };
         }
-        copy(&line, length, out, size);
-        size += length;
-        place += 1;
+        let end = size + length;
+        out[size..end].copy_from_slice(&line[..length]);
+        size = end;
     }
     Page {
-        size: size,
-        next: place,
+        size,
+        next: count.max(from),
+    }
+}
+
+// Writes the one line of a refusal.
+pub fn write_refusal<W: Write>(out: &mut W, refusal: u32) -> Handed
+    ensures { Hands (refusal_line refusal) result.size result.whole }
+{
+    let mut line = [0u8; 32];
+    let size = print::refusal_line(refusal, &mut line);
+    output::write_front(out, &line, size)
+}
+
+// Writes all lines, page by page, and stops at a write that fails. So few short lines have so few bytes that they are counted exactly.
+pub fn write_pages<T: PlacedText, W: Write>(out: &mut W, text: &T, page: &mut [u8]) -> Handed
+    requires room { line_room ≤ length page.old }
+    requires short { (k : ℕ) → length (T.line text.now k) ≤ line_room }
+    requires few { T.count text.now ≤ most_lines }
+    ensures { Hands (lines_from (T.line text.now) 0 (T.count text.now)) result.size result.whole }
+{
+    let mut size = 0;
+    let mut from = 0;
+    'pages: loop {
+        let filled = fill_page(text, from, page);
+        if filled.size == 0 {
+            return Handed { size, whole: true };
+        }
+        let handed = output::write_front(out, page, filled.size);
+        if !handed.whole {
+            return Handed { size, whole: false };
+        }
+        size += handed.size;
+        from = filled.next;
     }
 }

@@ -9,6 +9,7 @@ use mathlib.Core.Logic.{inl, inr, ◌≢◌}
 use mathlib.Core.List.{List}
 use lib.ListN.{length, set}
 use lib.Seq.{get_or-set_same, get_or-set_other}
+use Rattle.std.specs.Prelude.{Option, Some, None}
 use Rattle.basics.specs.Lists.{at}
 use Rattle.basics.specs.Clearing.{ClearedFrom}
 use Rattle.basics.proofs.Clearing.{all-zero}
@@ -23,7 +24,7 @@ use Rattle.automaton.specs.PairSearch.{pair_system}
 use Rattle.automaton.proofs.Places.{put-set}
 use Rattle.automaton.proofs.Reachable as Laws
 use Rattle.automaton.proofs.Reachable.{known_start, turn_start, turn_old, turn_new, turn-full}
-use Rattle.pairs.specs.Rows.{no_pair_key, key_of_entries, ChainedKeys, KeySettled, KeyFollowed, no_pair, pair, tables_over, entries_over, MorePairs, search_over, bytes_of, PairTurn, RowSearched, row_done, row_full, RowsSearched, rows_done, rows_full, RowsExplored, explored, overfull, HasFlags}
+use Rattle.pairs.specs.Rows.{key_of_entries, ChainedKeys, KeySettled, KeyFollowed, no_pair, pair, tables_over, entries_over, MorePairs, search_over, bytes_of, PairTurn, RowSearched, row_done, row_full, RowsSearched, rows_done, rows_full, HasFlags}
 use Rattle.pairs.specs.Found.{PairTables, PairWorkZero, RowsFilled, filled, unfilled, PairsOutcome, found, none}
 use Rattle.pairs.proofs.Keys.{key-none, key-some}
 
@@ -48,34 +49,18 @@ module _ (left_entries right_entries left_cuts right_cuts : List ℕ) (left_lett
   pub turn_end : {keys entries heads links : List ℕ} {n s : ℕ} → n ≤ s → Turn keys entries heads links n s 0 → SearchedKeys S limit (at keys) (entry_at letters entries) (bytes_of S (at keys)) false n
   turn_end h t = Laws.turn_end S t.turn h
 
-  -- What a searched row says by its number.
-  pub row-turn : {s : ℕ} {keys entries heads links : List ℕ} {r : ℕ} → RowSearched left_entries right_entries left_cuts right_cuts left_letters right_letters letters limit s keys entries heads links r
-      → r ≤ limit → Turn keys entries heads links r (s + 1) 0
-  row-turn (row_done h t) l = t
-  row-turn (row_full m) l = absurd (not-suc-le-zero (let z : limit < 0 = omega arith in z))
+  -- What a searched row says by its answer.
+  pub row-turn : {s : ℕ} {keys entries heads links : List ℕ} {r : ℕ} → RowSearched left_entries right_entries left_cuts right_cuts left_letters right_letters letters limit s keys entries heads links (Some r)
+      → Turn keys entries heads links r (s + 1) 0
+  row-turn (row_done h t) = t
 
-  pub row-over : {s : ℕ} {keys entries heads links : List ℕ} {r : ℕ} → RowSearched left_entries right_entries left_cuts right_cuts left_letters right_letters letters limit s keys entries heads links r
-      → limit < r → RowsSearched left_entries right_entries left_cuts right_cuts left_letters right_letters letters limit keys entries r
-  row-over (row_done h t) l = absurd (not-suc-le-zero (let z : limit < 0 = omega arith in z))
-  row-over (row_full m) l = rows_full m
-
-  pub searched-over : {keys entries : List ℕ} {r : ℕ} → RowsSearched left_entries right_entries left_cuts right_cuts left_letters right_letters letters limit keys entries r → limit < r
-      → RowsExplored left_entries right_entries left_cuts right_cuts left_letters right_letters letters limit keys entries 0
-  searched-over (rows_done h z) l = absurd (not-suc-le-zero (let z : limit < 0 = omega arith in z))
-  searched-over (rows_full m) l = overfull m
-
-  pub searched-explored : {keys entries : List ℕ} {r : ℕ} → RowsSearched left_entries right_entries left_cuts right_cuts left_letters right_letters letters limit keys entries r → r ≤ limit
-      → RowsExplored left_entries right_entries left_cuts right_cuts left_letters right_letters letters limit keys entries r
-  searched-explored (rows_done h z) l = explored h z
-  searched-explored (rows_full m) l = absurd (not-suc-le-zero (let z : limit < 0 = omega arith in z))
-
-  pub explored-few : {keys entries : List ℕ} {r : ℕ} → RowsExplored left_entries right_entries left_cuts right_cuts left_letters right_letters letters limit keys entries r → r ≤ limit
-  explored-few (explored h z) = h
-  explored-few (overfull m) = omega arith
+  pub row-over : {s : ℕ} {keys entries heads links : List ℕ} → RowSearched left_entries right_entries left_cuts right_cuts left_letters right_letters letters limit s keys entries heads links None
+      → RowsSearched left_entries right_entries left_cuts right_cuts left_letters right_letters letters limit keys entries None
+  row-over (row_full m) = rows_full m
 
   -- What following one letter makes of the search.
   module _ {keys entries heads links : List ℕ} {n s a : ℕ} (t : Turn keys entries heads links n s a) (in_rows : s < n) (letter : a < letters) (room : s * letters + a < length entries)
-      (few : limit ≤ most_rows) (keys_room : limit ≤ length keys) (r key : ℕ) {keys' heads' links' : List ℕ}
+      (few : limit ≤ most_rows) (keys_room : limit ≤ length keys) (r : ℕ) (key : Option ℕ) {keys' heads' links' : List ℕ}
       (is : key ≡ key_of_entries (at left_entries (at keys s / most_rows * left_letters + at left_cuts a)) (at right_entries (at keys s % most_rows * right_letters + at right_cuts a)))
       (f : KeyFollowed limit n key keys heads' links' keys' r) where
     abbrev p : ℕ
@@ -89,20 +74,20 @@ module _ (left_entries right_entries left_cuts right_cuts : List ℕ) (left_lett
       where
         by : KeyFollowed limit n key keys heads' links' keys' r → r < 65536
         by (no_pair e o c k) = omega (arith, e)
-        by (pair ne k) = omega (arith, k.within, t.turn.within)
+        by (pair e k) = omega (arith, k.within, t.turn.within)
 
     put : IsPut letters (entry_at letters entries) (entry_at letters (set entries (s * letters + a) r)) s a r
     put = put-set letters entries s a r room
 
     -- the key is that of the successor, or there is none
-    no_successor : key ≡ no_pair_key → S.ok (at keys s) a ≡ false
+    no_successor : key ≡ None → S.ok (at keys s) a ≡ false
     no_successor e = key-none p q (sym is ∙ e)
 
-    goes : (key ≡ no_pair_key → ⊥) → S.ok (at keys s) a ≡ true
-    goes ne = (key-some p q (λ e. ne (is ∙ e))).0
+    goes : {k : ℕ} → key ≡ Some k → S.ok (at keys s) a ≡ true
+    goes e = (key-some p q (sym is ∙ e)).0
 
-    after : (key ≡ no_pair_key → ⊥) → key ≡ S.after (at keys s) a
-    after ne = is ∙ (key-some p q (λ e. ne (is ∙ e))).1
+    after : {k : ℕ} → key ≡ Some k → k ≡ S.after (at keys s) a
+    after e = (key-some p q (sym is ∙ e)).1
 
     -- The keys stay, and the entry names an old row or none.
     moved : ChainedKeys heads' links' keys' n → keys' ≡ keys → IsRow S (at keys) n (at keys s) a r → Turn keys' (set entries (s * letters + a) r) heads' links' n s (a + 1)
@@ -134,8 +119,8 @@ module _ (left_entries right_entries left_cuts right_cuts : List ℕ) (left_lett
         by (pair ne k) =
             let space : n < limit = omega (arith, t.turn.within) in
             let d = k.added e space in
-            let new : at keys' n ≡ key = ap (λ l. at l n) d.1 ∙ get_or-set_same keys n key 0 (omega arith) in
-            let old : (i : ℕ) → i < n → at keys' i ≡ at keys i = λ i l. ap (λ x. at x i) d.1 ∙ get_or-set_other keys n i key 0 (omega arith) in
+            let new = ap (λ l. at l n) d.1 ∙ get_or-set_same keys n _ 0 (omega arith) in
+            let old : (i : ℕ) → i < n → at keys' i ≡ at keys i = λ i l. ap (λ x. at x i) d.1 ∙ get_or-set_other keys n i _ 0 (omega arith) in
             let add : IsAdded S (at keys) (at keys') (bytes_of S (at keys)) (bytes_of S (at keys')) n (S.after (at keys s) a) =
             record { new = new ∙ after ne; new_byte = ap (byte_of S) (new ∙ after ne); old = old; old_byte = λ i l. ap (byte_of S) (old i l) } in
             record {
@@ -153,13 +138,13 @@ module _ (left_entries right_entries left_cuts right_cuts : List ℕ) (left_lett
         by (pair ne k) = record { key = at keys; entry = entry_at letters entries; byte = bytes_of S (at keys); count = n; searched = turn-full S t.turn in_rows letter (goes ne) (λ i l w. k.absent e i l (w ∙ sym (after ne))) h }
 
 -- The rows before row n keep their keys.
-pub followed-row : {limit n key : ℕ} {keys heads' links' keys' : List ℕ} {r : ℕ} → KeyFollowed limit n key keys heads' links' keys' r → (i : ℕ) → i < n → at keys' i ≡ at keys i
+pub followed-row : {limit n : ℕ} {key : Option ℕ} {keys heads' links' keys' : List ℕ} {r : ℕ} → KeyFollowed limit n key keys heads' links' keys' r → (i : ℕ) → i < n → at keys' i ≡ at keys i
 followed-row (no_pair e o c k) i h = ap (λ l. at l i) k
-followed-row {limit} {n} {key} {keys} {heads'} {links'} {keys'} {r} (pair ne k) i h = by (dec_lt r n) (dec_lt n limit)
+followed-row {limit} {n} {keys = keys} {keys' = keys'} {r = r} (pair e k) i h = by (dec_lt r n) (dec_lt n limit)
   where
     by : Dec (r < n) → Dec (n < limit) → at keys' i ≡ at keys i
     by (yes a) b = ap (λ l. at l i) (k.kept (inl a)).1
-    by (no a) (yes b) = ap (λ l. at l i) (k.added (omega (arith, k.within)) b).1 ∙ get_or-set_other keys n i key 0 (omega arith)
+    by (no a) (yes b) = ap (λ l. at l i) (k.added (omega (arith, k.within)) b).1 ∙ get_or-set_other keys n i _ 0 (omega arith)
     by (no a) (no b) = ap (λ l. at l i) (k.kept (inr (omega arith))).1
 
 -- ---- the lengths of the tables
@@ -258,11 +243,15 @@ module _ (left_entries left_finals right_entries right_finals left_cuts right_cu
       }
 
   -- What was explored, with the flags of its rows, fills the rows.
-  pub explored_fills : {left_cut_count right_cut_count limit n : ℕ} {before : PairTables} {keys entries flags : List ℕ} → limit * letters ≤ length before.entries
-      → RowsExplored left_entries right_entries left_cuts right_cuts left_letters right_letters letters limit keys entries n → HasFlags left_finals right_finals keys n flags
+  pub searched-fills : {left_cut_count right_cut_count limit n : ℕ} {before : PairTables} {keys entries flags : List ℕ} → limit * letters ≤ length before.entries
+      → RowsSearched left_entries right_entries left_cuts right_cuts left_letters right_letters letters limit keys entries (Some n) → HasFlags left_finals right_finals keys n flags
       → RowsFilled left_cut_count right_cut_count (tables_over left_entries left_finals right_entries right_finals left_cuts right_cuts left_letters right_letters letters) left_letters right_letters limit before entries flags n
-  explored_fills {keys = keys} room (explored {r} h z) f = filled (at keys) (le_trans (mul-le-mul_right letters h) room) (searched-whole z f.each)
-  explored_fills room (overfull m) f = unfilled (λ x. more-whole m)
+  searched-fills {keys = keys} room (rows_done {r} h z) f = filled (at keys) (le_trans (mul-le-mul_right letters h) room) (searched-whole z f.each)
+
+  pub searched-unfilled : {left_cut_count right_cut_count limit : ℕ} {before : PairTables} {keys entries searched flags : List ℕ}
+      → RowsSearched left_entries right_entries left_cuts right_cuts left_letters right_letters letters limit keys searched None
+      → RowsFilled left_cut_count right_cut_count (tables_over left_entries left_finals right_entries right_finals left_cuts right_cuts left_letters right_letters letters) left_letters right_letters limit before entries flags 0
+  searched-unfilled (rows_full m) = unfilled (λ x. more-whole m)
 
 -- ---- what is left when everything behind the rows is cleared
 

@@ -1,5 +1,5 @@
 -- The keys of pairs of states in rows that are found again by chains, and where the search of all pairs stands.
-use Rattle.std.specs.Prelude.{ℕ, ◌+◌, ◌-◌, ◌*◌, ◌/◌, ◌%◌, ◌≤◌, ◌<◌, ◌≡◌, true, false, cond, ◌&&◌, ◌⊎◌, ◌≢◌, List, [], eqb, ltb, length, set}
+use Rattle.std.specs.Prelude.{ℕ, ◌+◌, ◌*◌, ◌/◌, ◌%◌, ◌≤◌, ◌<◌, ◌≡◌, true, false, cond, ◌&&◌, ◌⊎◌, Option, Some, None, List, [], eqb, ltb, length, set}
 use Rattle.basics.specs.Lists.{at}
 use Rattle.key_chains.specs.Chains.{Chained}
 use Rattle.automaton.specs.Table.{no_state}
@@ -9,13 +9,9 @@ use Rattle.automaton.specs.Reachable.{System, byte_of, SearchTurn, SearchedKeys}
 use Rattle.automaton.specs.Join.{TwoTables}
 use Rattle.automaton.specs.PairSearch.{pair_system}
 
--- "over 4,096 rows": a state is below this number, and no pair has its square as a key.
-abbrev pub no_pair_key : ℕ
-no_pair_key = most_rows * most_rows
-
--- The key of a pair of entries, or that one of them names no state.
-abbrev pub key_of_entries : ℕ → ℕ → ℕ
-key_of_entries p q = cond (ltb p most_rows && ltb q most_rows) (p * most_rows + q) no_pair_key
+-- The key of a pair of entries, or none where one of them names no state: "over 4,096 rows".
+abbrev pub key_of_entries : ℕ → ℕ → Option ℕ
+key_of_entries p q = cond (ltb p most_rows && ltb q most_rows) (Some (p * most_rows + q)) None
 
 -- The bucket of a key, of which there are m.
 unfoldable pub pair_bucket : ℕ → ℕ → ℕ
@@ -28,10 +24,10 @@ pub record ChainedKeys (heads links keys : List ℕ) (n : ℕ) : Type 0 where
   pub keys_room : n ≤ length keys
   pub chained : Chained heads links (λ i. pair_bucket (length heads) (at keys i)) n
 
--- r is one more than a row that holds the key, or 0 where no row does
-pub record FindsKey (keys : List ℕ) (n key r : ℕ) : Type 0 where
-  pub here : 0 < r → (r ≤ n) × (at keys (r - 1) ≡ key)
-  pub nowhere : r ≡ 0 → (i : ℕ) → i < n → at keys i ≡ key → ⊥
+-- a row that holds the key, or none where no row does
+abbrev pub FindsKey : (keys : List ℕ) (n key : ℕ) → Option ℕ → Type 0
+FindsKey keys n key (Some i) = (i < n) × (at keys i ≡ key)
+FindsKey keys n key None = (i : ℕ) → i < n → at keys i ≡ key → ⊥
 
 -- The row of a key among n rows. A new key becomes row n if n is below the limit; otherwise the tables stay.
 pub record KeySettled (limit n key : ℕ) (keys heads' links' keys' : List ℕ) (r : ℕ) : Type 0 where
@@ -42,9 +38,9 @@ pub record KeySettled (limit n key : ℕ) (keys heads' links' keys' : List ℕ) 
   pub kept : ((r < n) ⊎ (limit ≤ n)) → ChainedKeys heads' links' keys' n × (keys' ≡ keys)
 
 -- The entry for a key: none for no pair, else the key's row.
-pub data KeyFollowed (limit n key : ℕ) (keys heads' links' keys' : List ℕ) (r : ℕ) : Type 0 where
-  no_pair : r ≡ no_state → key ≡ no_pair_key → ChainedKeys heads' links' keys' n → keys' ≡ keys → KeyFollowed limit n key keys heads' links' keys' r
-  pair : key ≢ no_pair_key → KeySettled limit n key keys heads' links' keys' r → KeyFollowed limit n key keys heads' links' keys' r
+pub data KeyFollowed (limit n : ℕ) (key : Option ℕ) (keys heads' links' keys' : List ℕ) (r : ℕ) : Type 0 where
+  no_pair : r ≡ no_state → key ≡ None → ChainedKeys heads' links' keys' n → keys' ≡ keys → KeyFollowed limit n key keys heads' links' keys' r
+  pair : {k : ℕ} → key ≡ Some k → KeySettled limit n k keys heads' links' keys' r → KeyFollowed limit n key keys heads' links' keys' r
 
 -- the two tables that these entries and final bytes are, with the numbers of cuts
 abbrev pub tables_over : (left_entries left_finals right_entries right_finals left_cuts right_cuts : List ℕ) (left_letters right_letters letters : ℕ) → TwoTables
@@ -89,19 +85,14 @@ module _ (left_entries right_entries left_cuts right_cuts : List ℕ) (left_lett
     pub turn : SearchTurn searched limit (at keys) (entry_at letters entries) (bytes_of searched (at keys)) n s a
 
   -- a row is done, or there are more pairs than the limit
-  pub data RowSearched (s : ℕ) (keys entries heads links : List ℕ) : ℕ → Type 0 where
-    row_done : {r : ℕ} → r ≤ limit → PairTurn keys entries heads links r (s + 1) 0 → RowSearched s keys entries heads links r
-    row_full : MorePairs (entries_over left_entries right_entries left_cuts right_cuts left_letters right_letters letters) limit → RowSearched s keys entries heads links (limit + 1)
+  pub data RowSearched (s : ℕ) (keys entries heads links : List ℕ) : Option ℕ → Type 0 where
+    row_done : {r : ℕ} → r ≤ limit → PairTurn keys entries heads links r (s + 1) 0 → RowSearched s keys entries heads links (Some r)
+    row_full : MorePairs (entries_over left_entries right_entries left_cuts right_cuts left_letters right_letters letters) limit → RowSearched s keys entries heads links None
 
   -- all rows are done, or there are more pairs than the limit
-  pub data RowsSearched (keys entries : List ℕ) : ℕ → Type 0 where
-    rows_done : {r : ℕ} → r ≤ limit → SearchedKeys searched limit (at keys) (entry_at letters entries) (bytes_of searched (at keys)) false r → RowsSearched keys entries r
-    rows_full : MorePairs (entries_over left_entries right_entries left_cuts right_cuts left_letters right_letters letters) limit → RowsSearched keys entries (limit + 1)
-
-  -- The rows that are given back: none where there are more pairs than the limit.
-  pub data RowsExplored (keys entries : List ℕ) : ℕ → Type 0 where
-    explored : {r : ℕ} → r ≤ limit → SearchedKeys searched limit (at keys) (entry_at letters entries) (bytes_of searched (at keys)) false r → RowsExplored keys entries r
-    overfull : MorePairs (entries_over left_entries right_entries left_cuts right_cuts left_letters right_letters letters) limit → RowsExplored keys entries 0
+  pub data RowsSearched (keys entries : List ℕ) : Option ℕ → Type 0 where
+    rows_done : {r : ℕ} → r ≤ limit → SearchedKeys searched limit (at keys) (entry_at letters entries) (bytes_of searched (at keys)) false r → RowsSearched keys entries (Some r)
+    rows_full : MorePairs (entries_over left_entries right_entries left_cuts right_cuts left_letters right_letters letters) limit → RowsSearched keys entries None
 
 -- The letters keep the bound, each joined letter has its cuts, and the tables have room for as many rows as the limit.
 pub record HasPairRoom (left_letters right_letters letters limit left_cuts right_cuts entries flags keys heads links : ℕ) : Type 0 where

@@ -6,7 +6,7 @@ ghost use Rattle.std.specs.Prelude.{◌≡◌, cond, ◌&&◌, ◌+◌, ◌*◌,
 ghost use Rattle.basics.specs.Answers.{Says};
 ghost use Rattle.basics.specs.Lists.{at};
 ghost use Rattle.automaton.specs.WellFormed.{most_rows};
-ghost use Rattle.pairs.specs.Rows.{no_pair_key, key_of_entries, pair_bucket, ChainedKeys, FindsKey, KeySettled, KeyFollowed, tables_over, PairTurn, RowSearched, RowsSearched, RowsExplored, HasPairRoom, HasFlags};
+ghost use Rattle.pairs.specs.Rows.{key_of_entries, pair_bucket, ChainedKeys, FindsKey, KeySettled, KeyFollowed, tables_over, PairTurn, RowSearched, RowsSearched, HasPairRoom, HasFlags};
 ghost use Rattle.pairs.specs.Found.{pair_tables, RowsFilled, PairsOutcome};
 
 use automaton::NO_STATE;
@@ -32,29 +32,18 @@ struct PairRoom {
     links: usize,
 }
 
-// No pair has this key.
-const NO_PAIR: u32 = 16777216;
-
 // The entry at a place; behind the table 0.
-fn entry_at(entries: &[u16], place: usize) -> u32
+fn entry_at(entries: &[u16], place: usize) -> u16
     ensures { result ≡ at entries.now place }
 {
-    if place < entries.len() {
-        entries[place] as u32
-    } else {
-        0
-    }
+    entries.get(place).copied().unwrap_or(0)
 }
 
 // The final byte of a state; behind the table 0.
 fn final_at(finals: &[u8], state: usize) -> u8
     ensures { result ≡ at finals.now state }
 {
-    if state < finals.len() {
-        finals[state]
-    } else {
-        0
-    }
+    finals.get(state).copied().unwrap_or(0)
 }
 
 // The place of a state's entry for the letter that a joined letter has.
@@ -62,23 +51,21 @@ fn entry_place(state: usize, letters: usize, cuts: &[u16], letter: usize) -> usi
     requires { (state < 1048576) × (letters ≤ 1024) × (letter < length cuts.now) }
     ensures { result ≡ state * letters + at cuts.now letter }
 {
-    state * letters + cuts[letter] as usize
+    state * letters + usize::from(cuts[letter])
 }
 
-// The key of a pair of entries, or that one of them names no state.
-fn key_of(p: u32, q: u32) -> u32
+// The key of a pair of entries, or none where one of them names no state.
+fn key_of(p: u16, q: u16) -> Option<u32>
     ensures { result ≡ key_of_entries p q }
 {
-    if 4096 <= p {
-        return NO_PAIR;
+    if p < 4096 && q < 4096 {
+        Some(u32::from(p) * 4096 + u32::from(q))
+    } else {
+        None
     }
-    if 4096 <= q {
-        return NO_PAIR;
-    }
-    p * 4096 + q
 }
 
-// The key of the pair that a joined letter leads to, or that it leads to none.
+// The key of the pair that a joined letter leads to, or none where it leads to no pair.
 fn successor(
     left: &[u16],
     right: &[u16],
@@ -87,7 +74,7 @@ fn successor(
     sizes: PairSizes,
     key: u32,
     letter: usize,
-) -> u32
+) -> Option<u32>
     requires { (sizes.left_letters ≤ 1024) × (sizes.right_letters ≤ 1024) × (letter < length left_cuts.now) × (letter < length right_cuts.now) }
     ensures { result ≡ key_of_entries (at left.now (key / most_rows * sizes.left_letters + at left_cuts.now letter)) (at right.now (key % most_rows * sizes.right_letters + at right_cuts.now letter)) }
 {
@@ -103,12 +90,12 @@ fn bucket(key: u32, m: usize) -> usize
     ensures value { result ≡ pair_bucket m key }
     ensures upper_bound { result < m }
 {
-    let h = key as u64 * 2654435761 % 4294967296;
+    let h = u64::from(key) * 2654435761 % 4294967296;
     (h / 32768 + h) as usize % m
 }
 
-// One more than the row that holds the key, or 0. `h` is the key's bucket.
-fn find(heads: &[u32], links: &[u32], keys: &[u32], n: usize, h: usize, key: u32) -> usize
+// The row that holds the key. `h` is the key's bucket.
+fn find(heads: &[u32], links: &[u32], keys: &[u32], n: usize, h: usize, key: u32) -> Option<usize>
     requires { ChainedKeys heads.now links.now keys.now n × (h ≡ pair_bucket (length heads.now) key) × (h < length heads.now) }
     ensures { FindsKey keys.now n key result }
 {
@@ -116,11 +103,11 @@ fn find(heads: &[u32], links: &[u32], keys: &[u32], n: usize, h: usize, key: u32
     while j != 0 {
         let i = j - 1;
         if keys[i] == key {
-            return j;
+            return Some(i);
         }
         j = links[i] as usize;
     }
-    0
+    None
 }
 
 // The row that holds the key. A new key becomes row n if there is room.
@@ -136,9 +123,8 @@ fn settle(
     ensures { KeySettled limit n key keys.old heads.new links.new keys.new result }
 {
     let h = bucket(key, heads.len());
-    let found = find(heads, links, keys, n, h, key);
-    if found != 0 {
-        return found - 1;
+    if let Some(row) = find(heads, links, keys, n, h, key) {
+        return row;
     }
     if n < limit {
         keys[n] = key;
@@ -155,18 +141,18 @@ fn follow(
     keys: &mut [u32],
     n: usize,
     limit: usize,
-    key: u32,
+    key: Option<u32>,
 ) -> usize
     requires { ChainedKeys heads.old links.old keys.old n × (limit ≤ most_rows) × (limit ≤ length links.old) × (limit ≤ length keys.old) }
     ensures { KeyFollowed limit n key keys.old heads.new links.new keys.new result }
 {
-    if key == NO_PAIR {
-        return NO_STATE as usize;
+    match key {
+        Some(key) => settle(heads, links, keys, n, limit, key),
+        None => usize::from(NO_STATE),
     }
-    settle(heads, links, keys, n, limit, key)
 }
 
-// Follows every letter from row s. Gives how many rows there are then, or one more than the limit where there is no room for another.
+// Follows every letter from row s. Gives how many rows there are then, or none where there is no room for another.
 fn search_row(
     left: &[u16],
     right: &[u16],
@@ -179,7 +165,7 @@ fn search_row(
     heads: &mut [u32],
     links: &mut [u32],
     entries: &mut [u16],
-) -> usize
+) -> Option<usize>
     requires has_pair_room { HasPairRoom sizes.left_letters sizes.right_letters sizes.letters sizes.limit (length left_cuts.now) (length right_cuts.now) (length entries.old) sizes.limit (length keys.old) (length heads.old) (length links.old) }
     requires s_lt_n { (s < n) × PairTurn left.now right.now left_cuts.now right_cuts.now sizes.left_letters sizes.right_letters sizes.letters sizes.limit keys.old entries.old heads.old links.old n s 0 }
     ensures { RowSearched left.now right.now left_cuts.now right_cuts.now sizes.left_letters sizes.right_letters sizes.letters sizes.limit s keys.new entries.new heads.new links.new result }
@@ -187,23 +173,21 @@ fn search_row(
     let key = keys[s];
     let at = s * sizes.letters;
     let mut known = n;
-    let mut a = 0;
-    while a < sizes.letters {
+    for a in 0..sizes.letters {
         let next = successor(left, right, left_cuts, right_cuts, sizes, key, a);
         let row = follow(heads, links, keys, known, sizes.limit, next);
         if row == known {
             if known == sizes.limit {
-                return known + 1;
+                return None;
             }
             known += 1;
         }
         entries[at + a] = row as u16;
-        a += 1;
     }
-    known
+    Some(known)
 }
 
-// Explores row by row from the pair of both starts until every row is done, or rows run out. Gives how many rows there are, or one more than the limit.
+// Explores row by row from the pair of both starts until every row is done. Gives how many rows there are, or none where rows run out.
 fn search(
     left: &[u16],
     right: &[u16],
@@ -214,25 +198,21 @@ fn search(
     heads: &mut [u32],
     links: &mut [u32],
     entries: &mut [u16],
-) -> usize
+) -> Option<usize>
     requires { HasPairRoom sizes.left_letters sizes.right_letters sizes.letters sizes.limit (length left_cuts.now) (length right_cuts.now) (length entries.old) sizes.limit (length keys.old) (length heads.old) (length links.old) }
     ensures { RowsSearched left.now right.now left_cuts.now right_cuts.now sizes.left_letters sizes.right_letters sizes.letters sizes.limit keys.new entries.new result }
 {
-    let limit = sizes.limit;
-    basics::fill(heads, 0);
-    let start = settle(heads, links, keys, 0, limit, 0);
+    heads.fill(0);
+    let start = settle(heads, links, keys, 0, sizes.limit, 0);
     let mut n = start + 1;
     let mut s = 0;
     while s < n {
         n = search_row(
             left, right, left_cuts, right_cuts, sizes, s, n, keys, heads, links, entries,
-        );
-        if limit < n {
-            break;
-        }
+        )?;
         s += 1;
     }
-    n
+    Some(n)
 }
 
 // The flag of each row: 1 where both states of its pair are final.
@@ -246,84 +226,36 @@ fn write_flags(
     requires { (count ≤ length keys.now) × (count ≤ length flags.old) }
     ensures { HasFlags left_finals.now right_finals.now keys.now count flags.new }
 {
-    let mut row = 0;
-    while row < count {
+    for row in 0..count {
         let key = keys[row] as usize;
         let p = final_at(left_finals, key / 4096);
         let q = final_at(right_finals, key % 4096);
         flags[row] = both_final(p, q);
-        row += 1;
     }
 }
 
 fn both_final(p: u8, q: u8) -> u8
     ensures { result ≡ cond (eqb p 1 && eqb q 1) 1 0 }
 {
-    if p == 1 {
-        if q == 1 {
-            return 1;
-        }
-    }
-    0
+    u8::from(p == 1 && q == 1)
 }
 
 // Whether the letters keep the bound, each joined letter has its cuts, and the tables have room for as many rows as the limit.
 fn is_ready(sizes: PairSizes, room: PairRoom) -> bool
     ensures { Says result (HasPairRoom sizes.left_letters sizes.right_letters sizes.letters sizes.limit room.left_cuts room.right_cuts room.entries room.flags room.keys room.heads room.links) }
 {
-    if 1024 < sizes.left_letters {
-        return false;
-    }
-    if 1024 < sizes.right_letters {
-        return false;
-    }
-    if room.left_cuts < sizes.letters {
-        return false;
-    }
-    if room.right_cuts < sizes.letters {
-        return false;
-    }
     let limit = sizes.limit;
-    if limit == 0 {
-        return false;
-    }
-    if 4096 < limit {
-        return false;
-    }
-    if room.flags < limit {
-        return false;
-    }
-    if room.keys < limit {
-        return false;
-    }
-    if room.heads < limit {
-        return false;
-    }
-    if room.links < limit {
-        return false;
-    }
-    basics::rows_fit(limit, sizes.letters, room.entries)
-}
-
-// The rows found, or 0 where there are more than the limit.
-fn explored(
-    left: &[u16],
-    right: &[u16],
-    left_cuts: &[u16],
-    right_cuts: &[u16],
-    sizes: PairSizes,
-    keys: &mut [u32],
-    heads: &mut [u32],
-    links: &mut [u32],
-    entries: &mut [u16],
-) -> usize
-    requires { HasPairRoom sizes.left_letters sizes.right_letters sizes.letters sizes.limit (length left_cuts.now) (length right_cuts.now) (length entries.old) sizes.limit (length keys.old) (length heads.old) (length links.old) }
-    ensures { RowsExplored left.now right.now left_cuts.now right_cuts.now sizes.left_letters sizes.right_letters sizes.letters sizes.limit keys.new entries.new result }
-{
-    let n = search(
-        left, right, left_cuts, right_cuts, sizes, keys, heads, links, entries,
-    );
-    if sizes.limit < n { 0 } else { n }
+    sizes.left_letters <= 1024
+        && sizes.right_letters <= 1024
+        && sizes.letters <= room.left_cuts
+        && sizes.letters <= room.right_cuts
+        && 0 < limit
+        && limit <= 4096
+        && limit <= room.flags
+        && limit <= room.keys
+        && limit <= room.heads
+        && limit <= room.links
+        && basics::rows_fit(limit, sizes.letters, room.entries)
 }
 
 // The rows found, with their entries and flags, or 0 where there are more than the limit, or the sizes are not right.
@@ -355,7 +287,7 @@ fn fill_rows(
     if !is_ready(sizes, room) {
         return 0;
     }
-    let count = explored(
+    let found = search(
         left_entries,
         right_entries,
         left_cuts,
@@ -366,6 +298,9 @@ fn fill_rows(
         links,
         entries,
     );
+    let Some(count) = found else {
+        return 0;
+    };
     write_flags(left_finals, right_finals, keys, count, flags);
     count
 }
@@ -402,10 +337,10 @@ pub fn find_pairs(
         heads,
         links,
     );
-    basics::clear_entries(entries, count * sizes.letters);
-    basics::clear_bytes(flags, count);
-    basics::fill(keys, 0);
-    basics::fill(heads, 0);
-    basics::fill(links, 0);
+    basics::clear_from(entries, count * sizes.letters, 0);
+    basics::clear_from(flags, count, 0);
+    keys.fill(0);
+    heads.fill(0);
+    links.fill(0);
     count
 }

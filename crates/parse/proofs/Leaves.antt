@@ -3,6 +3,7 @@ use Prim.Native.Nat.{ℕ, suc, ◌+◌, ◌≤◌}
 use mathlib.Core.Path.{◌≡◌, refl, sym, ap, subst, ◌∙◌}
 use mathlib.Core.Bool.{Bool, true, false, not, cond, ◌&&◌, true≢false}
 use mathlib.Core.List.{List, [], ◌∷◌}
+use Rattle.std.specs.Result.{is_err, result_unwrap_or}
 use native.Mathlib.Omega.{arith}
 use lib.Dec.{T}
 use lib.IntN.{ℤ, pos, negsuc}
@@ -20,8 +21,8 @@ use Rattle.sheet.specs.Vocabulary.{name_place}
 use Rattle.sheet.specs.Reading.{is_beyond}
 use Rattle.sheet.specs.Parser.{part_from}
 use Rattle.sheet.proofs.Vocabulary.{opening-integer, opening-name}
-use Rattle.scan.specs.declared.IntegerRead.{IntegerRead}
-use Rattle.scan.specs.Integer.{integer_read, integer_within, no_integer}
+use Rattle.scan.proofs.Integers.{within-some}
+use Rattle.scan.specs.Integer.{IntegerRead, integer_read, integer_within, no_integer}
 use Rattle.parse.specs.declared.Read.{Read}
 use Rattle.parse.specs.Stored.{store, SameBelow}
 use Rattle.parse.specs.Bounded.{zero_beyond}
@@ -29,36 +30,32 @@ use Rattle.parse.specs.Reading.{LeafReading}
 use Rattle.parse.proofs.Store.{below-store}
 use Rattle.parse.proofs.Trees.{stores-integer, stores-name}
 
--- What an integer's answer says.
+-- What an integer's answer says: whether it is beyond the bound, and its value, which counts as 0 there.
 pub record IsInteger (w : Token) (beyond : Bool) (value : ℤ) : Type 0 where
   pub is : T (is_integer w)
   pub far : beyond ≡ is_beyond (integer_value w)
   pub near : value ≡ zero_beyond (integer_value w)
 
-within_fields : (b : Bool) (z : ℤ) → ((integer_within b z).beyond ≡ b) × ((integer_within b z).value ≡ cond b (pos 0) z)
+within_fields : (b : Bool) (z : ℤ) → (is_err (integer_within b z) ≡ b) × (result_unwrap_or (integer_within b z) (pos 0) ≡ cond b (pos 0) z)
 within_fields true z = (refl, refl)
 within_fields false z = (refl, refl)
 
-pub an_integer : (w : Token) {r : IntegerRead} → r ≡ integer_read w → r.ok ≡ true → IsInteger w r.beyond r.value
+pub an_integer : (w : Token) {r : IntegerRead} {b : Bool} {v : ℤ} → r ≡ integer_read w → (r ≡ no_integer → ⊥) → b ≡ is_err r → v ≡ result_unwrap_or r (pos 0) → IsInteger w b v
 unfolding integer_read
-an_integer w {r} e t = by (is_integer w) refl e
+an_integer w {r} {b} {v} e t f n = by (is_integer w) refl e
   where
-    by : (m : Bool) → is_integer w ≡ m → r ≡ cond m (integer_within (is_beyond (integer_value w)) (integer_value w)) no_integer → IsInteger w r.beyond r.value
+    by : (m : Bool) → is_integer w ≡ m → r ≡ cond m (integer_within (is_beyond (integer_value w)) (integer_value w)) no_integer → IsInteger w b v
     by true p q =
-        let (b, v) = within_fields (is_beyond (integer_value w)) (integer_value w) in
-        record { is = rw p tt; far = ap (λ a. a.beyond) q ∙ b; near = ap (λ a. a.value) q ∙ v }
-    by false p q = absurd (true≢false (sym t ∙ ap (λ a. a.ok) q))
+        let (far, near) = within_fields (is_beyond (integer_value w)) (integer_value w) in
+        record { is = rw p tt; far = f ∙ ap is_err q ∙ far; near = n ∙ ap (λ a. result_unwrap_or a (pos 0)) q ∙ near }
+    by false p q = absurd (t q)
 
-pub no_integer_lem : (w : Token) {r : IntegerRead} → r ≡ integer_read w → r.ok ≡ false → is_integer w ≡ false
+pub no_integer_lem : (w : Token) {r : IntegerRead} → r ≡ integer_read w → r ≡ no_integer → is_integer w ≡ false
 unfolding integer_read
 no_integer_lem w {r} e t = by (is_integer w) e
   where
-    within-ok : (b : Bool) (z : ℤ) → (integer_within b z).ok ≡ true
-    within-ok true z = refl
-    within-ok false z = refl
-
     by : (m : Bool) → r ≡ cond m (integer_within (is_beyond (integer_value w)) (integer_value w)) no_integer → m ≡ false
-    by true q = absurd (true≢false (sym (ap (λ a. a.ok) q ∙ within-ok (is_beyond (integer_value w)) (integer_value w)) ∙ t))
+    by true q = absurd (within-some (is_beyond (integer_value w)) (integer_value w) (sym q ∙ t))
     by false q = refl
 
 -- A value within the bound fits the machine's signed numbers.

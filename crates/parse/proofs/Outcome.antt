@@ -15,7 +15,7 @@ use Rattle.text.specs.Bytes.{Token, tokens}
 use Rattle.meaning.specs.Expression.{Expression, integer, name, first, next, negation, binary, conditional, fby, Constraint, always, until}
 use Rattle.meaning.specs.Interval.{subexpressions}
 use Rattle.meaning.specs.Window.{firsts, side_firsts}
-use Rattle.nodes.specs.Postfix.{Node, node, kinds_of, values_of, starts_of, postfix, side_nodes}
+use Rattle.nodes.specs.Postfix.{Node, kinds_of, values_of, starts_of, postfix, side_nodes}
 use Rattle.sheet.specs.Vocabulary.{Relation, sign, until_sign, related}
 use Rattle.sheet.specs.Reading.{any_of, is_beyond, is_integer_beyond}
 use Rattle.sheet.specs.Grammar.{ReadsConstraint, is_constraint}

@@ -13,7 +13,6 @@ use Rattle.text.specs.Bytes.{Token, bytes_of, tokens}
 use Rattle.text.specs.Token.{same_bytes, is_name, is_integer, is_reserved}
 use Rattle.text.proofs.Token.{same_bytes_reflects}
 use Rattle.meaning.specs.Expression.{Expression}
-use Rattle.meaning.specs.Arithmetic.{and, or}
 use Rattle.sheet.specs.Vocabulary.{Infix, infixed, operator_tokens, operator_of, Prefix, prefixed, prefix_of}
 use Rattle.sheet.specs.Parser.{Parsed, parsed, and_then, expect, Reader, operation_from, after_part, conditional_by, expression_by, no_opening, opening_from, plain_opening, opening_of, part_from, part_to}
 use Rattle.sheet.proofs.Vocabulary.{opening-prefix}

@@ -14,8 +14,6 @@ ghost use Rattle.parse.specs.Numbered.{tokens_from, Placed, TokenNumbered};
 ghost use Rattle.parse.specs.Prefixes.{firsts_before, Passes, ReadLeads};
 ghost use Rattle.parse.specs.Reading.{LineFits, PartReading, LeafReading, firsts_inside, prefix_value, unread, Fits, StartsOutcome, ConstraintOutcome};
 
-use basics::either;
-
 // What reading a part or an expression gives: whether there is one, the number of the token after it, the numbers of nodes and of `first`s
 // stored so far, and whether an integer in it is beyond the magnitude bound.
 #[derive(Clone, Copy)]
@@ -74,7 +72,7 @@ fn unread(fits: bool) -> ConstraintRead
     ensures { result ≡ unread fits }
 {
     ConstraintRead {
-        fits: fits,
+        fits,
         ok: false,
         relation: 0,
         left: 0,
@@ -111,7 +109,7 @@ fn put(
     starts[at] = start as u16;
 }
 
-// An integer or a name.
+// An integer or a name. An integer beyond the bound is stored as 0.
 fn leaf(
     names: &[u8],
     word: &[u8],
@@ -126,30 +124,27 @@ fn leaf(
     ensures { LeafReading (tokens names.now) word.now next (stored kinds.old values.old starts.old) (stored kinds.new values.new starts.new) nodes firsts result }
 {
     let integer = scan::read_integer(word);
-    if integer.ok {
-        let value = integer.value;
+    if integer != Err(scan::IntegerError::NoInteger) {
+        let value = integer.unwrap_or(0);
         put(kinds, values, starts, nodes, 0, value, nodes);
         return Read {
             ok: true,
-            next: next,
+            next,
             nodes: nodes + 1,
-            firsts: firsts,
-            beyond: integer.beyond,
+            firsts,
+            beyond: integer.is_err(),
         };
     }
-    if vocabulary::is_reserved(word) {
-        return nothing();
-    }
-    if !scan::is_name(word) {
+    if vocabulary::is_reserved(word) || !scan::is_name(word) {
         return nothing();
     }
     let place = value_of(scan::place_of(names, word));
     put(kinds, values, starts, nodes, 1, place, nodes);
     Read {
         ok: true,
-        next: next,
+        next,
         nodes: nodes + 1,
-        firsts: firsts,
+        firsts,
         beyond: false,
     }
 }
@@ -203,13 +198,11 @@ fn token_at(text: &[u8], origin: usize, token_starts: &[usize], at: usize) -> Nu
 fn firsts_before(kind: u8, firsts: usize) -> usize
     ensures { result ≡ firsts_before kind firsts }
 {
-    if kind != nodes::FIRST_NODE {
-        return firsts;
+    if kind == nodes::FIRST_NODE {
+        firsts.saturating_sub(1)
+    } else {
+        firsts
     }
-    if firsts == 0 {
-        return 0;
-    }
-    firsts - 1
 }
 
 // Passes over `first`, `next` and `not` from the token with the number `at` on: a loop, since a line may have a thousand of them, and each call
@@ -263,11 +256,9 @@ fn put_prefixes(
     requires nodes_le_nodes { (nodes ≤ inner.nodes) × (inner.nodes + passed.at ≤ 1024 + at) × (firsts + length (tokens_from text.now origin token_starts.now at) ≤ 2048) }
     ensures { ReadLeads (tokens_from text.now origin token_starts.now) nodes passed.at passed.firsts (stored kinds.old values.old starts.old) inner at firsts (stored kinds.new values.new starts.new) result }
 {
-    let mut number = passed.at;
     let mut inside = passed.firsts;
     let mut last = inner.nodes;
-    while at < number {
-        number -= 1;
+    for number in (at..passed.at).rev() {
         let token = token_at(text, origin, token_starts, number);
         let start = token.start;
         let end = token.end;
@@ -468,7 +459,7 @@ fn conditional(
         next: last.next,
         nodes: place + 1,
         firsts: last.firsts,
-        beyond: either(condition.beyond, either(branch.beyond, last.beyond)),
+        beyond: condition.beyond | (branch.beyond | last.beyond),
     }
 }
 
@@ -551,7 +542,7 @@ fn expression(
         next: right.next,
         nodes: last + 1,
         firsts: right.firsts,
-        beyond: either(left.beyond, right.beyond),
+        beyond: left.beyond | right.beyond,
     }
 }
 
@@ -617,12 +608,12 @@ fn sides(
     ConstraintRead {
         fits: true,
         ok: true,
-        relation: relation,
+        relation,
         left: left.nodes - 1,
         right: right.nodes - 1,
         next: right.nodes,
         firsts: right.firsts,
-        beyond: either(left.beyond, right.beyond),
+        beyond: left.beyond | right.beyond,
     }
 }
 
@@ -631,10 +622,7 @@ fn sides(
 fn tokens_fit(line: &[u8], room: usize) -> bool
     ensures { result ≡ leb (length (tokens line.now)) room }
 {
-    if line.len() <= room {
-        return true;
-    }
-    scan::token_count(line) <= room
+    line.len() <= room || scan::token_count(line) <= room
 }
 
 // Stores the places where the line's tokens begin, from the place `from` of the array on, and gives the place after the last.
@@ -644,15 +632,12 @@ fn store_token_starts(line: &[u8], token_starts: &mut [usize; 1024], from: usize
 {
     let mut count = from;
     let mut inside = false;
-    let mut i = 0;
-    while i < line.len() {
-        let byte = line[i];
-        if scan::begins_token(inside, byte) {
+    for (i, byte) in line.iter().enumerate() {
+        if scan::begins_token(inside, *byte) {
             token_starts[count] = i;
             count += 1;
         }
-        inside = scan::is_inside(byte);
-        i += 1;
+        inside = scan::is_inside(*byte);
     }
     count
 }
@@ -673,13 +658,7 @@ pub fn parse_constraint(
     ensures starts_outcome { StartsOutcome line.now from firsts token_starts.old token_starts.new }
     ensures constraint_outcome { ConstraintOutcome names.now line.now from firsts (stored kinds.old values.old starts.old) (stored kinds.new values.new starts.new) result }
 {
-    if 1024 < from {
-        return unread(false);
-    }
-    if 1024 < firsts {
-        return unread(false);
-    }
-    if !tokens_fit(line, 1024 - from) {
+    if 1024 < from || 1024 < firsts || !tokens_fit(line, 1024 - from) {
         return unread(false);
     }
     let last = store_token_starts(line, token_starts, from);

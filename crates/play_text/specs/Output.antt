@@ -7,13 +7,18 @@ use Rattle.letters.specs.Described.{described, cut_count}
 use Rattle.table_text.specs.Table.{place_text}
 use Rattle.print.specs.Lines.{lines_from}
 use Rattle.pages.specs.Lines.{or_refused, places_or}
-use Rattle.pages.specs.Output.{Printout, table_line}
+use Rattle.pages.specs.Output.{Printout, printout_of_table, table_line}
+use Rattle.play_text.specs.declared.PrintedPlay.{PrintedPlay}
 
 -- What is printed: a refusal's number, or 0 and a table with its play table, of so many choices.
 pub record PlayPrintout : Type 0 where
   pub table : Printout
   pub choices : ℕ
   pub play : List ℕ
+
+-- A table and a play table as they are lent.
+abbrev pub printout_of_play : PrintedPlay → PlayPrintout
+printout_of_play p = record { table = printout_of_table p.table; choices = p.choices; play = p.play.now }
 
 -- The line of the letter held at a place, counted by state and choice; nothing where the play table holds 65,535, or beyond it.
 unfoldable pub held_text : (choices : ℕ) (lows highs : List ℤ) (entries finals play : List ℕ) (place : ℕ) → List ℕ

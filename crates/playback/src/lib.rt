@@ -21,10 +21,7 @@ pub struct Written {
 fn add_size(size: usize, more: usize) -> usize
     ensures { result ≡ min (size + more) highest_count }
 {
-    if more <= 18446744073709551615 - size {
-        return size + more;
-    }
-    18446744073709551615
+    size.saturating_add(more)
 }
 
 // Plays all bytes of a chunk, and writes what they print by way of the lent bytes. Lent bytes without room for a line count as a write that fails.
@@ -54,14 +51,13 @@ pub fn write_chunk<W: Write>(
         );
         playing = advanced.replay;
         at = advanced.next;
-        let printed = advanced.size;
-        let handed = output::write_front(to, out, printed);
+        let handed = output::write_front(to, out, advanced.size);
         size = add_size(size, handed.size);
         whole = handed.whole;
     }
     Written {
         replay: playing,
-        size: size,
-        whole: whole,
+        size,
+        whole,
     }
 }

@@ -11,7 +11,6 @@ ghost use Rattle.prepare.specs.Key.{raised, lowered};
 ghost use Rattle.prepare.specs.Prepared.{window_of, PreparableSizes, IsPreparable, Prepares, AddsLetter};
 
 use arithmetic::in_bound;
-use basics::fewer;
 use sizes::{
     FIRST_BOUND, FIRSTS_PLACE, KEY_SIZE, PREPARED_SIZE, STREAM_BOUND, WINDOW_BOUND, WINDOW_ROOM,
 };
@@ -37,19 +36,7 @@ pub fn raised(z: i64) -> u32
 fn lowered(x: u32) -> i64
     ensures { result ≡ lowered x }
 {
-    x as i64 - 1000000000
-}
-
-// Copies values into a window from a place on.
-fn copy_values(to: &mut [i64], at: usize, from: &[i64])
-    requires { at + length from.now ≤ length to.old }
-    ensures { to.new ≡ paste to.old at from.now (length from.now) }
-{
-    let mut i = 0;
-    while i < from.len() {
-        to[at + i] = from[i];
-        i += 1;
-    }
+    i64::from(x) - 1000000000
 }
 
 // Whether a letter's values are there, and room for 8 from the first of them on. `values` is how many values there are. No product wraps, since more
@@ -57,10 +44,7 @@ fn copy_values(to: &mut [i64], at: usize, from: &[i64])
 fn has_values(letter: u32, streams: usize, values: usize) -> bool
     ensures { Says result (letter * min streams stream_bound + stream_bound ≤ values) }
 {
-    if values < letter as usize * fewer(streams, STREAM_BOUND) + STREAM_BOUND {
-        return false;
-    }
-    true
+    letter as usize * streams.min(STREAM_BOUND) + STREAM_BOUND <= values
 }
 
 // Whether the values of all these letters are there.
@@ -68,14 +52,9 @@ fn have_values(letters: &[u32], streams: usize, values: usize) -> bool
     requires { streams ≤ stream_bound }
     ensures { Says result ((p : ℕ) → p < length letters.now → get_or letters.now p 0 * streams + stream_bound ≤ values) }
 {
-    let mut p = 0;
-    while p < letters.len() {
-        if !has_values(letters[p], streams, values) {
-            return false;
-        }
-        p += 1;
-    }
-    true
+    letters
+        .iter()
+        .all(|letter| has_values(*letter, streams, values))
 }
 
 // The values of the letters, one letter after the other. What stands behind them is as it was.
@@ -84,14 +63,11 @@ fn fill_window(window: &mut [i64], letter_values: &[i64], streams: usize, letter
     requires by_index { (p : ℕ) → p < length letters.now → get_or letters.now p 0 * streams + streams ≤ length letter_values.now }
     ensures { window.new ≡ window_of streams letter_values.now letters.now ++ drop (length letters.now * streams) window.old }
 {
-    let mut p = 0;
     let mut at = 0;
-    while p < letters.len() {
-        let from = letters[p] as usize * streams;
-        let end = from + streams;
-        copy_values(window, at, &letter_values[from..end]);
+    for &letter in letters {
+        let from = letter as usize * streams;
+        window[at..at + streams].copy_from_slice(&letter_values[from..from + streams]);
         at += streams;
-        p += 1;
     }
 }
 
@@ -109,12 +85,12 @@ pub fn add_letter(
     if window.len() < WINDOW_ROOM {
         return;
     }
-    let few = fewer(streams, STREAM_BOUND);
-    let at = fewer(held, WINDOW_BOUND) * few;
+    let few = streams.min(STREAM_BOUND);
+    let at = held.min(WINDOW_BOUND) * few;
     if has_values(letter, few, letter_values.len()) {
         let from = letter as usize * few;
         let end = from + STREAM_BOUND;
-        copy_values(window, at, &letter_values[from..end]);
+        window[at..at + STREAM_BOUND].copy_from_slice(&letter_values[from..end]);
     }
 }
 
@@ -123,10 +99,8 @@ fn lower_all(prepared: &mut [i64], numbers: &[u32])
     requires { window_room + length numbers.now ≤ length prepared.old }
     ensures { prepared.new ≡ paste prepared.old window_room (map lowered numbers.now) (length numbers.now) }
 {
-    let mut i = 0;
-    while i < numbers.len() {
-        prepared[WINDOW_ROOM + i] = lowered(numbers[i]);
-        i += 1;
+    for (i, &number) in numbers.iter().enumerate() {
+        prepared[WINDOW_ROOM + i] = lowered(number);
     }
 }
 
@@ -134,22 +108,11 @@ fn lower_all(prepared: &mut [i64], numbers: &[u32])
 fn are_preparable(dimensions: Dimensions, count: usize, key: usize, room: usize) -> bool
     ensures { Says result (PreparableSizes dimensions.streams dimensions.width count key room) }
 {
-    if WINDOW_BOUND < dimensions.width {
-        return false;
-    }
-    if STREAM_BOUND < dimensions.streams {
-        return false;
-    }
-    if FIRST_BOUND < count {
-        return false;
-    }
-    if key != KEY_SIZE {
-        return false;
-    }
-    if room != PREPARED_SIZE {
-        return false;
-    }
-    true
+    dimensions.width <= WINDOW_BOUND
+        && dimensions.streams <= STREAM_BOUND
+        && count <= FIRST_BOUND
+        && key == KEY_SIZE
+        && room == PREPARED_SIZE
 }
 
 // Whether what the letters after a key need can be prepared. `values` is how many values there are, `room` how long the list is.
@@ -165,7 +128,7 @@ fn is_preparable(
     if !are_preparable(dimensions, count, key.len(), room) {
         return false;
     }
-    let held = fewer(key[0] as usize, dimensions.width);
+    let held = (key[0] as usize).min(dimensions.width);
     let end = held + 1;
     have_values(&key[1..end], dimensions.streams, values)
 }
@@ -184,7 +147,7 @@ pub fn prepare(
     if !is_preparable(letter_values.len(), dimensions, count, key, prepared.len()) {
         return;
     }
-    let held = fewer(key[0] as usize, dimensions.width);
+    let held = (key[0] as usize).min(dimensions.width);
     let letters_end = held + 1;
     fill_window(
         prepared,

@@ -1,12 +1,13 @@
 -- Text that is appended piece by piece: nothing, one byte, and one text after another. All from the definition.
 use Prim.Native.Nat.{ℕ, suc, ◌+◌, ◌≤◌, ◌<◌}
 use native.Mathlib.Omega.{arith}
-use mathlib.Core.Path.{◌≡◌, refl, ◌∙◌, ap, subst}
+use mathlib.Core.Path.{◌≡◌, refl, sym, ◌∙◌, ap, ap₂, subst}
 use mathlib.Core.Bool.{Bool, true, false}
-use mathlib.Core.List.{List, [], ◌++◌}
+use mathlib.Core.List.{List, [], ◌++◌, append_assoc}
 use lib.Dec.{leb}
-use lib.ListN.{length, length-append}
-use lib.Seq.{sets, length-sets}
+use lib.ListN.{length, take, drop, length-append}
+use lib.Seq.{sets, sets-eq, length-sets, drop-drop}
+use borrow.Rule.Slice.PartMut.{put_mid}
 use borrow.Author.Tests.{leb-true, leb-false}
 use Rattle.basics.proofs.Lists.{sets_append}
 use Rattle.print.specs.Append.{Appends}
@@ -22,6 +23,14 @@ text-left out text h = record { same_length = refl; written = λ b. absurd (omeg
 pub text-stored : {at : ℕ} {out out' text : List ℕ} {r : ℕ} → at + length text ≤ length out → out' ≡ sets out at text → r ≡ at + length text → Appends at text out out' r
 text-stored {at} {out} {out'} {text} h e p =
     record { same_length = ap length e ∙ length-sets out at text; written = λ b. (e, p); no_room = λ b. absurd (omega arith) }
+
+-- A text for which there is room, copied to its place.
+pub text-copied : (out text : List ℕ) {at n : ℕ} {part : List ℕ} → n ≡ length text → part ≡ text → at + length text ≤ length out → Appends at text out (put_mid at n out part) (at + length text)
+text-copied out text {at} s e h =
+    text-stored h
+    (ap₂ (λ k p. take at out ++ (p ++ drop k (drop at out))) s e ∙ ap (λ l. take at out ++ (text ++ l)) (drop-drop (length text) at out)
+    ∙ sym (append_assoc (take at out) text (drop (at + length text) out)) ∙ sym (sets-eq text out at h))
+    refl
 
 module _ {at : ℕ} {a out out₁ : List ℕ} {r₁ : ℕ} (p : Appends at a out out₁ r₁) where
   -- The place after a text is at most one more than the length, so that the next text can follow.

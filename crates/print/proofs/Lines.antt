@@ -1,12 +1,9 @@
 -- The parts of a line, as the code appends them, make the line. All from the definitions.
-use Prim.Native.Nat.{ℕ, suc, ◌<◌}
-use native.Mathlib.Omega.{arith}
+use Prim.Native.Nat.{ℕ, suc}
 use mathlib.Core.Path.{◌≡◌, refl, sym, ◌∙◌, ap}
 use mathlib.Core.Bool.{true, false}
 use mathlib.Core.List.{List, [], ◌∷◌, ◌++◌, map, map-append, append_assoc}
 use lib.IntN.{ℤ, pos, nat_abs}
-use lib.ListN.{length, get_or, take}
-use lib.Seq.{take-suc, take_all}
 use lib.Signed.{lt_z}
 use mir.Syntax.{w64}
 use mir.Val.{SFits}
@@ -39,13 +36,6 @@ tokens-last (u ∷ []) t = sym (append_assoc u (32 ∷ []) (t ++ (10 ∷ [])))
 tokens-last (u ∷ (v ∷ ts)) t =
     ap (λ l. u ++ (32 ∷ l)) (tokens-last (v ∷ ts) t) ∙ sym (append_assoc u (32 ∷ spaced (v ∷ ts)) (t ++ (10 ∷ [])))
 
--- One value more of a list.
-pub values-more : (vs : List ℤ) (i : ℕ) → i < length vs
-    → spaced (map decimal (take (suc i) vs)) ≡ spaced (map decimal (take i vs)) ++ (decimal (get_or vs i (pos 0)) ++ (32 ∷ []))
-values-more vs i h =
-    ap (λ l. spaced (map decimal l)) (take-suc vs i (pos 0) h) ∙ ap spaced (map-append decimal (take i vs) (get_or vs i (pos 0) ∷ []))
-    ∙ spaced-more (map decimal (take i vs)) (decimal (get_or vs i (pos 0)))
-
 -- ---- the lines
 
 -- The names but the last, each with a space, the last one and byte 10.
@@ -55,18 +45,11 @@ unfolding stored_names
 names-parts names lengths i =
     append_assoc (spaced (stored_names names lengths i)) (name_in names lengths i) (10 ∷ []) ∙ sym (tokens-last (stored_names names lengths i) (name_in names lengths i))
 
-pub no_numbers : (vs : List ℤ) → length vs ≡ 0 → tokens_line (map decimal vs) ≡ 10 ∷ []
-no_numbers [] h = refl
-no_numbers (v ∷ vs) h = absurd (omega arith)
-
 -- The numbers but the last, each with a space, the last one and byte 10.
-pub numbers-parts : (vs : List ℤ) (i : ℕ) → length vs ≡ suc i
-    → (spaced (map decimal (take i vs)) ++ decimal (get_or vs i (pos 0))) ++ (10 ∷ []) ≡ tokens_line (map decimal vs)
-numbers-parts vs i h =
-    let last = get_or vs i (pos 0) in
-    append_assoc (spaced (map decimal (take i vs))) (decimal last) (10 ∷ []) ∙ sym (tokens-last (map decimal (take i vs)) (decimal last))
-    ∙ ap tokens_line (sym (map-append decimal (take i vs) (last ∷ [])))
-    ∙ ap (λ l. tokens_line (map decimal l)) (sym (take-suc vs i (pos 0) (omega arith)) ∙ take_all (suc i) vs (omega arith))
+pub numbers-parts : (others : List ℤ) (last : ℤ) → (spaced (map decimal others) ++ decimal last) ++ (10 ∷ []) ≡ tokens_line (map decimal (others ++ (last ∷ [])))
+numbers-parts others last =
+    append_assoc (spaced (map decimal others)) (decimal last) (10 ∷ []) ∙ sym (tokens-last (map decimal others) (decimal last))
+    ∙ ap tokens_line (sym (map-append decimal others (last ∷ [])))
 
 pub heading_parts : (names : List Token) → (bytes_of "state final " ++ spaced names) ++ bytes_of "next\n" ≡ heading_line names
 heading_parts names = refl

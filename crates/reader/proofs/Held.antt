@@ -16,7 +16,7 @@ use Rattle.nodes.specs.FirstPlaces.{all_first_places}
 use Rattle.sheet.specs.Refusal.{sheet}
 use Rattle.sheet.specs.Reading.{any_of, is_range_faulty, is_integer_beyond, all_expressions, answer_to_sheet}
 use Rattle.parse.specs.Bounded.{zero_beyond, bounded_constraint}
-use Rattle.reader.specs.Constraints.{State, counts}
+use Rattle.reader.specs.Constraints.{State}
 use Rattle.header.specs.Streams.{padded, StreamTables}
 use Rattle.reader.specs.Stored.{relations_of, lefts_of, rights_of, stored_sheet, refused_reading, reading_of}
 use Rattle.reader.specs.FirstNodes.{with_firsts, FewFirsts}

@@ -6,6 +6,7 @@ use mathlib.Core.Bool.{Bool, true, false, not, cond, ◌&&◌, ◌||◌, and-tru
 use mathlib.Core.List.{List, [], ◌∷◌, ◌++◌, append-nil}
 use native.Mathlib.Omega.{arith}
 use lib.IntN.{ℤ, pos}
+use Rattle.std.specs.Prelude.{Some, is_some}
 use lib.ListN.{length, drop, get_or, drop_of_length-le, length-append}
 use lib.Dec.{T}
 use lib.Signed.{lt_z, lt_z_no, ◌≤ℤ◌}
@@ -17,7 +18,7 @@ use Rattle.meaning.specs.Arithmetic.{Interval}
 use Rattle.meaning.specs.Expression.{Expression, integer, Constraint, until, left_side, right_side, Stream, absent_stream, range_of, Sheet}
 use Rattle.meaning.specs.Interval.{interval, subexpressions, NamesBelow, SidesBelow}
 use Rattle.meaning.specs.Situation.{all}
-use Rattle.meaning.specs.Window.{reach, back, firsts, largest_over, side_firsts, all_firsts, B, D}
+use Rattle.meaning.specs.Window.{reach, firsts, largest_over, side_firsts, all_firsts, B, D}
 use Rattle.meaning.proofs.Interval.{subexpressions-below}
 use Rattle.text.specs.Token.{is_reserved}
 use Rattle.sheet.specs.Form.{names_of}
@@ -83,7 +84,7 @@ both-not : (a b : Bool) → a && not b ≡ not (not a || b)
 both-not true b = refl
 both-not false b = refl
 
-ok-is : (b : Bool) (I : Interval) → (cond b (record { ok = true; low = I.low; high = I.high }) no_range).ok ≡ b
+ok-is : (b : Bool) (I : Interval) → is_some (cond b (Some (record { low = I.low; high = I.high })) no_range) ≡ b
 ok-is true I = refl
 ok-is false I = refl
 
@@ -117,7 +118,7 @@ module _ (ss : List Stream) (ordered : (k : ℕ) → k < length ss → (range_of
   all-inside (e ∷ es) h =
       ap₂ ◌&&◌ (ends_same (interval ss e) (interval-ordered ss ordered e h.0)) (all-inside es h.1) ∙ both-not (in_bounds (interval ss e)) (any_of leaves es)
 
-  side-ok : (e : Expression) → NamesBelow (length ss) e → (summary_of ss e).range.ok ≡ not (any_of leaves (subexpressions e))
+  side-ok : (e : Expression) → NamesBelow (length ss) e → is_some (summary_of ss e).range ≡ not (any_of leaves (subexpressions e))
   side-ok e n = ok-is (all (λ f. ends_in_bound (interval ss f)) (subexpressions e)) (interval ss e) ∙ all-inside (subexpressions e) (subexpressions-below (length ss) e n)
 
   -- The extent after these constraints.

@@ -1,5 +1,5 @@
 -- Intervals, D and B over the sides of stored constraints (document 01, refusal 6, "D is the largest reach", "B is the largest back").
-use Rattle.std.specs.Prelude.{ℕ, max, true, ◌&&◌, List, [], ◌∷◌, ℤ}
+use Rattle.std.specs.Prelude.{ℕ, max, true, is_some, ◌&&◌, List, [], ◌∷◌, ℤ}
 use Rattle.nodes.specs.Evaluate.{Nodes}
 use Rattle.nodes.specs.Bounds.{node_summary}
 use Rattle.nodes.specs.declared.Summary.{Summary}
@@ -10,7 +10,7 @@ no_extent = record { ok = true; ahead = 0; back = 0 }
 
 abbrev pub with_summary : Extent → Summary → Extent
 with_summary x s =
-    record { ok = x.ok && s.range.ok; ahead = max (max s.reach s.furthest) x.ahead; back = max s.back x.back }
+    record { ok = x.ok && is_some s.range; ahead = max (max s.reach s.furthest) x.ahead; back = max s.back x.back }
 
 module _ (N : Nodes) (lows highs : List ℤ) where
   -- The extent of the sides whose last nodes have these places, after those before them.

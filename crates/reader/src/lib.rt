@@ -17,7 +17,6 @@ ghost use Rattle.reader.specs.Tested.{tested_as};
 ghost use Rattle.reader.specs.Held.{HeldSheet, HeldReading};
 ghost use Rattle.text.specs.Bytes.{lines, tokens};
 
-use basics::{either, larger};
 use header::{StreamArrays, StreamsRead};
 
 // The stored sheet. Room beyond what is given is zero.
@@ -68,7 +67,7 @@ struct ConstraintArrays {
     rights: [u16; 32],
 }
 
-// Whether every interval is within the bound; D and B.
+// Whether every interval is within the bound; D and B, which are counted whether it is or not, so that an `Option` of them would say less.
 #[derive(Clone, Copy)]
 struct Extent {
     ok: bool,
@@ -91,11 +90,7 @@ struct ConstraintsRead {
 fn until_count(relation: u8) -> usize
     ensures { result ≡ cond (eqb relation 7) 1 0 }
 {
-    if relation == nodes::UNTIL_RELATION {
-        1
-    } else {
-        0
-    }
+    usize::from(relation == nodes::UNTIL_RELATION)
 }
 
 // A refusal, with a sheet of zeros.
@@ -126,7 +121,7 @@ fn refused(number: u32) -> Reading
     };
     Reading {
         refusal: number,
-        sheet: sheet,
+        sheet,
     }
 }
 
@@ -151,10 +146,8 @@ fn restate(kinds: &mut [u8; 1024], floors: bool)
     if !floors {
         return;
     }
-    let mut i = 0;
-    while i < 1024 {
-        kinds[i] = floored_kind(kinds[i]);
-        i += 1;
+    for kind in kinds.iter_mut() {
+        *kind = floored_kind(*kind);
     }
 }
 
@@ -239,16 +232,16 @@ fn read_constraints(
         nodes = read.next;
         firsts = read.firsts;
         untils += until_count(read.relation);
-        beyond = either(beyond, read.beyond);
+        beyond |= read.beyond;
         at = line.next;
     }
     ConstraintsRead {
         ok: true,
-        count: count,
-        nodes: nodes,
-        firsts: firsts,
-        untils: untils,
-        beyond: beyond,
+        count,
+        nodes,
+        firsts,
+        untils,
+        beyond,
     }
 }
 
@@ -257,11 +250,7 @@ fn is_unknown(kind: u8, value: i64, streams: i64) -> bool
     requires { streams ≡ pos (nat_abs streams) }
     ensures { result ≡ is_unknown kind value (nat_abs streams) }
 {
-    if kind == nodes::NAME_NODE {
-        streams <= value
-    } else {
-        false
-    }
+    kind == nodes::NAME_NODE && streams <= value
 }
 
 // "a name [..] unknown in a constraint": a node of a name whose number is not below the number of streams
@@ -270,12 +259,10 @@ fn some_unknown(kinds: &[u8], values: &[i64], streams: usize) -> bool
     ensures { result ≡ some_unknown kinds.now values.now streams }
 {
     let bound = streams as i64;
-    let mut i = 0;
-    while i < kinds.len() {
-        if is_unknown(kinds[i], values[i], bound) {
+    for (i, kind) in kinds.iter().enumerate() {
+        if is_unknown(*kind, values[i], bound) {
             return true;
         }
-        i += 1;
     }
     false
 }
@@ -284,12 +271,10 @@ fn some_unknown(kinds: &[u8], values: &[i64], streams: usize) -> bool
 fn with_summary(before: Extent, summary: nodes::Summary) -> Extent
     ensures { result ≡ with_summary before summary }
 {
-    let range = summary.range;
-    let ok = before.ok;
     Extent {
-        ok: ok & range.ok,
-        ahead: larger(larger(summary.reach, summary.furthest), before.ahead),
-        back: larger(summary.back, before.back),
+        ok: before.ok & summary.range.is_some(),
+        ahead: summary.reach.max(summary.furthest).max(before.ahead),
+        back: summary.back.max(before.back),
     }
 }
 
@@ -311,19 +296,11 @@ fn extent_of(
         ahead: 0,
         back: 0,
     };
-    let mut i = 0;
-    while i < lefts.len() {
-        let left = lefts[i] as usize;
-        extent = with_summary(
-            extent,
-            bounds::summary(kinds, values, starts, lows, highs, left),
-        );
-        let right = rights[i] as usize;
-        extent = with_summary(
-            extent,
-            bounds::summary(kinds, values, starts, lows, highs, right),
-        );
-        i += 1;
+    for (i, left) in lefts.iter().enumerate() {
+        let left = bounds::summary(kinds, values, starts, lows, highs, usize::from(*left));
+        extent = with_summary(extent, left);
+        let right = bounds::summary(kinds, values, starts, lows, highs, usize::from(rights[i]));
+        extent = with_summary(extent, right);
     }
     extent
 }
@@ -341,12 +318,10 @@ fn find_firsts(kinds: &[u8], values: &[i64], first_nodes: &mut [u16; 8])
     requires { (length values.now ≡ length kinds.now) × (length kinds.now ≤ 1024) × FewFirsts kinds.now values.now }
     ensures { first_nodes.new ≡ with_firsts 0 kinds.now values.now first_nodes.old }
 {
-    let mut i = 0;
-    while i < kinds.len() {
-        if kinds[i] == nodes::FIRST_NODE {
+    for (i, kind) in kinds.iter().enumerate() {
+        if *kind == nodes::FIRST_NODE {
             put_first(first_nodes, values[i], i);
         }
-        i += 1;
     }
 }
 
@@ -415,7 +390,7 @@ fn store_sheet(
         &highs[..stream_count],
         &lefts[..count],
         &rights[..count],
-        either(streams.faulty, constraints.beyond),
+        streams.faulty | constraints.beyond,
         untils,
         firsts,
     );
@@ -426,30 +401,27 @@ fn store_sheet(
     find_firsts(&kinds[..nodes], &values[..nodes], &mut first_nodes);
     let sheet = StoredSheet {
         streams: stream_count,
-        names: names,
-        lengths: lengths,
-        lows: lows,
-        highs: highs,
-        stream_kinds: stream_kinds,
+        names,
+        lengths,
+        lows,
+        highs,
+        stream_kinds,
         letters: told.letters,
         constraints: count,
-        relations: relations,
-        lefts: lefts,
-        rights: rights,
-        nodes: nodes,
-        kinds: kinds,
-        values: values,
-        starts: starts,
-        untils: untils,
-        firsts: firsts,
-        first_nodes: first_nodes,
+        relations,
+        lefts,
+        rights,
+        nodes,
+        kinds,
+        values,
+        starts,
+        untils,
+        firsts,
+        first_nodes,
         ahead: told.ahead as usize,
         back: told.back as usize,
     };
-    Reading {
-        refusal: 0,
-        sheet: sheet,
-    }
+    Reading { refusal: 0, sheet }
 }
 
 // The answer to a sheet whose header lines and constraint lines are these, where refusals 1 and 2 do not apply; `floors` tells the release.
@@ -503,12 +475,12 @@ fn read_lines(
         header.arrays,
         constraints,
         ConstraintArrays {
-            kinds: kinds,
-            values: values,
-            starts: starts,
-            relations: relations,
-            lefts: lefts,
-            rights: rights,
+            kinds,
+            values,
+            starts,
+            relations,
+            lefts,
+            rights,
         },
     )
 }

@@ -79,12 +79,11 @@ fn print_sheet<W: Write>(out: &mut W, text: &[u8]) {
 // One case; whether there was one.
 fn one<R: Read, W: Write>(source: &mut R, out: &mut W) -> bool {
     let mut space = [0u8; 65536];
-    let case = cases::read_case(source, 4, &mut space);
-    let size = case.size;
-    if case.found {
-        print_sheet(out, &space[..size]);
-    }
-    case.found
+    let Some(case) = cases::read_case(source, 4, &mut space) else {
+        return false;
+    };
+    print_sheet(out, &space[..case.size]);
+    true
 }
 
 fn main(rt: HostRuntime) {

@@ -1,11 +1,10 @@
 -- The reads of an input in chunks. Which bytes they give is outside the logic: they are named, and what a program does is said of them. That the reads named
 -- are those made is what the loop of a caller does, and rests on no law.
-use Rattle.std.specs.Prelude.{ℕ, zero, suc, ◌+◌, ◌≡◌, Bool, true, false, List, [], ◌∷◌, ◌++◌, ltb, ℤ, pos, negsuc, length}
+use Rattle.std.specs.Prelude.{ℕ, zero, suc, ◌+◌, ◌≡◌, Bool, true, false, cond, Option, Some, None, List, [], ◌∷◌, ◌++◌, ltb, ℤ, pos, negsuc, length}
 use Rattle.io.specs.Counts.{clamp_len}
 use Rattle.text.specs.Fold.{run_bytes}
 use Rattle.reads.specs.declared.ReadEnd.{ReadEnd}
 use Rattle.reads.specs.declared.ReadEnd.TheVariants.{Complete, Stopped, Incomplete}
-use Rattle.reads.specs.declared.ReadsSoFar.{ReadsSoFar}
 
 -- The most reads of an input, each of at most 65,536 bytes: those that 9,223,372,036,854,775,808 bytes fill, and no file is longer, and one more that meets
 -- its end.
@@ -35,15 +34,13 @@ AllGaveBytes (r ∷ rs) = ((k : ℕ) × (r.answer ≡ pos (suc k))) × AllGaveBy
 
 -- ---- what reads come to
 
-abbrev pub ended_as : ReadEnd → ReadsSoFar
-ended_as ended = record { ended = ended; more = false }
-
--- After a read with this answer, where so many reads may follow: as long as reads may follow, the input is not read to its end.
-abbrev pub reads_so_far : (stopped : Bool) → ℤ → (left : ℕ) → ReadsSoFar
-reads_so_far true answer left = ended_as Stopped
-reads_so_far false (negsuc k) left = ended_as Incomplete
-reads_so_far false (pos zero) left = ended_as Complete
-reads_so_far false (pos (suc k)) left = record { ended = Incomplete; more = ltb 0 left }
+-- After a read with this answer, where so many reads may follow: how the reading ended, or nothing where a read follows. As long as reads may follow, the input
+-- is not read to its end.
+abbrev pub reads_so_far : (stopped : Bool) → ℤ → (left : ℕ) → Option ReadEnd
+reads_so_far true answer left = Some Stopped
+reads_so_far false (negsuc k) left = Some Incomplete
+reads_so_far false (pos zero) left = Some Complete
+reads_so_far false (pos (suc k)) left = cond (ltb 0 left) None (Some Incomplete)
 
 -- ---- what a machine makes of the bytes
 
@@ -54,15 +51,14 @@ module _ {S : Type 0} (step : S → ℕ → S) (stops : S → Bool) (start : S) 
   ReadsUntilStop (r ∷ rs) = AllGaveBytes rs × (stops (run_bytes step start (read_text rs)) ≡ false)
 
   -- The machine has taken the bytes that reads gave, and so many reads may follow.
-  pub record ReadTo (state : S) (r : ReadsSoFar) (left : ℕ) : Type 0 where
+  pub record ReadTo (state : S) (r : Option ReadEnd) (left : ℕ) : Type 0 where
     pub chunks : List ChunkRead
     pub all : length chunks + left ≡ most_reads
     pub run : state ≡ run_bytes step start (read_text chunks)
     pub stands : r ≡ reads_so_far (stops state) (last_answer chunks) left
     pub stopped : ReadsUntilStop chunks
 
-  -- No more reads follow.
-  pub record ReadsAll (state : S) (r : ReadsSoFar) : Type 0 where
+  -- No more reads follow, and the reading ended so.
+  pub record ReadsAll (state : S) (ended : ReadEnd) : Type 0 where
     pub left : ℕ
-    pub reads : ReadTo state r left
-    pub done : r.more ≡ false
+    pub reads : ReadTo state (Some ended) left

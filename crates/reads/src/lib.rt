@@ -2,48 +2,32 @@
 #![tactic(auto)]
 
 ghost use Rattle.std.specs.Prelude.{◌≡◌};
-ghost use Rattle.reads.specs.Chunks.{ended_as, reads_so_far};
+ghost use Rattle.reads.specs.Chunks.{reads_so_far};
 
 // How reading an input ended: at its end; where nothing behind matters; or before both.
-#[derive(Clone, Copy)]
+#[derive(Clone, Copy, PartialEq, Eq)]
 pub enum ReadEnd {
     Complete,
     Stopped,
     Incomplete,
 }
 
-// How the reading ends if nothing more is read, and whether there may be more to read.
-#[derive(Clone, Copy)]
-pub struct ReadsSoFar {
-    pub ended: ReadEnd,
-    pub more: bool,
-}
-
-// Nothing more is read.
-fn ended_as(ended: ReadEnd) -> ReadsSoFar
-    ensures { result ≡ ended_as ended }
-{
-    ReadsSoFar {
-        ended: ended,
-        more: false,
-    }
-}
-
-// What a read with this answer comes to, where `left` reads may follow, and `stopped` says whether what follows its bytes matters no more.
-pub fn so_far(stopped: bool, answer: isize, left: u64) -> ReadsSoFar
+// What a read with this answer comes to, where `left` reads may follow, and `stopped` says whether what follows its bytes matters no more: how the reading
+// ended, or nothing where more is to be read.
+pub fn so_far(stopped: bool, answer: isize, left: u64) -> Option<ReadEnd>
     ensures { result ≡ reads_so_far stopped answer left }
 {
     if stopped {
-        return ended_as(ReadEnd::Stopped);
+        return Some(ReadEnd::Stopped);
     }
     if answer < 0 {
-        return ended_as(ReadEnd::Incomplete);
+        return Some(ReadEnd::Incomplete);
     }
     if answer == 0 {
-        return ended_as(ReadEnd::Complete);
+        return Some(ReadEnd::Complete);
     }
-    ReadsSoFar {
-        ended: ReadEnd::Incomplete,
-        more: 0 < left,
+    if left == 0 {
+        return Some(ReadEnd::Incomplete);
     }
+    None
 }

@@ -5,32 +5,16 @@
 
 use reads::ReadEnd;
 
-fn tell(rt: &impl Eprint, failed: bool, message: &str) {
-    if failed {
-        let _ = rt.eprint(message);
-    }
-}
-
-fn is_incomplete(ended: ReadEnd) -> bool {
-    match ended {
-        ReadEnd::Complete => false,
-        ReadEnd::Stopped => false,
-        ReadEnd::Incomplete => true,
-    }
-}
-
 fn main(rt: HostRuntime) {
     let shown = show_counts::show_input(&mut Some(rt.stdin()), &mut rt.stdout());
-    let ended = shown.ended;
-    tell(
-        &rt,
-        is_incomplete(ended),
+    output::tell(
+        &mut rt.stderr(),
+        shown.ended == ReadEnd::Incomplete,
         "record_counts: the input cannot be read\n",
     );
-    let handed = shown.handed;
-    tell(
-        &rt,
-        !handed.whole,
+    output::tell(
+        &mut rt.stderr(),
+        !shown.handed.whole,
         "record_counts: the figures cannot be written\n",
     );
 }

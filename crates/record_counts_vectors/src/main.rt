@@ -4,7 +4,6 @@
 
 ghost use Rattle.std.specs.Prelude.{◌<◌};
 
-use basics::fewer;
 use std::io::{Read, Write};
 
 // One input in chunks of so many bytes.
@@ -15,7 +14,7 @@ fn show_chunks<W: Write>(out: &mut W, input: &[u8], chunk: usize)
     let mut taken = first_line::take_start();
     let mut at = 0;
     while at < input.len() {
-        let end = at + fewer(chunk, input.len() - at);
+        let end = at + chunk.min(input.len() - at);
         taken = first_line::take_chunk(taken, &input[at..end], &mut sheet);
         at = end;
     }
@@ -25,14 +24,13 @@ fn show_chunks<W: Write>(out: &mut W, input: &[u8], chunk: usize)
 // One input; whether there was one.
 fn one<R: Read, W: Write>(source: &mut R, out: &mut W) -> bool {
     let mut space = [0u8; 65536];
-    let case = cases::read_case(source, 4, &mut space);
-    let size = case.size;
-    if case.found {
-        show_chunks(out, &space[..size], 1);
-        show_chunks(out, &space[..size], 7);
-        show_chunks(out, &space[..size], 65536);
-    }
-    case.found
+    let Some(case) = cases::read_case(source, 4, &mut space) else {
+        return false;
+    };
+    show_chunks(out, &space[..case.size], 1);
+    show_chunks(out, &space[..case.size], 7);
+    show_chunks(out, &space[..case.size], 65536);
+    true
 }
 
 fn main(rt: HostRuntime) {

@@ -1,9 +1,8 @@
 -- What is counted of a record whose bytes come in reads (reads, Chunks). That the reads named are those made, of the file with the path given, is what the loop
 -- of `read_chunks` and `count_file` do, and rests on no law.
-use Rattle.std.specs.Prelude.{ℕ, ◌≡◌, Bool, false, List}
+use Rattle.std.specs.Prelude.{ℕ, Bool, false, List}
 use Rattle.reads.specs.declared.ReadEnd.{ReadEnd}
 use Rattle.reads.specs.declared.ReadEnd.TheVariants.{Complete, Stopped, Incomplete}
-use Rattle.reads.specs.declared.ReadsSoFar.{ReadsSoFar}
 use Rattle.reads.specs.Chunks.{ReadsAll}
 use Rattle.tally.specs.declared.TallyStage.TheVariants.{Refused}
 use Rattle.tally.specs.declared.Tally.{Tally}
@@ -23,8 +22,6 @@ or_unread t Incomplete = tally_at false (Refused 13)
 -- The lines of the bytes that were read are counted to their end.
 pub record CountsFile (s : CountedSheet) (counts counts' : List ℕ) (r : FileCounts) : Type 0 where
   pub tally : Tally
-  pub progress : ReadsSoFar
   pub before : List ℕ
-  pub reads : ReadsAll (count_byte s) is_refused_counting (counting start_tally counts) (counting tally before) progress
-  pub same : r.ended ≡ progress.ended
+  pub reads : ReadsAll (count_byte s) is_refused_counting (counting start_tally counts) (counting tally before) r.ended
   pub finishes : FinishesTally s (or_unread tally r.ended) before counts' r.counted

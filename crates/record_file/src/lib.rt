@@ -7,7 +7,7 @@ ghost use Rattle.reads.specs.Chunks.{ReadsAll};
 ghost use Rattle.tally.specs.Machine.{counted_sheet, counting, start_tally, count_byte, is_refused_tally};
 ghost use Rattle.record_file.specs.Reads.{is_refused_counting, or_unread, CountsFile};
 
-use reads::{ReadEnd, ReadsSoFar};
+use reads::ReadEnd;
 use std::io::Read;
 use std::rt::Files;
 use tally::{LineCounts, Tally, TallyStage};
@@ -20,7 +20,7 @@ const READS: u64 = 140737488355329;
 #[derive(Clone, Copy)]
 struct ReadTally {
     tally: Tally,
-    progress: ReadsSoFar,
+    ended: ReadEnd,
 }
 
 // What is counted, and how the reading ended.
@@ -34,12 +34,7 @@ pub struct FileCounts {
 fn is_refused(tally: Tally) -> bool
     ensures { result ≡ is_refused_tally tally.stage }
 {
-    let stage = tally.stage;
-    match stage {
-        TallyStage::Names(_) => false,
-        TallyStage::Values(_, _) => false,
-        TallyStage::Refused(_) => true,
-    }
+    matches!(tally.stage, TallyStage::Refused(_))
 }
 
 // Reads the record chunk by chunk, and counts its lines, up to its end or to a line with a fault.
@@ -51,22 +46,20 @@ fn read_chunks<R: Read>(
     highs: &[i64],
     counts: &mut [u64],
 ) -> ReadTally
-    ensures { ReadsAll (count_byte (counted_sheet names.now lengths.now lows.now highs.now)) is_refused_counting (counting start_tally counts.old) (counting result.tally counts.new) result.progress }
+    ensures { ReadsAll (count_byte (counted_sheet names.now lengths.now lows.now highs.now)) is_refused_counting (counting start_tally counts.old) (counting result.tally counts.new) result.ended }
 {
     let mut chunk = [0u8; 65536];
     let mut left = READS;
     let mut tally = tally::begin();
-    let mut progress = reads::so_far(is_refused(tally), 1, left);
-    'chunks: while progress.more {
-        let answer = input::read_answer(source, &mut chunk);
+    let mut answer = 1;
+    'chunks: loop {
+        if let Some(ended) = reads::so_far(is_refused(tally), answer, left) {
+            return ReadTally { tally, ended };
+        }
+        answer = input::read_answer(source, &mut chunk);
         let size = io::count(answer, &chunk);
         tally = tally::count_chunk(tally, &chunk[..size], names, lengths, lows, highs, counts);
         left -= 1;
-        progress = reads::so_far(is_refused(tally), answer, left);
-    }
-    ReadTally {
-        tally: tally,
-        progress: progress,
     }
 }
 
@@ -75,8 +68,7 @@ fn or_unread(tally: Tally, ended: ReadEnd) -> Tally
     ensures { result ≡ or_unread tally ended }
 {
     match ended {
-        ReadEnd::Complete => tally,
-        ReadEnd::Stopped => tally,
+        ReadEnd::Complete | ReadEnd::Stopped => tally,
         ReadEnd::Incomplete => Tally {
             begun: false,
             stage: TallyStage::Refused(13),
@@ -99,13 +91,10 @@ pub fn count_file<F: Files>(
     let mut source = input::open_path(files, path);
     let read = read_chunks(&mut source, names, lengths, lows, highs, counts);
     drop(source);
-    let tally = read.tally;
-    let progress = read.progress;
-    let ended = progress.ended;
-    let last = or_unread(tally, ended);
+    let last = or_unread(read.tally, read.ended);
     let counted = tally::finish(last, names, lengths, lows, highs, counts);
     FileCounts {
-        counted: counted,
-        ended: ended,
+        counted,
+        ended: read.ended,
     }
 }

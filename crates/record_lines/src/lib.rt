@@ -39,18 +39,19 @@ pub fn run_names(
     ensures { RunsLine chunk.now from result.next × (result.names ≡ run_bytes (names_byte (name_in names.now lengths.now)) start (slice from result.next chunk.now)) }
 {
     let mut line = start;
-    let mut at = from;
-    while at < chunk.len() {
+    for at in from..chunk.len() {
         let byte = chunk[at];
-        if byte == 10 {
-            break;
+        if byte == b'\n' {
+            return NamesRun {
+                names: line,
+                next: at,
+            };
         }
         line = record_names::names_byte(line, byte, names, lengths);
-        at += 1;
     }
     NamesRun {
         names: line,
-        next: at,
+        next: from.max(chunk.len()),
     }
 }
 
@@ -65,18 +66,16 @@ pub fn run_values(
     ensures { RunsLine chunk.now from result.next × (result.line ≡ run_bytes (line_byte (described lows.now highs.now)) start (slice from result.next chunk.now)) }
 {
     let mut line = start;
-    let mut at = from;
-    while at < chunk.len() {
+    for at in from..chunk.len() {
         let byte = chunk[at];
-        if byte == 10 {
-            break;
+        if byte == b'\n' {
+            return ValuesRun { line, next: at };
         }
         line = records::line_byte(line, byte, lows, highs);
-        at += 1;
     }
     ValuesRun {
-        line: line,
-        next: at,
+        line,
+        next: from.max(chunk.len()),
     }
 }
 
@@ -84,8 +83,5 @@ pub fn run_values(
 pub fn one_more(number: u64) -> u64
     ensures { result ≡ one_more number }
 {
-    if number < 18446744073709551615 {
-        return number + 1;
-    }
-    18446744073709551615
+    number.saturating_add(1)
 }

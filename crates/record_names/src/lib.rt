@@ -7,8 +7,6 @@ ghost use Rattle.sheet.specs.Names.{name_in};
 ghost use Rattle.record_names.specs.Line.{is_plain};
 ghost use Rattle.record_names.specs.Machine.{next_count, is_byte_at, name_byte, name_end, names_start, names_byte, names_end};
 
-use basics::{both, either, fewer};
-
 // Whether the tokens are the names so far, how many have ended, and the place in the token that is begun.
 #[derive(Clone, Copy)]
 pub struct NameState {
@@ -29,44 +27,32 @@ pub struct NamesState {
 pub fn is_plain(byte: u8) -> bool
     ensures { result ≡ is_plain byte }
 {
-    if byte < 32 {
-        return false;
-    }
-    byte <= 126
+    matches!(byte, b' '..=b'~')
 }
 
 // One more, cut at 9: there are at most 8 streams, and 8 bytes in a name.
 pub fn next_count(count: usize) -> usize
     ensures { result ≡ next_count count }
 {
-    if count < 9 {
-        return count + 1;
-    }
-    9
+    count.min(8) + 1
 }
 
 // The name of stream `i`, where `names` holds eight bytes for each name; what there is of it.
 pub fn name_in<'a>(names: &'a [u8], lengths: &[u8], i: usize) -> &'a [u8]
     ensures { result.now ≡ name_in names.now lengths.now i }
 {
-    if names.len() / 8 < i {
-        return &names[0..0];
-    }
-    if lengths.len() <= i {
-        return &names[0..0];
+    if names.len() / 8 < i || lengths.len() <= i {
+        return &names[..0];
     }
     let start = i * 8;
-    let end = fewer(start + fewer(lengths[i] as usize, 8), names.len());
+    let end = (start + usize::from(lengths[i]).min(8)).min(names.len());
     &names[start..end]
 }
 
 fn is_byte_at(name: &[u8], place: usize, byte: u8) -> bool
     ensures { result ≡ is_byte_at name.now place byte }
 {
-    if name.len() <= place {
-        return false;
-    }
-    byte == name[place]
+    place < name.len() && byte == name[place]
 }
 
 fn name_byte(state: NameState, byte: u8, names: &[u8], lengths: &[u8]) -> NameState
@@ -74,19 +60,18 @@ fn name_byte(state: NameState, byte: u8, names: &[u8], lengths: &[u8]) -> NameSt
 {
     let name = name_in(names, lengths, state.count);
     NameState {
-        same: both(state.same, is_byte_at(name, state.place, byte)),
-        count: state.count,
+        same: state.same & is_byte_at(name, state.place, byte),
         place: next_count(state.place),
+        ..state
     }
 }
 
 fn name_end(state: NameState, names: &[u8], lengths: &[u8]) -> NameState
     ensures { result ≡ name_end (name_in names.now lengths.now) state }
 {
-    let place = state.place;
     let name = name_in(names, lengths, state.count);
     NameState {
-        same: both(state.same, place == name.len()),
+        same: state.same & (state.place == name.len()),
         count: next_count(state.count),
         place: 0,
     }
@@ -97,9 +82,10 @@ fn end_name(begun: bool, state: NameState, names: &[u8], lengths: &[u8]) -> Name
     ensures { result ≡ cond begun (name_end (name_in names.now lengths.now) state) state }
 {
     if begun {
-        return name_end(state, names, lengths);
+        name_end(state, names, lengths)
+    } else {
+        state
     }
-    state
 }
 
 pub fn names_start() -> NamesState
@@ -120,11 +106,11 @@ pub fn names_start() -> NamesState
 pub fn names_byte(line: NamesState, byte: u8, names: &[u8], lengths: &[u8]) -> NamesState
     ensures { result ≡ names_byte (name_in names.now lengths.now) line byte }
 {
-    let barred = either(line.barred, !is_plain(byte));
+    let barred = line.barred | !is_plain(byte);
     let state = line.names;
     if scan::is_inside(byte) {
         return NamesState {
-            barred: barred,
+            barred,
             begun: true,
             names: name_byte(state, byte, names, lengths),
         };
@@ -132,27 +118,23 @@ pub fn names_byte(line: NamesState, byte: u8, names: &[u8], lengths: &[u8]) -> N
     let ended = end_name(line.begun, state, names, lengths);
     if text::is_bracket(byte) {
         return NamesState {
-            barred: barred,
+            barred,
             begun: false,
             names: name_end(name_byte(ended, byte, names, lengths), names, lengths),
         };
     }
     NamesState {
-        barred: barred,
+        barred,
         begun: false,
         names: ended,
     }
 }
 
 // Whether the line that ends has the sheet's names, all of them, and no barred byte.
+#[tactic(auto, unfolding(crate::specs::Machine::names_end))]
 pub fn names_end(line: NamesState, names: &[u8], lengths: &[u8]) -> bool
     ensures { result ≡ names_end (name_in names.now lengths.now) (length lengths.now) line }
 {
-    let barred = line.barred;
-    let state = line.names;
-    let ended = end_name(line.begun, state, names, lengths);
-    let same = ended.same;
-    let count = ended.count;
-    let whole = both(same, count == lengths.len());
-    both(!barred, whole)
+    let ended = end_name(line.begun, line.names, names, lengths);
+    !line.barred && ended.same && ended.count == lengths.len()
 }

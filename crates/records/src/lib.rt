@@ -6,7 +6,6 @@ ghost use Rattle.std.specs.Prelude.{◌≡◌, cond, take, drop};
 ghost use Rattle.letters.specs.Described.{described};
 ghost use Rattle.records.specs.Machine.{next_number, value_byte, value_end, refused_end, end_of, values_end, line_start, line_byte, line_end};
 
-use basics::{both, either, fewer};
 use integer_bytes::Phase;
 
 // The token that is begun, how many tokens have ended, whether all of them are integers, and the number of the letter so far.
@@ -39,10 +38,9 @@ fn one_at(values: &[i64], at: usize) -> &[i64]
     ensures { result.now ≡ take 1 (drop at values.now) }
 {
     if values.len() <= at {
-        return &values[0..0];
+        return &values[..0];
     }
-    let end = at + 1;
-    &values[at..end]
+    &values[at..at + 1]
 }
 
 // The number of the letter with the value of one more stream; 1,024, which no letter has, once a value is outside its range.
@@ -52,8 +50,7 @@ fn next_number(number: u32, value: i64, lows: &[i64], highs: &[i64]) -> u32
     if 1024 <= number {
         return 1024;
     }
-    let letter = [value];
-    let digit = letters::letter_number(lows, highs, &letter);
+    let digit = letters::letter_number(lows, highs, &[value]);
     if 1024 <= digit {
         return 1024;
     }
@@ -63,29 +60,24 @@ fn next_number(number: u32, value: i64, lows: &[i64], highs: &[i64]) -> u32
 fn value_byte(values: ValuesState, byte: u8) -> ValuesState
     ensures { result ≡ value_byte values byte }
 {
-    let phase = values.phase;
-    let next = integer_bytes::next_phase(phase, byte);
     ValuesState {
-        phase: next,
+        phase: integer_bytes::next_phase(values.phase, byte),
         magnitude: integer_bytes::next_magnitude(values.magnitude, byte),
-        count: values.count,
-        integers: values.integers,
-        number: values.number,
+        ..values
     }
 }
 
 fn value_end(values: ValuesState, lows: &[i64], highs: &[i64]) -> ValuesState
     ensures { result ≡ value_end (described lows.now highs.now) values }
 {
-    let phase = values.phase;
-    let value = integer_bytes::signed(values.magnitude, integer_bytes::is_negative(phase));
+    let value = integer_bytes::signed(values.magnitude, integer_bytes::is_negative(values.phase));
     let low = one_at(lows, values.count);
     let high = one_at(highs, values.count);
     ValuesState {
         phase: Phase::Empty,
         magnitude: 0,
         count: record_names::next_count(values.count),
-        integers: both(values.integers, integer_bytes::ends_integer(phase)),
+        integers: values.integers & integer_bytes::ends_integer(values.phase),
         number: next_number(values.number, value, low, high),
     }
 }
@@ -95,9 +87,10 @@ fn end_value(begun: bool, values: ValuesState, lows: &[i64], highs: &[i64]) -> V
     ensures { result ≡ cond begun (value_end (described lows.now highs.now) values) values }
 {
     if begun {
-        return value_end(values, lows, highs);
+        value_end(values, lows, highs)
+    } else {
+        values
     }
-    values
 }
 
 pub fn line_start() -> LineState
@@ -129,10 +122,10 @@ pub fn line_byte(line: LineState, byte: u8, lows: &[i64], highs: &[i64]) -> Line
             values: value_byte(values, byte),
         };
     }
-    let barred = either(line.barred, !record_names::is_plain(byte));
+    let barred = line.barred | !record_names::is_plain(byte);
     if scan::is_inside(byte) {
         return LineState {
-            barred: barred,
+            barred,
             begun: true,
             values: value_byte(values, byte),
         };
@@ -140,13 +133,13 @@ pub fn line_byte(line: LineState, byte: u8, lows: &[i64], highs: &[i64]) -> Line
     let ended = end_value(line.begun, values, lows, highs);
     if text::is_bracket(byte) {
         return LineState {
-            barred: barred,
+            barred,
             begun: false,
             values: value_end(value_byte(ended, byte), lows, highs),
         };
     }
     LineState {
-        barred: barred,
+        barred,
         begun: false,
         values: ended,
     }
@@ -155,34 +148,22 @@ pub fn line_byte(line: LineState, byte: u8, lows: &[i64], highs: &[i64]) -> Line
 fn line_refusal(refusal: u32) -> LineEnd
     ensures { result ≡ refused_end refusal }
 {
-    LineEnd {
-        refusal: refusal,
-        letter: 0,
-    }
+    LineEnd { refusal, letter: 0 }
 }
 
 // What the values of a line come to, its tokens all ended: "in the order 13, 14".
 fn values_end(barred: bool, values: ValuesState, streams: usize) -> LineEnd
     ensures { result ≡ end_of (values_end streams barred values) }
 {
-    let integers = values.integers;
-    let count = values.count;
-    let number = values.number;
-    if barred {
+    if barred || !values.integers || values.count != streams {
         return line_refusal(13);
     }
-    if !integers {
-        return line_refusal(13);
-    }
-    if count != streams {
-        return line_refusal(13);
-    }
-    if 1024 <= number {
+    if 1024 <= values.number {
         return line_refusal(14);
     }
     LineEnd {
         refusal: 0,
-        letter: number,
+        letter: values.number,
     }
 }
 
@@ -190,7 +171,6 @@ fn values_end(barred: bool, values: ValuesState, streams: usize) -> LineEnd
 pub fn line_end(line: LineState, lows: &[i64], highs: &[i64]) -> LineEnd
     ensures { result ≡ line_end (described lows.now highs.now) line }
 {
-    let values = line.values;
-    let ended = end_value(line.begun, values, lows, highs);
-    values_end(line.barred, ended, fewer(lows.len(), highs.len()))
+    let ended = end_value(line.begun, line.values, lows, highs);
+    values_end(line.barred, ended, lows.len().min(highs.len()))
 }

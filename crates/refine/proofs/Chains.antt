@@ -2,6 +2,7 @@
 use mathlib.Core.Path.{◌≡◌, refl, sym, ap, ap₂, subst}
 use mathlib.Core.Logic.{◌⊎◌, inl, inr}
 use mathlib.Core.List.{List}
+use Rattle.std.proofs.Common.{None, Some}
 use Prim.Native.Nat.{ℕ, suc, ◌+◌, ◌-◌, ◌<◌, ◌≤◌}
 use native.Mathlib.Numerals.{add-one}
 use native.Mathlib.Omega.{arith}
@@ -71,20 +72,20 @@ module _ {links : List ℕ} {P : ℕ → Type 0} where
 
 -- what a search of the chain of bucket b finds for row s, where b is the row's bucket
 module _ (letters : ℕ) (entries class envelopes heads links : List ℕ) (s b : ℕ) (e : b ≡ row_bucket (length heads) letters entries class envelopes s) where
-  pub joins_found : (v : ℕ) → 0 < v → RowFound letters entries class links (get_or heads b 0) s v → Joins letters entries class envelopes heads links heads links s v
-  joins_found v h f = record {
-    some = h;
-    on_chain = subst (λ x. OnChain links (get_or heads x 0) (v - 1)) e (f.hit h).0;
-    same = (f.hit h).1;
+  pub joins_found : (r : ℕ) → RowFound letters entries class links (get_or heads b 0) s (Some r) → Joins letters entries class envelopes heads links heads links s (r + 1)
+  joins_found r f = let q : r + 1 - 1 ≡ r = omega arith in record {
+    some = omega arith;
+    on_chain = rw q (subst (λ x. OnChain links (get_or heads x 0) r) e f.1);
+    same = rw q f.2;
     heads_kept = refl;
     links_kept = refl;
   }
 
-  pub begins_missed : (v : ℕ) → v ≡ 0 → RowFound letters entries class links (get_or heads b 0) s v
+  pub begins_missed : RowFound letters entries class links (get_or heads b 0) s None
       → BeginsClass letters entries class envelopes heads links (set heads b (s + 1)) (set links s (get_or heads b 0)) s (s + 1)
-  begins_missed v z f = record {
+  begins_missed f = record {
     own = add-one s;
-    none = λ i d. f.miss z i (subst (λ x. OnChain links (get_or heads x 0) i) (sym e) d);
+    none = λ i d. f i (subst (λ x. OnChain links (get_or heads x 0) i) (sym e) d);
     heads_changed = ap₂ (set heads) e (add-one s);
     links_changed = ap (λ x. set links s (get_or heads x 0)) e;
   }

@@ -2,13 +2,15 @@
 -- is looked up in its bucket's chain, which holds every earlier row that begins a new class and is not alone in its old one.
 use mathlib.Core.Path.{◌≡◌, refl, sym, ap, subst, ◌∙◌}
 use mathlib.Core.Logic.{◌⊎◌, inl, inr, ◌≢◌}
-use mathlib.Core.Bool.{Bool, true, false}
+use mathlib.Core.Bool.{Bool, true, false, not, ◌||◌}
 use mathlib.Core.List.{List}
 use Prim.Native.Nat.{ℕ, suc, ◌+◌, ◌-◌, ◌<◌, ◌≤◌}
 use native.Mathlib.Nat.{mod-lt}
 use native.Mathlib.Omega.{arith}
 use native.Mathlib.Decide.{ℕ_discrete}
 use lib.ListN.{length, get_or, set, length-set}
+use lib.Dec.{eqb}
+use borrow.Author.Tests.{eqb-true, eqb-false}
 use lib.Seq.{get_or-set_same}
 use Rattle.marks.specs.Marks.{Marked}
 use Rattle.refine.specs.Signatures.{SameSignature, row_bucket}
@@ -85,15 +87,13 @@ module _ {letters : ℕ} {entries class envelopes shared next heads links : List
     first = below_set (λ s c. 0 < get_or class s 0 → IsFirst letters entries class s c) next n v inside I.split.first b;
   }
 
-  pub moved_same : (v : ℕ) → v ≡ get_or class n 0 → ClassesMoved changed class (set next n v) (n + 1)
-  moved_same v e = go changed I.moved
+  pub moved_next : (v : ℕ) → ClassesMoved (changed || not (eqb v (get_or class n 0))) class (set next n v) (n + 1)
+  moved_next v = go changed (eqb v (get_or class n 0)) I.moved (eqb-true v (get_or class n 0)) (eqb-false v (get_or class n 0))
     where
-      go : (b : Bool) → ClassesMoved b class next n → ClassesMoved b class (set next n v) (n + 1)
-      go true m = (m.0, omega (arith, m.1), λ q. m.2 (sym (set_other next n v m.0 (omega (arith, m.1))) ∙ q))
-      go false m = below_set (λ s c. c ≡ get_or class s 0) next n v inside m e
-
-  pub moved_new : (v : ℕ) → v ≢ get_or class n 0 → ClassesMoved true class (set next n v) (n + 1)
-  moved_new v ne = (n, omega arith, λ q. ne (sym (get_or-set_same next n v 0 inside) ∙ q))
+      go : (b e : Bool) → ClassesMoved b class next n → (e ≡ true → v ≡ get_or class n 0) → (e ≡ false → v ≢ get_or class n 0) → ClassesMoved (b || not e) class (set next n v) (n + 1)
+      go true e m f g = (m.0, omega (arith, m.1), λ q. m.2 (sym (set_other next n v m.0 (omega (arith, m.1))) ∙ q))
+      go false true m f g = below_set (λ s c. c ≡ get_or class s 0) next n v inside m (f refl)
+      go false false m f g = (n, omega arith, λ q. g refl (sym (get_or-set_same next n v 0 inside) ∙ q))
 
   kept_more : (v i : ℕ) → n + 1 ≤ i → get_or (set next n v) i 0 ≡ get_or shared i 0
   kept_more v i l = set_other next n v i (omega arith) ∙ I.kept i (omega arith)

@@ -1,7 +1,7 @@
 -- One round of splitting classes. The classes of the round before do not change while it goes through the rows: each row gets
 -- the first row with its signature. Rows that begin a new class stand in chains, one for each bucket: `heads` has one more than
 -- the row last put there, `links` one more than the row before it, 0 for none.
-use Rattle.std.specs.Prelude.{◌≡◌, ◌⊎◌, ◌≢◌, Bool, true, false, List, ℕ, suc, ◌-◌, ◌<◌, ◌≤◌, get_or, length, set}
+use Rattle.std.specs.Prelude.{Option, None, Some, ◌≡◌, ◌⊎◌, ◌≢◌, Bool, true, false, List, ℕ, suc, ◌-◌, ◌<◌, ◌≤◌, get_or, length, set}
 use Rattle.marks.specs.Marks.{Marked}
 use Rattle.refine.specs.Signatures.{SameSignature, row_bucket}
 
@@ -14,10 +14,10 @@ pub data OnChain (links : List ℕ) : ℕ → ℕ → Type 0 where
 abbrev pub Falling : List ℕ → Type 0
 Falling links = (r : ℕ) → get_or links r 0 ≤ r
 
--- v is one more than a row of the chain from `head` with the signature of row s, or 0 if there is none
-pub record RowFound (letters : ℕ) (entries class links : List ℕ) (head s v : ℕ) : Type 0 where
-  pub hit : 0 < v → OnChain links head (v - 1) × SameSignature letters entries class (v - 1) s
-  pub miss : v ≡ 0 → (i : ℕ) → OnChain links head i → ¬ SameSignature letters entries class i s
+-- a row of the chain from `head` with the signature of row s, which comes before row s; or none if there is no such row
+abbrev pub RowFound : (letters : ℕ) (entries class links : List ℕ) (head s : ℕ) → Option ℕ → Type 0
+RowFound letters entries class links head s None = (i : ℕ) → OnChain links head i → ¬ SameSignature letters entries class i s
+RowFound letters entries class links head s (Some r) = (r < s) × OnChain links head r × SameSignature letters entries class r s
 
 -- row s joins the new class that row v - 1 began
 pub record Joins (letters : ℕ) (entries class envelopes heads links heads' links' : List ℕ) (s v : ℕ) : Type 0 where

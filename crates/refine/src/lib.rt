@@ -12,7 +12,7 @@ ghost use Rattle.refine.specs.Steps.{ByFinals, Searchable, Splittable, IsSized, 
 
 use row_envelopes::envelope_of;
 
-// The name of a class: the name that it has, or `name` if it has none yet.
+// The name of a class: the name that it has, or `name` if it has none yet. None is 0 here, as in the table of the classes.
 fn first_of(old: u32, name: u32) -> u32
     ensures { (old ≡ 0 → result ≡ name) × ((old ≡ 0 → ⊥) → result ≡ old) }
 {
@@ -26,20 +26,16 @@ fn first_classes(live: &[u32], finals: &[u8], class: &mut [u32])
 {
     let mut pending = 0;
     let mut done = 0;
-    let mut row = 0;
-    while row < live.len() {
-        let at = row;
-        row += 1;
-        if live[at] == 1 {
-            if finals[at] == 1 {
-                done = first_of(done, row as u32);
-                class[at] = done;
-            } else {
-                pending = first_of(pending, row as u32);
-                class[at] = pending;
-            }
+    for (row, mark) in live.iter().enumerate() {
+        let name = row as u32 + 1;
+        if *mark != 1 {
+            class[row] = 0;
+        } else if finals[row] == 1 {
+            done = first_of(done, name);
+            class[row] = done;
         } else {
-            class[at] = 0;
+            pending = first_of(pending, name);
+            class[row] = pending;
         }
     }
 }
@@ -49,14 +45,10 @@ fn mark_shared(class: &[u32], shared: &mut [u32])
     requires { (length shared.old ≡ length class.now) × ((s : ℕ) → get_or class.now s 0 ≤ length class.now) }
     ensures { Sharing class.now shared.new (length class.now) }
 {
-    let mut row = 0;
-    while row < class.len() {
-        let c = class[row] as usize;
-        row += 1;
-        if c != 0 {
-            if c != row {
-                shared[c - 1] = 1;
-            }
+    for (row, c) in class.iter().enumerate() {
+        let first = *c as usize;
+        if first != 0 && first != row + 1 {
+            shared[first - 1] = 1;
         }
     }
 }
@@ -66,7 +58,7 @@ fn mix(h: u64, class: u32) -> u64
     requires { h < 4294967296 }
     ensures { result ≡ mixed h class }
 {
-    (h * 2654435761 + class as u64) % 4294967296
+    (h * 2654435761 + u64::from(class)) % 4294967296
 }
 
 // The hash of `first` and of the classes after `count` entries from `start` on.
@@ -75,10 +67,8 @@ fn hash_part(entries: &[u16], start: usize, count: usize, class: &[u32], first: 
     ensures { (result < 4294967296) × (result ≡ hash (class_after entries.now class.now start) first count) }
 {
     let mut h = first;
-    let mut a = 0;
-    while a < count {
-        h = mix(h, marks::number_at(class, entries[start + a]));
-        a += 1;
+    for entry in &entries[start..start + count] {
+        h = mix(h, marks::number_at(class, *entry));
     }
     h
 }
@@ -92,7 +82,13 @@ fn hash_row(entries: &[u16], letters: usize, class: &[u32], envelopes: &[u32], r
     let envelope = envelope_of(number, letters);
     let start = row * letters + envelope.begin;
     let count = envelope.end - envelope.begin;
-    hash_part(entries, start, count, class, mix(class[row] as u64, number))
+    hash_part(
+        entries,
+        start,
+        count,
+        class,
+        mix(u64::from(class[row]), number),
+    )
 }
 
 // The bucket of a hash.
@@ -108,12 +104,10 @@ fn same_part(entries: &[u16], count: usize, class: &[u32], p: usize, q: usize) -
     requires { (p + count ≤ length entries.now) × (q + count ≤ length entries.now) }
     ensures { Says result ((a : ℕ) → a < count → class_after entries.now class.now p a ≡ class_after entries.now class.now q a) }
 {
-    let mut a = 0;
-    while a < count {
+    for a in 0..count {
         if marks::number_at(class, entries[p + a]) != marks::number_at(class, entries[q + a]) {
             return false;
         }
-        a += 1;
     }
     true
 }
@@ -130,14 +124,10 @@ fn same_row(
     requires { (p < length class.now) × (q < length class.now) × (length class.now * letters ≤ length entries.now) × (length envelopes.now ≡ length class.now) × EnvelopedClasses letters entries.now class.now envelopes.now }
     ensures { Says result (SameSignature letters entries.now class.now p q) }
 {
-    if class[p] != class[q] {
+    if class[p] != class[q] || envelopes[p] != envelopes[q] {
         return false;
     }
-    let number = envelopes[q];
-    if envelopes[p] != number {
-        return false;
-    }
-    let envelope = envelope_of(number, letters);
+    let envelope = envelope_of(envelopes[q], letters);
     let from = envelope.begin;
     same_part(
         entries,
@@ -148,7 +138,7 @@ fn same_row(
     )
 }
 
-// One more than a row of the chain from `head` that has the signature of `row`, or 0.
+// A row of the chain from `head` that has the signature of `row`. `head` and each link are one more than a row, or 0 at the end of the chain.
 fn find(
     entries: &[u16],
     letters: usize,
@@ -157,19 +147,19 @@ fn find(
     links: &[u32],
     head: usize,
     row: usize,
-) -> usize
+) -> Option<usize>
     requires { Searchable letters entries.now class.now envelopes.now links.now head row }
-    ensures { (result ≤ row) × RowFound letters entries.now class.now links.now head row result }
+    ensures { RowFound letters entries.now class.now links.now head row result }
 {
     let mut j = head;
     while j != 0 {
         let other = j - 1;
         if same_row(entries, letters, class, envelopes, other, row) {
-            return j;
+            return Some(other);
         }
         j = links[other] as usize;
     }
-    0
+    None
 }
 
 // The new class of a row whose class has another row.
@@ -187,17 +177,9 @@ fn split_row(
 {
     let h = hash_row(entries, letters, class, envelopes, row);
     let b = bucket(h, heads.len());
-    let found = find(
-        entries,
-        letters,
-        class,
-        envelopes,
-        links,
-        heads[b] as usize,
-        row,
-    );
-    if found != 0 {
-        return found as u32;
+    let head = heads[b] as usize;
+    if let Some(first) = find(entries, letters, class, envelopes, links, head, row) {
+        return first as u32 + 1;
     }
     let name = row as u32 + 1;
     links[row] = heads[b];
@@ -220,13 +202,8 @@ fn next_class(
     ensures { Stays class.now mark heads.old links.old heads.new links.new row result ⊎ Splits letters entries.now class.now envelopes.now mark heads.old links.old heads.new links.new row result }
 {
     let old = class[row];
-    if old == 0 {
-        return 0;
-    }
-    if old == row as u32 + 1 {
-        if mark != 1 {
-            return old;
-        }
+    if old == 0 || (old == row as u32 + 1 && mark != 1) {
+        return old;
     }
     split_row(entries, letters, class, envelopes, row, heads, links)
 }
@@ -246,17 +223,12 @@ fn split_round(
     ensures { Round letters entries.now class.now next.new result × Falling links.new }
 {
     let mut changed = false;
-    let mut row = 0;
-    while row < class.len() {
+    for row in 0..class.len() {
         let c = next_class(
             entries, letters, class, envelopes, next[row], row, heads, links,
         );
         next[row] = c;
-        let old = class[row];
-        row += 1;
-        if c != old {
-            changed = true;
-        }
+        changed |= c != class[row];
     }
     changed
 }
@@ -274,9 +246,9 @@ fn round(
     requires { Rounds letters entries.now class.now envelopes.now next.old heads.old links.old }
     ensures { Round letters entries.now class.now next.new result × Falling links.new }
 {
-    basics::fill(next, 0);
+    next.fill(0);
     mark_shared(class, next);
-    basics::fill(heads, 0);
+    heads.fill(0);
     split_round(entries, letters, class, envelopes, next, heads, links)
 }
 
@@ -298,15 +270,10 @@ fn rounds(
     ensures { Refined letters entries.now live.now finals.now class.new }
 {
     first_classes(live, finals, class);
-    basics::fill(links, 0);
-    loop {
-        if !round(entries, letters, class, envelopes, next, heads, links) {
-            break;
-        }
-        if !round(entries, letters, next, envelopes, class, heads, links) {
-            break;
-        }
-    }
+    links.fill(0);
+    'rounds: while round(entries, letters, class, envelopes, next, heads, links)
+        && round(entries, letters, next, envelopes, class, heads, links)
+    {}
 }
 
 // Whether the final bytes have room for `rows` rows, and the other lists hold as many.
@@ -321,25 +288,12 @@ fn sizes_agree(
 ) -> bool
     ensures { Says result ((rows ≤ finals) × (class ≡ rows) × (next ≡ rows) × (heads ≡ rows) × (links ≡ rows) × (envelopes ≡ rows)) }
 {
-    if finals < rows {
-        return false;
-    }
-    if class != rows {
-        return false;
-    }
-    if next != rows {
-        return false;
-    }
-    if heads != rows {
-        return false;
-    }
-    if links != rows {
-        return false;
-    }
-    if envelopes != rows {
-        return false;
-    }
-    true
+    rows <= finals
+        && class == rows
+        && next == rows
+        && heads == rows
+        && links == rows
+        && envelopes == rows
 }
 
 // Gives each live row its class, 0 to each other row, and clears the work tables `next`, `heads`, `links` and `envelopes`, if the lists
@@ -358,30 +312,27 @@ pub fn refine(
 ) -> bool
     ensures { RefineOutcome letters entries.now live.now finals.now class.old next.old heads.old links.old envelopes.old result class.new next.new heads.new links.new envelopes.new }
 {
-    if live.len() > 65535 {
-        return false;
-    }
-    if !basics::rows_fit(live.len(), letters, entries.len()) {
-        return false;
-    }
-    if !sizes_agree(
-        live.len(),
-        finals.len(),
-        class.len(),
-        next.len(),
-        heads.len(),
-        links.len(),
-        envelopes.len(),
-    ) {
+    if live.len() > 65535
+        || !basics::rows_fit(live.len(), letters, entries.len())
+        || !sizes_agree(
+            live.len(),
+            finals.len(),
+            class.len(),
+            next.len(),
+            heads.len(),
+            links.len(),
+            envelopes.len(),
+        )
+    {
         return false;
     }
     row_envelopes::find_envelopes(entries, letters, live, envelopes);
     rounds(
         entries, letters, live, finals, envelopes, class, next, heads, links,
     );
-    basics::fill(next, 0);
-    basics::fill(heads, 0);
-    basics::fill(links, 0);
-    basics::fill(envelopes, 0);
+    next.fill(0);
+    heads.fill(0);
+    links.fill(0);
+    envelopes.fill(0);
     true
 }

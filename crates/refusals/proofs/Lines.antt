@@ -1,9 +1,11 @@
 -- What the lines found in a text say of refusals 1 and 2 and of the header. From the places of lines.
-use Prim.Native.Nat.{ℕ, suc, ◌+◌, ◌-◌, ◌≤◌, ◌<◌}
+use Prim.Native.Nat.{ℕ, zero, suc, ◌+◌, ◌≤◌, ◌<◌}
 use mathlib.Core.Path.{◌≡◌, refl, sym, ap, ap₂, subst, ◌∙◌}
 use mathlib.Core.Bool.{Bool, true, false, not, cond, ◌&&◌, ◌||◌, true≢false}
 use mathlib.Core.List.{List, [], ◌∷◌, ◌++◌, append-nil}
 use mathlib.Core.Option.{Option, some, none}
+use Rattle.std.proofs.Common.{IsTrue, ◌↔◌}
+use Rattle.std.specs.Result.{result_unwrap_or}
 use native.Mathlib.Omega.{arith}
 use native.Mathlib.Decide.{dec_le}
 use lib.Dec.{leb, ltb, eqb}
@@ -12,7 +14,7 @@ use lib.Seq.{drop-drop, get_or-drop}
 use lib.IntN.{ℤ, pos, negsuc}
 use borrow.Author.Tests.{lt-ltb, le-ltb, ltb-true, le-leb, lt-leb}
 use Rattle.text.proofs.Bytes.{tokens-length}
-use Rattle.text.specs.Bytes.{Token, between, bytes_of, lines, tokens}
+use Rattle.text.specs.Bytes.{Token, bytes_of, lines, tokens}
 use Rattle.text.specs.Token.{same_bytes, is_integer, integer_value}
 use Rattle.meaning.specs.Value.{equal, compares}
 use Rattle.meaning.specs.Expression.{StreamKind, read_kind, set_kind}
@@ -28,26 +30,36 @@ use Rattle.vocabulary.specs.Word.{code_or255}
 use Rattle.scan.specs.declared.Span.{Span}
 use Rattle.scan.specs.declared.LineSpan.{LineSpan}
 use Rattle.scan.proofs.Lines.{line-within}
-use Rattle.scan.proofs.Tokens.{between_none, between-length, between_split, drop_at, drop-end}
-use Rattle.scan.specs.Integer.{no_integer, integer_within, integer_read}
-use Rattle.scan.specs.declared.IntegerRead.{IntegerRead}
+use Rattle.scan.proofs.Tokens.{between_none, between-length, between_split, drop-end}
+use Rattle.scan.proofs.Integers.{within-some}
+use Rattle.scan.specs.Integer.{IntegerRead, no_integer, integer_within, integer_read}
 use Rattle.refusals.specs.declared.Release.{Release}
 use Rattle.refusals.specs.Places.{release_read, NamesLineFrom, behind_release, at_start, ReleaseOf, KindsLineAt, said, unsaid, said_tokens, HeaderOf, constraint_lines_refused}
 use Rattle.refusals.specs.declared.Header.{Header}
 
 -- ---- refusal 1
 
-pub allowed_step : (text : List ℕ) (i : ℕ) → i < length text → is_allowed (get_or text i 0) ≡ true
-    → any_of (λ b. not (is_allowed b)) (drop i text) ≡ any_of (λ b. not (is_allowed b)) (drop (i + 1) text)
-allowed_step text i h a =
-    ap (any_of (λ b. not (is_allowed b))) (drop_at text i h) ∙ ap (λ t. not t || any_of (λ b. not (is_allowed b)) (drop (i + 1) text)) a
+allowed-each : (text : List ℕ) → ((k : ℕ) → k < length text → is_allowed (get_or text k 0) ≡ true) → any_of (λ b. not (is_allowed b)) text ≡ false
+allowed-each [] h = refl
+allowed-each (b ∷ bs) h = ap₂ (λ t u. not t || u) (h 0 (omega arith)) (allowed-each bs (λ k l. h (suc k) (omega arith)))
 
-pub barred_here : (text : List ℕ) (i : ℕ) → i < length text → is_allowed (get_or text i 0) ≡ false → any_of (λ b. not (is_allowed b)) (drop i text) ≡ true
-barred_here text i h a =
-    ap (any_of (λ b. not (is_allowed b))) (drop_at text i h) ∙ ap (λ t. not t || any_of (λ b. not (is_allowed b)) (drop (i + 1) text)) a
+none-barred : (m n : Bool) → (not m || n) ≡ false → (m ≡ true) × (n ≡ false)
+none-barred true n e = (refl, e)
+none-barred false n e = absurd (true≢false e)
 
-pub allowed_end : (text : List ℕ) (i : ℕ) → length text ≤ i → any_of (λ b. not (is_allowed b)) (drop i text) ≡ false
-allowed_end text i h = ap (any_of (λ b. not (is_allowed b))) (drop_of_length-le text h)
+each-allowed : (text : List ℕ) → any_of (λ b. not (is_allowed b)) text ≡ false → (k : ℕ) → k < length text → is_allowed (get_or text k 0) ≡ true
+each-allowed [] e k h = absurd (omega arith)
+each-allowed (b ∷ bs) e zero h = (none-barred (is_allowed b) (any_of (λ c. not (is_allowed c)) bs) e).0
+each-allowed (b ∷ bs) e (suc k) h = each-allowed bs (none-barred (is_allowed b) (any_of (λ c. not (is_allowed c)) bs) e).1 k (omega arith)
+
+-- What is told of all bytes of a text.
+pub allowed_told : (text : List ℕ) (b : Bool) → (IsTrue b ↔ ((k : ℕ) → k < length text → is_allowed (get_or text k 0) ≡ true)) → any_of (λ b. not (is_allowed b)) text ≡ not b
+allowed_told text true e = allowed-each text (e.0 refl)
+allowed_told text false e = by (any_of (λ b. not (is_allowed b)) text) refl
+  where
+    by : (m : Bool) → any_of (λ b. not (is_allowed b)) text ≡ m → m ≡ true
+    by true p = refl
+    by false p = e.1 (each-allowed text p)
 
 pub refuses1-long : (text : List ℕ) → 16384 < length text → true ≡ refuses1 text
 unfolding refuses1
@@ -177,20 +189,20 @@ beyond-other : (z : ℤ) (k : ℕ) → k ≤ 1000000000 → is_beyond z ≡ true
 beyond-other (pos n) k l e = ap (λ b. b && leb k n) (lt-leb n k (omega (arith, ltb-true 1000000000 n e)))
 beyond-other (negsuc n) k l e = refl
 
-within_same : (z : ℤ) (k : ℕ) → 0 < k → k ≤ 1000000000 → compares equal (integer_within (is_beyond z) z).value (pos k) ≡ compares equal z (pos k)
+within_same : (z : ℤ) (k : ℕ) → 0 < k → k ≤ 1000000000 → compares equal (result_unwrap_or (integer_within (is_beyond z) z) (pos 0)) (pos k) ≡ compares equal z (pos k)
 within_same z k p l = by (is_beyond z) refl
   where
     zero-other : (k : ℕ) → 0 < k → compares equal (pos 0) (pos k) ≡ false
     zero-other k h = ap₂ ◌&&◌ (le-leb 0 k (omega arith)) (lt-leb k 0 h)
 
-    by : (b : Bool) → is_beyond z ≡ b → compares equal (integer_within b z).value (pos k) ≡ compares equal z (pos k)
+    by : (b : Bool) → is_beyond z ≡ b → compares equal (result_unwrap_or (integer_within b z) (pos 0)) (pos k) ≡ compares equal z (pos k)
     by true e = zero-other k p ∙ sym (beyond-other z k l e)
     by false e = refl
 
 -- A release line, from what is read of its number.
-record NumberSaid (ts : List Token) (r : IntegerRead) : Type 0 where
+record NumberSaid (ts : List Token) (v : ℤ) : Type 0 where
   says : says_release ts ≡ true
-  number : (k : ℕ) → 0 < k → k ≤ 1000000000 → compares equal r.value (pos k) ≡ compares equal (said_release ts) (pos k)
+  number : (k : ℕ) → 0 < k → k ≤ 1000000000 → compares equal v (pos k) ≡ compares equal (said_release ts) (pos k)
 
 said-integer : (ts : List Token) → says_release ts ≡ true → is_integer (get_or ts 1 []) ≡ true
 unfolding says_release
@@ -203,50 +215,46 @@ said-integer (w ∷ n ∷ []) e = by (same_bytes (bytes_of "release") w) e
     by false h = absurd (true≢false (sym h))
 said-integer (w ∷ n ∷ t ∷ ts) e = absurd (true≢false (sym e))
 
-number-found : (ts : List Token) {r : IntegerRead} → r ≡ release_read ts → r.ok ≡ true → NumberSaid ts r
+number-found : (ts : List Token) {r : IntegerRead} {v : ℤ} → r ≡ release_read ts → (r ≡ no_integer → ⊥) → v ≡ result_unwrap_or r (pos 0) → NumberSaid ts v
 unfolding release_read said_release integer_read
-number-found ts {r} e o = by (says_release ts) refl
+number-found ts {r} {v} e o f = by (says_release ts) refl
   where
     n : Token
     n = get_or ts 1 []
 
-    by : (b : Bool) → says_release ts ≡ b → NumberSaid ts r
+    by : (b : Bool) → says_release ts ≡ b → NumberSaid ts v
     by true h =
         let read : r ≡ integer_within (is_beyond (integer_value n)) (integer_value n) = e ∙ ap (λ b. cond b (integer_read n) no_integer) h ∙ ap (λ b. cond b (integer_within (is_beyond (integer_value n)) (integer_value n)) no_integer) (said-integer ts h) in
         record {
           says = h;
-          number = λ k p l. ap (λ x. compares equal x.value (pos k)) read ∙ within_same (integer_value n) k p l ∙ ap (λ b. compares equal (cond b (integer_value n) (pos 1)) (pos k)) (sym h);
+          number = λ k p l. ap (λ x. compares equal x (pos k)) (f ∙ ap (λ x. result_unwrap_or x (pos 0)) read) ∙ within_same (integer_value n) k p l ∙ ap (λ b. compares equal (cond b (integer_value n) (pos 1)) (pos k)) (sym h);
         }
-    by false h = absurd (true≢false (sym o ∙ ap (λ x. x.ok) e ∙ ap (λ b. (cond b (integer_read n) no_integer).ok) h))
+    by false h = absurd (o (e ∙ ap (λ b. cond b (integer_read n) no_integer) h))
 
-number-missing : (ts : List Token) {r : IntegerRead} → r ≡ release_read ts → r.ok ≡ false → says_release ts ≡ false
+number-missing : (ts : List Token) {r : IntegerRead} → r ≡ release_read ts → r ≡ no_integer → says_release ts ≡ false
 unfolding release_read integer_read
 number-missing ts {r} e o = by (says_release ts) refl
   where
     n : Token
     n = get_or ts 1 []
 
-    ok-within : (b : Bool) → (integer_within b (integer_value n)).ok ≡ true
-    ok-within true = refl
-    ok-within false = refl
-
     by : (b : Bool) → says_release ts ≡ b → says_release ts ≡ false
     by true h =
         let read = e ∙ ap (λ b. cond b (integer_read n) no_integer) h ∙ ap (λ b. cond b (integer_within (is_beyond (integer_value n)) (integer_value n)) no_integer) (said-integer ts h) in
-        absurd (true≢false (sym (ok-within (is_beyond (integer_value n))) ∙ sym (ap (λ x. x.ok) read) ∙ o))
+        absurd (within-some (is_beyond (integer_value n)) (integer_value n) (sym read ∙ o))
     by false h = h
 
 module _ {text : List ℕ} {l : LineSpan} (line : LineAt text 0 l) {r : IntegerRead} (read : r ≡ release_read (tokens (place.between text 0 l.end))) where
   first_read : r ≡ release_read (first_tokens text)
   first_read = read ∙ ap release_read (first-bytes line)
 
-  pub release-said : r.ok ≡ true → {a b : Bool} → a ≡ compares equal r.value (pos 2) → b ≡ compares equal r.value (pos 1) || a → ReleaseOf text (record { known = b; floors = a; names_start = l.next })
-  release-said o {a} {b} p q =
-      let n = number-found (first_tokens text) first_read o in
+  pub release-said : (r ≡ no_integer → ⊥) → {v : ℤ} → v ≡ result_unwrap_or r (pos 0) → {a b : Bool} → a ≡ compares equal v (pos 2) → b ≡ compares equal v (pos 1) || a → ReleaseOf text (record { known = b; floors = a; names_start = l.next })
+  release-said o f {a} {b} p q =
+      let n = number-found (first_tokens text) first_read o f in
       let floors = p ∙ n.number 2 (omega arith) (omega arith) in
       record { known = q ∙ ap₂ ◌||◌ (n.number 1 (omega arith) (omega arith)) floors; floors = floors; names = behind_release line n.says refl }
 
-  pub release-unsaid : r.ok ≡ false → ReleaseOf text (record { known = true; floors = false; names_start = 0 })
+  pub release-unsaid : r ≡ no_integer → ReleaseOf text (record { known = true; floors = false; names_start = 0 })
   unfolding said_release
   release-unsaid o =
       let none = number-missing (first_tokens text) first_read o in

@@ -1,14 +1,13 @@
 -- Where the header lines of a sheet stand in its bytes, what the release line says, and what is refused of the constraint lines (document 01, "The
 -- sheet"; document 02, S-6, S-11).
-use Rattle.std.specs.Prelude.{ℕ, ◌≤◌, ◌≡◌, Bool, true, false, cond, ◌&&◌, ◌||◌, List, [], ◌∷◌, leb, ltb, length, drop, get_or}
+use Rattle.std.specs.Prelude.{ℕ, ◌≤◌, ◌≡◌, Bool, true, false, cond, ◌||◌, List, [], ◌∷◌, ltb, length, drop, get_or}
 use Rattle.std.proofs.Math.Option.{Option, some, none}
 use Rattle.sheet.specs.Release.{says_release, is_known_release, floors_quotients}
 use Rattle.sheet.specs.Form.{first_tokens, release_in, lines_from_names, says_kinds, kind_tokens, constraint_lines, layout_in}
 use Rattle.text.specs.Bytes.{Token, lines, tokens}
 use Rattle.sheet.specs.Refusal.{constraint_bound, token_bound, token_count}
 use Rattle.sheet.specs.Reading.{any_of, too_deep_from, has_header}
-use Rattle.scan.specs.Integer.{no_integer, integer_read}
-use Rattle.scan.specs.declared.IntegerRead.{IntegerRead}
+use Rattle.scan.specs.Integer.{IntegerRead, no_integer, integer_read}
 use Rattle.refusals.specs.declared.Release.{Release}
 use Rattle.scan.specs.Place.{between, LineAt}
 use Rattle.scan.specs.declared.LineSpan.{LineSpan}

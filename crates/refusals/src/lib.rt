@@ -10,7 +10,7 @@ ghost use Rattle.sheet.specs.Reading.{refuses1, refuses2};
 ghost use Rattle.refusals.specs.Names.{names_refused};
 ghost use Rattle.refusals.specs.Places.{release_read, ReleaseOf, KindsLineAt, HeaderOf, constraint_lines_refused};
 
-use basics::{both, either};
+use scan::{IntegerError, Span};
 
 // Where the three header lines and the line of kinds stand and the constraint lines begin, whether quotients are rounded down, and whether the
 // release is known and there are three header lines.
@@ -37,80 +37,57 @@ struct Release {
     names_start: usize,
 }
 
+// The release whose quotients are cut towards zero.
+const FIRST_RELEASE: i64 = 1;
+
+// The most constraint lines that a sheet has.
+const MOST_LINES: usize = 32;
+
 // "10 and 32 to 126"
 fn is_allowed(byte: u8) -> bool
     ensures { result ≡ is_allowed byte }
 {
-    if byte == 10 {
-        return true;
-    }
-    if byte < 32 {
-        return false;
-    }
-    byte <= 126
+    matches!(byte, b'\n' | b' '..=b'~')
 }
 
 // "1: too many bytes, or a byte other than 10 and 32 to 126."
 pub fn bytes_refused(text: &[u8]) -> bool
     ensures { result ≡ refuses1 text.now }
 {
-    if 16384 < text.len() {
-        return true;
-    }
-    let mut i = 0;
-    while i < text.len() {
-        if !is_allowed(text[i]) {
-            return true;
-        }
-        i += 1;
-    }
-    false
+    16384 < text.len() || !text.iter().all(|byte| is_allowed(*byte))
 }
 
 // The number of the release that a line says: "Only a first line of `release` and one integer is such a line".
-fn release_number(line: &[u8]) -> scan::IntegerRead
+fn release_number(line: &[u8]) -> Result<i64, IntegerError>
     ensures { result ≡ release_read (tokens line.now) }
 {
-    let nothing = scan::IntegerRead {
-        ok: false,
-        beyond: false,
-        value: 0,
-    };
     let word = scan::next_token(line, 0);
-    let start = word.start;
-    let end = word.end;
-    if !vocabulary::is_release(&line[start..end]) {
-        return nothing;
+    if !vocabulary::is_release(&line[word.start..word.end]) || scan::token_count(line) != 2 {
+        return Err(IntegerError::NoInteger);
     }
-    if scan::token_count(line) != 2 {
-        return nothing;
-    }
-    let number = scan::next_token(line, end);
-    let number_start = number.start;
-    let number_end = number.end;
-    scan::read_integer(&line[number_start..number_end])
+    let number = scan::next_token(line, word.end);
+    scan::read_integer(&line[number.start..number.end])
 }
 
-// The release of a text, by its first line.
+// The release of a text, by its first line. A number beyond the bound counts as 0, which is no release.
 fn release_of(text: &[u8]) -> Release
     ensures { ReleaseOf text.now result }
 {
     let line = scan::next_line(text, 0);
-    let end = line.end;
-    let said = release_number(&text[0..end]);
-    if said.ok {
-        let number = said.value;
-        let floors = arithmetic::same(number, 2);
+    let said = release_number(&text[0..line.end]);
+    if said == Err(IntegerError::NoInteger) {
         return Release {
-            known: either(arithmetic::same(number, 1), floors),
-            floors: floors,
-            names_start: line.next,
+            known: true,
+            floors: false,
+            names_start: 0,
         };
     }
+    let number = said.unwrap_or(0);
+    let floors = number == 2;
     Release {
-        known: true,
-        floors: false,
-        names_start: 0,
+        known: number == FIRST_RELEASE || floors,
+        floors,
+        names_start: line.next,
     }
 }
 
@@ -118,9 +95,7 @@ fn release_of(text: &[u8]) -> Release
 fn says_kinds(line: &[u8]) -> bool
     ensures { result ≡ says_kinds (tokens line.now) }
 {
-    let token = scan::next_token(line, 0);
-    let start = token.start;
-    let end = token.end;
+    let Span { start, end } = scan::next_token(line, 0);
     vocabulary::stream_kind_code(&line[start..end]) != nodes::NO_CODE
 }
 
@@ -151,17 +126,17 @@ pub fn header_of(text: &[u8]) -> Header
     let kinds_start = highs.next;
     let kinds = kinds_line(text, kinds_start);
     Header {
-        names_start: names_start,
+        names_start,
         names_end: names.end,
-        lows_start: lows_start,
+        lows_start,
         lows_end: lows.end,
-        highs_start: highs_start,
+        highs_start,
         highs_end: highs.end,
-        kinds_start: kinds_start,
+        kinds_start,
         kinds_end: kinds.end,
         constraints: kinds.next,
         floors: release.floors,
-        whole: both(release.known, highs_start < text.len()),
+        whole: release.known && highs_start < text.len(),
     }
 }
 
@@ -182,10 +157,7 @@ fn constraint_lines_refused(text: &[u8]) -> bool
         tokens += scan::token_count(&text[at..end]);
         at = line.next;
     }
-    if 32 < count {
-        return true;
-    }
-    1024 < tokens
+    MOST_LINES < count || 1024 < tokens
 }
 
 // "2: over 8 tokens in line 1, 32 lines after line 3, 1,024 tokens in them, or, up to some place in one of them, more than 32 more `(` than `)`."
@@ -194,13 +166,8 @@ pub fn lines_refused(text: &[u8]) -> bool
     ensures { result ≡ refuses2 text.now }
 {
     let header = header_of(text);
-    let names_start = header.names_start;
-    let names_end = header.names_end;
-    if 8 < scan::token_count(&text[names_start..names_end]) {
-        return true;
-    }
-    let from = header.constraints;
-    constraint_lines_refused(&text[from..])
+    8 < scan::token_count(&text[header.names_start..header.names_end])
+        || constraint_lines_refused(&text[header.constraints..])
 }
 
 // Whether the token is one of the line's.
@@ -216,17 +183,12 @@ pub fn names_refused(line: &[u8]) -> bool
 {
     let mut at = 0;
     loop {
-        let token = scan::next_token(line, at);
-        let start = token.start;
-        let end = token.end;
+        let Span { start, end } = scan::next_token(line, at);
         if start == end {
             return false;
         }
         let name = &line[start..end];
-        if vocabulary::is_reserved(name) {
-            return true;
-        }
-        if stands_in(&line[end..], name) {
+        if vocabulary::is_reserved(name) || stands_in(&line[end..], name) {
             return true;
         }
         at = end;

@@ -3,8 +3,8 @@
 // fails, the lines printed remain, and a barred byte stands for what was not read. Failed reads and writes are told on standard error.
 #![tactic(auto)]
 
-use basics::fewer;
 use opening::OpenedTable;
+use reader::StoredSheet;
 use replaying::{Replay, Stage};
 use std::env::Env;
 use std::io::{Read, Write};
@@ -21,28 +21,6 @@ struct Played {
     failed: bool,
 }
 
-fn tell(rt: &impl Eprint, failed: bool, message: &str) {
-    if failed {
-        let _ = rt.eprint(message);
-    }
-}
-
-// Opens the file that an argument names. A missing argument names none, nor does one that is longer than a path.
-fn open_file<R: Env + Files>(rt: &R, place: usize) -> Option<R::File> {
-    let mut path = [0u8; 4096];
-    let argument = input::take_argument(rt, place, &mut path);
-    input::open_path(rt, &path[..argument.size])
-}
-
-fn has_ended(replay: Replay) -> bool {
-    let stage = replay.stage;
-    match stage {
-        Stage::Names => false,
-        Stage::Values => false,
-        Stage::Ended => true,
-    }
-}
-
 // Ends the record, and writes what its end prints; whether all was written.
 fn write_end<W: Write>(
     out: &mut W,
@@ -55,8 +33,7 @@ fn write_end<W: Write>(
 ) -> bool {
     let mut line = [0u8; 32];
     let size = replaying::finish(replay, names, lengths, lows, highs, entries, &mut line);
-    let written = output::write_front(out, &line, size);
-    written.whole
+    output::write_front(out, &line, size).whole
 }
 
 // Ends the record, behind a barred byte where it was not read whole.
@@ -116,7 +93,7 @@ fn play<R: Read, W: Write>(
             &mut page,
         );
         playing = written.replay;
-        if has_ended(playing) | !written.whole {
+        if playing.stage == Stage::Ended || !written.whole {
             return Played {
                 whole: written.whole,
                 failed: false,
@@ -124,83 +101,88 @@ fn play<R: Read, W: Write>(
         }
         left -= 1;
     }
-    let cut = failed & (left < READS);
+    let cut = failed && left < READS;
     Played {
         whole: end_record(out, playing, cut, names, lengths, lows, highs, entries),
-        failed: failed,
+        failed,
     }
 }
 
-// Plays the record that the second argument names; whether all was written.
-fn play_file<R: Env + Files + Eprint, W: Write>(
+// Plays the record that the second argument names.
+fn play_file<R: Env + Files, W: Write>(
     rt: &R,
     out: &mut W,
-    sheet: reader::StoredSheet,
+    sheet: StoredSheet,
     state: u32,
     entries: &[u16],
-) -> bool {
-    let names = sheet.names;
-    let lengths = sheet.lengths;
-    let lows = sheet.lows;
-    let highs = sheet.highs;
-    let streams = fewer(sheet.streams, 8);
-    let mut source = open_file(rt, 2);
-    let played = play(
+) -> Played {
+    let streams = sheet.streams.min(8);
+    let mut source = input::open_argument(rt, 2);
+    play(
         &mut source,
         out,
         state,
-        &names,
-        &lengths[..streams],
-        &lows[..streams],
-        &highs[..streams],
+        &sheet.names,
+        &sheet.lengths[..streams],
+        &sheet.lows[..streams],
+        &sheet.highs[..streams],
         entries,
-    );
-    drop(source);
-    tell(rt, played.failed, "replay: the record cannot be read\n");
-    played.whole
+    )
 }
 
 // Writes the line of a refusal; whether all was written.
 fn write_refusal<W: Write>(out: &mut W, refusal: u32) -> bool {
     let mut line = [0u8; 32];
     let size = print::refusal_line(refusal, &mut line);
-    let written = output::write_front(out, &line, size);
-    written.whole
+    output::write_front(out, &line, size).whole
 }
 
-// Writes the refusal of the sheet or the start, or plays the record; whether all was written.
-fn answer<R: Env + Files + Eprint, W: Write>(
+// Writes the refusal of the sheet or the start, or plays the record.
+fn answer<R: Env + Files, W: Write>(
     rt: &R,
     out: &mut W,
     table: OpenedTable,
     entries: &[u16; 32768],
-) -> bool {
-    let refusal = table.refusal;
-    if refusal != 0 {
-        return write_refusal(out, refusal);
+) -> Played {
+    if table.refusal != 0 {
+        return Played {
+            whole: write_refusal(out, table.refusal),
+            failed: false,
+        };
     }
-    let sheet = table.sheet;
-    play_file(rt, out, sheet, table.state, entries)
+    play_file(rt, out, table.sheet, table.state, entries)
 }
 
 fn main(rt: HostRuntime) {
     let mut text = [0u8; 16385];
-    let mut source = open_file(&rt, 1);
+    let mut source = input::open_argument(&rt, 1);
     let input = input::read_input(&mut source, &mut text);
     drop(source);
-    tell(&rt, input.failed, "replay: the sheet cannot be read\n");
-    let size = input.size;
+    output::tell(
+        &mut rt.stderr(),
+        input.failed,
+        "replay: the sheet cannot be read\n",
+    );
     let mut start = [0u8; 4096];
     let argument = input::take_argument(&rt, 3, &mut start);
     let mut entries = [0u16; 32768];
     let mut finals = [0u8; 256];
     let table = opening::open_table(
-        &text[..size],
-        argument.given,
-        &start[..argument.size],
+        &text[..input.size],
+        argument.is_some(),
+        &start[..argument.unwrap_or(0)],
         &mut entries,
         &mut finals,
     );
-    let whole = answer(&rt, &mut rt.stdout(), table, &entries);
-    tell(&rt, !whole, "replay: the states cannot be written\n");
+    let played = answer(&rt, &mut rt.stdout(), table, &entries);
+    output::tell(
+        &mut rt.stderr(),
+        played.failed,
+        "replay: the record cannot be read\n",
+    );
+    output::tell(
+        &mut rt.stderr(),
+        !played.whole,
+        "replay: the states cannot be written\n",
+    );
 }

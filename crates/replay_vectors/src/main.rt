@@ -5,7 +5,6 @@
 
 ghost use Rattle.std.specs.Prelude.{◌<◌};
 
-use basics::fewer;
 use opening::OpenedTable;
 use replaying::Replay;
 use std::io::{Read, Write};
@@ -42,7 +41,7 @@ fn play_chunks<W: Write>(
     let mut playing = replaying::begin(state);
     let mut at = 0;
     while at < record.len() {
-        let end = at + fewer(chunk, record.len() - at);
+        let end = at + chunk.min(record.len() - at);
         let written = playback::write_chunk(
             out,
             playing,
@@ -85,7 +84,7 @@ fn answer<W: Write>(
     let lengths = sheet.lengths;
     let lows = sheet.lows;
     let highs = sheet.highs;
-    let streams = fewer(sheet.streams, 8);
+    let streams = sheet.streams.min(8);
     play_chunks(
         out,
         table.state,
@@ -101,8 +100,8 @@ fn answer<W: Write>(
 
 // One case, the sheet, the record and the start given by the places where they end.
 fn play_case<W: Write>(out: &mut W, bytes: &[u8], text_end: usize, record_end: usize, given: bool) {
-    let end = fewer(record_end, bytes.len());
-    let start = fewer(text_end, end);
+    let end = record_end.min(bytes.len());
+    let start = text_end.min(end);
     let mut entries = [0u16; 32768];
     let mut finals = [0u8; 256];
     let table = opening::open_table(

@@ -12,7 +12,7 @@ use record_names::NamesState;
 use records::LineState;
 
 // What is read next: the line of names, a line of values, or nothing, behind a refusal.
-#[derive(Clone, Copy)]
+#[derive(Clone, Copy, PartialEq, Eq)]
 pub enum Stage {
     Names,
     Values,

@@ -1,12 +1,12 @@
 -- Laws of envelopes: an envelope is that of one set of letters only; what a stored envelope's number stands for; where rows with the same live successors have one
 -- number.
 use mathlib.Core.Path.{◌≡◌, sym, ◌∙◌}
-use Prim.Native.Nat.{ℕ, ◌+◌, ◌*◌, ◌/◌, ◌%◌, ◌-◌, ◌<◌, ◌≤◌}
+use Prim.Native.Nat.{ℕ, ◌+◌, ◌*◌, ◌-◌, ◌<◌, ◌≤◌}
 use native.Mathlib.Omega.{arith}
 use native.Mathlib.Decide.{dec_le}
 use borrow.Author.Tests.{le-leb, lt-leb}
 use Rattle.basics.proofs.Lists.{row_fits}
-use Rattle.row_envelopes.specs.Envelopes.{IsBegin, IsEnd, IsEnvelope, StoredEnvelope, envelope_begin, envelope_end}
+use Rattle.row_envelopes.specs.Envelopes.{IsEnvelope, StoredEnvelope, envelope_begin, envelope_end}
 
 module _ {P Q : ℕ → Type 0} {letters b c d e : ℕ} (I : IsEnvelope P letters b d) (J : IsEnvelope Q letters c e) (to : (a : ℕ) → a < letters → P a → Q a) (from : (a : ℕ) → a < letters → Q a → P a) where
   begin_once : b ≡ c
@@ -49,13 +49,6 @@ module _ {P : ℕ → Type 0} {letters number : ℕ} (I : StoredEnvelope P lette
     | yes l ↦ (I.narrow l).ends.after a (omega (arith, (rw (le-leb letters 65535 l) at h))) k
     | no l ↦ absurd (omega (arith, (rw (lt-leb letters 65535 (omega arith)) at h)))
   ]
-
--- begin and end are found again in the number, since the end is below 65,536
-pub envelope_stored : {P : ℕ → Type 0} {letters b e : ℕ} → letters ≤ 65535 → IsBegin P letters b → IsEnd P letters b e → StoredEnvelope P letters (b * 65536 + e)
-envelope_stored {P} {letters} {b} {e} h I J =
-    let q : (b * 65536 + e) / 65536 ≡ b = omega (arith, J.within) in
-    let r : (b * 65536 + e) % 65536 ≡ e = omega (arith, J.within) in
-    record { narrow = λ l. rw (q, r) (record { begins = I; ends = J }); wide = λ l. absurd (omega arith) }
 
 -- the part of a row that a number's envelope is lies within the entries of the rows
 pub envelope_fits : (row rows letters room number : ℕ) → row < rows → rows * letters ≤ room

@@ -7,7 +7,6 @@ ghost use Rattle.basics.specs.Answers.{Says};
 ghost use Rattle.marks.specs.Marks.{Marked};
 ghost use Rattle.row_envelopes.specs.Envelopes.{IsBegin, IsEnd, envelope_begin, envelope_end, StoredEnvelope, Enveloped, EnvelopesFit, EnvelopesOutcome};
 
-use basics::fewer;
 use marks::number_at;
 
 // The first letter of an envelope, and the one after the last.
@@ -28,11 +27,9 @@ pub fn envelope_of(number: u32, letters: usize) -> Envelope
             end: letters,
         };
     }
-    let end = fewer((number % 65536) as usize, letters);
-    Envelope {
-        begin: fewer((number / 65536) as usize, end),
-        end: end,
-    }
+    let end = letters.min((number % 65536) as usize);
+    let begin = end.min((number / 65536) as usize);
+    Envelope { begin, end }
 }
 
 // The first of the letters whose entry, from `start` on, names a live row, or their number.
@@ -40,14 +37,12 @@ fn find_begin(entries: &[u16], start: usize, letters: usize, live: &[u32]) -> us
     requires { start + letters ≤ length entries.now }
     ensures { IsBegin (λ a. Marked live.now (get_or entries.now (start + a) 0)) letters result }
 {
-    let mut a = 0;
-    while a < letters {
+    for a in 0..letters {
         if number_at(live, entries[start + a]) == 1 {
             return a;
         }
-        a += 1;
     }
-    a
+    letters
 }
 
 // One more than the last of the letters from `begin` on whose entry names a live row, or `begin`.
@@ -55,15 +50,12 @@ fn find_end(entries: &[u16], start: usize, begin: usize, letters: usize, live: &
     requires { (begin ≤ letters) × (start + letters ≤ length entries.now) }
     ensures { IsEnd (λ a. Marked live.now (get_or entries.now (start + a) 0)) letters begin result }
 {
-    let mut a = letters;
-    while a > begin {
-        let last = a - 1;
+    for last in (begin..letters).rev() {
         if number_at(live, entries[start + last]) == 1 {
-            return a;
+            return last + 1;
         }
-        a = last;
     }
-    a
+    begin
 }
 
 // The number of a row's envelope.
@@ -84,10 +76,8 @@ fn store_envelopes(entries: &[u16], letters: usize, live: &[u32], envelopes: &mu
     requires { EnvelopesFit letters entries.now live.now envelopes.old }
     ensures { Enveloped letters entries.now live.now envelopes.new (length live.now) }
 {
-    let mut row = 0;
-    while row < live.len() {
-        envelopes[row] = row_envelope(entries, row * letters, letters, live);
-        row += 1;
+    for (row, envelope) in envelopes.iter_mut().enumerate() {
+        *envelope = row_envelope(entries, row * letters, letters, live);
     }
 }
 
@@ -95,10 +85,7 @@ fn store_envelopes(entries: &[u16], letters: usize, live: &[u32], envelopes: &mu
 fn has_room(rows: usize, letters: usize, entries: usize, envelopes: usize) -> bool
     ensures { Says result ((rows * letters ≤ entries) × (envelopes ≡ rows)) }
 {
-    if envelopes != rows {
-        return false;
-    }
-    basics::rows_fit(rows, letters, entries)
+    envelopes == rows && basics::rows_fit(rows, letters, entries)
 }
 
 // Stores the envelope of each row. If the rows are more than the entries have, or there are not as many envelopes, nothing changes.

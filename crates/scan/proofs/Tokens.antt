@@ -2,7 +2,7 @@
 -- token. From the laws of tokens.
 use Prim.Native.Nat.{ℕ, suc, ◌+◌, ◌-◌, ◌≤◌, ◌<◌}
 use mathlib.Core.Path.{◌≡◌, refl, sym, ap, ◌∙◌}
-use mathlib.Core.Bool.{Bool, true, false}
+use mathlib.Core.Bool.{Bool, true, false, true≢false, ◌||◌}
 use mathlib.Core.List.{List, [], ◌∷◌, ◌++◌}
 use native.Mathlib.Omega.{arith}
 use native.Mathlib.Numerals.{add-one}
@@ -14,6 +14,7 @@ use Rattle.text.specs.Bytes.{is_bracket, is_inside, tokens}
 use Rattle.text.specs.Token.{all_bytes}
 use Rattle.text.proofs.Bytes.{a_bracket, a_between, tokens-between, tokens_bracket, tokens-run}
 use Rattle.scan.specs.declared.Span.{Span}
+use Rattle.scan.specs.Start.{is_visible}
 use Rattle.scan.specs.Place.{between, TokenAt, no_token, a_token, Skipped, RunEnd}
 
 -- The bytes from a place on are those up to a later place and those from there on.
@@ -75,6 +76,17 @@ module _ (l : List ℕ) (i : ℕ) (h : i < length l) where
       ap tokens (between_split l i e (omega arith) ∙ ap (λ w. w ++ drop e l) word)
       ∙ tokens-run (get_or l i 0) (between l (i + 1) e) (drop e l) (and_both (is_inside (get_or l i 0)) (all_bytes is_inside (between l (i + 1) e)) t r.inside) r.ended
       ∙ ap (λ w. w ∷ tokens (drop e l)) (sym word)
+
+-- A byte of a token is a bracket or stands inside a run, and another is neither.
+pub visible_inside : (b : ℕ) → is_visible b ≡ true → is_bracket b ≡ false → T (is_inside b)
+visible_inside b v n = rw (sym (ap (λ m. m || is_inside b) n) ∙ v) tt
+
+pub between-neither : (b : ℕ) → is_visible b ≡ false → (is_bracket b ≡ false) × (is_inside b ≡ false)
+between-neither b = by (is_bracket b) (is_inside b)
+  where
+    by : (m n : Bool) → (m || n) ≡ false → (m ≡ false) × (n ≡ false)
+    by true n e = absurd (true≢false e)
+    by false n e = (refl, e)
 
 -- What a search for the next token gives.
 module _ (text : List ℕ) (at s : ℕ) (k : Skipped text at s) where

@@ -1,22 +1,20 @@
 -- What `show_input` prints for the bytes that reads of the input gave. From what is kept of an input (first_line, Input), the reads one after the other (reads,
 -- Chunks) and the one outcome (Prints).
-use Prim.Native.Nat.{ℕ, suc, ◌≤◌, ◌<◌}
+use Prim.Native.Nat.{ℕ, ◌≤◌, ◌<◌}
 use native.Mathlib.Omega.{arith}
-use mathlib.Core.Path.{◌≡◌, refl, sym, ◌∙◌, ap, subst, transport}
-use mathlib.Core.Logic.{◌⊎◌, inl, inr}
+use mathlib.Core.Path.{◌≡◌, refl, sym, subst, transport}
+use mathlib.Core.Logic.{inl, inr}
 use mathlib.Core.Bool.{Bool, true, false, cond}
 use mathlib.Core.List.{List, [], ◌∷◌, ◌++◌}
 use mathlib.Core.Option.{Option, none, some}
 use lib.Dec.{eqb}
-use lib.IntN.{pos, negsuc}
 use lib.ListN.{length, take, length-append, length-take}
 use borrow.Author.Tests.{leb-true, leb-false}
 use Rattle.sheet.specs.Refusal.{byte_bound}
 use Rattle.text.specs.Fold.{run_bytes}
 use Rattle.reads.specs.declared.ReadEnd.{ReadEnd}
 use Rattle.reads.specs.declared.ReadEnd.TheVariants.{Complete, Stopped, Incomplete}
-use Rattle.reads.specs.declared.ReadsSoFar.{ReadsSoFar}
-use Rattle.reads.specs.Chunks.{most_reads, ChunkRead, read_text, last_answer, ReadsUntilStop, ReadsAll}
+use Rattle.reads.specs.Chunks.{ChunkRead, read_text, ReadsUntilStop, ReadsAll}
 use Rattle.reads.proofs.Chunks.{Ended, at_stop, at_end, at_failure, at_most, reading-ended}
 use Rattle.first_line.specs.declared.Taken.{Taken}
 use Rattle.first_line.specs.Input.{line_before, text_behind, number_in}
@@ -54,7 +52,7 @@ full_large {input} {s} of e = omega (arith, leb-true kept_bytes s.taken.size e, 
 not_full : {input : List ℕ} {s : KeptInput} → TakenFrom input kept_bytes s → is_full s ≡ false → length (text_behind input) ≤ byte_bound
 not_full {input} {s} of e = omega (arith, leb-false kept_bytes s.taken.size e, of.size_is, length-take kept_bytes (text_behind input))
 
-module _ (lent : List ℕ) (room : length lent ≡ kept_bytes) {taken : Taken} {sheet : List ℕ} {p : ReadsSoFar} (all : ReadsAll keep_byte is_full (keeping taken_start lent) (keeping taken sheet) p) where
+module _ (lent : List ℕ) (room : length lent ≡ kept_bytes) {taken : Taken} {sheet : List ℕ} {p : ReadEnd} (all : ReadsAll keep_byte is_full (keeping taken_start lent) (keeping taken sheet) p) where
   abbrev chunks : List ChunkRead
   chunks = all.reads.chunks
 
@@ -74,33 +72,33 @@ module _ (lent : List ℕ) (room : length lent ≡ kept_bytes) {taken : Taken} {
       by [] st = tt
       by (r ∷ rs) st = (st.0, not_full (of-input (read_text rs) refl) st.1)
 
-  module _ {bytes : List ℕ} (prints : PrintsCounts (number_given (number_line_end (or_nothing taken p.ended).line)) (take (or_nothing taken p.ended).size sheet) bytes) where
+  module _ {bytes : List ℕ} (prints : PrintsCounts (number_given (number_line_end (or_nothing taken p).line)) (take (or_nothing taken p).size sheet) bytes) where
     -- What is printed, by how the reading ended.
-    prints_as : (ended : ReadEnd) → p.ended ≡ ended → PrintsCounts (number_given (number_line_end (or_nothing taken ended).line)) (take (or_nothing taken ended).size sheet) bytes
+    prints_as : (ended : ReadEnd) → p ≡ ended → PrintsCounts (number_given (number_line_end (or_nothing taken ended).line)) (take (or_nothing taken ended).size sheet) bytes
     prints_as ended e = subst (λ x. PrintsCounts (number_given (number_line_end (or_nothing taken x).line)) (take (or_nothing taken x).size sheet) bytes) e prints
 
-    not-read : p.ended ≡ Incomplete → PrintsFor [] bytes
+    not-read : p ≡ Incomplete → PrintsFor [] bytes
     not-read e = taken-prints {sheet = lent} (of-input [] refl) (prints_as Incomplete e)
 
-    at-stop : is_full (keeping taken sheet) ≡ true → p.ended ≡ Stopped → (rest : List ℕ) → PrintsFor (input ++ rest) bytes
+    at-stop : is_full (keeping taken sheet) ≡ true → p ≡ Stopped → (rest : List ℕ) → PrintsFor (input ++ rest) bytes
     at-stop full e rest =
         let large = full_large taken-from full in
         let one = counts_unique (too_large large) (taken-prints taken-from (prints_as Stopped e)) in
         subst (PrintsFor (input ++ rest)) one (too_large (omega (arith, behind-longer input rest)))
 
-    pub input-prints : PrintsInput chunks p.ended bytes
+    pub input-prints : PrintsInput chunks p bytes
     input-prints = by (reading-ended keep_byte is_full (keeping taken_start lent) all)
       where
-        as_ended : (ended : ReadEnd) → p.ended ≡ ended → PrintsInput chunks ended bytes → PrintsInput chunks p.ended bytes
+        as_ended : (ended : ReadEnd) → p ≡ ended → PrintsInput chunks ended bytes → PrintsInput chunks p bytes
         as_ended ended e x = subst (λ y. PrintsInput chunks y bytes) (sym e) x
 
-        by : Ended keep_byte is_full (keeping taken_start lent) (keeping taken sheet) chunks p → PrintsInput chunks p.ended bytes
+        by : Ended keep_byte is_full (keeping taken_start lent) (keeping taken sheet) chunks p → PrintsInput chunks p bytes
         by (at_stop full e) = as_ended Stopped e (stopped (at-stop full e))
         by (at_end full q e) = as_ended Complete e (complete q (taken-prints taken-from (prints_as Complete e)))
         by (at_failure full {k} q e) = as_ended Incomplete e (incomplete (inl (k, q)) (not-read e))
         by (at_most full most {k} q e) = as_ended Incomplete e (incomplete (inr (most, (k, q))) (not-read e))
 
-  pub input-shown : {r : ShownInput} → r.ended ≡ p.ended → ShowsRecordCounts (number_given (number_line_end (or_nothing taken p.ended).line)) (take (or_nothing taken p.ended).size sheet) r.handed → ShowsInput r
+  pub input-shown : {r : ShownInput} → r.ended ≡ p → ShowsRecordCounts (number_given (number_line_end (or_nothing taken p).line)) (take (or_nothing taken p).size sheet) r.handed → ShowsInput r
   input-shown e shown =
       record {
         reads = chunks;

@@ -1,5 +1,5 @@
 -- What `show_counts` and `show_input` give back, and what their parts do.
-use Rattle.std.specs.Prelude.{ℕ, suc, ◌≤◌, ◌<◌, ◌≡◌, ◌⊎◌, Bool, cond, List, [], ◌∷◌, ◌++◌, leb, pos, negsuc, length, get_or}
+use Rattle.std.specs.Prelude.{Option as MachineOption, Some, None, ℕ, suc, ◌≤◌, ◌<◌, ◌≡◌, ◌⊎◌, Bool, List, [], ◌∷◌, ◌++◌, leb, pos, negsuc, length, get_or}
 use Rattle.std.proofs.Math.Option.{Option, none, some}
 use Rattle.meaning.specs.Expression.{Sheet}
 use Rattle.sheet.specs.Refusal.{byte_bound}
@@ -8,7 +8,6 @@ use Rattle.lend.specs.Lend.{CompiledLent}
 use Rattle.reads.specs.Chunks.{most_reads, ChunkRead, read_text, last_answer, AllGaveBytes}
 use Rattle.reads.specs.declared.ReadEnd.{ReadEnd}
 use Rattle.reads.specs.declared.ReadEnd.TheVariants.{Complete, Stopped, Incomplete}
-use Rattle.first_line.specs.declared.LineNumber.{LineNumber}
 use Rattle.first_line.specs.declared.Taken.{Taken}
 use Rattle.first_line.specs.Input.{text_behind}
 use Rattle.first_line.specs.Machine.{kept_bytes, KeptInput, taken_start}
@@ -19,8 +18,9 @@ use Rattle.show_counts.specs.declared.ShownInput.{ShownInput}
 use Rattle.show_counts.specs.Prints.{TooMany, AreFigures, PrintsCounts, PrintsFor}
 
 -- The number of the line, where it is one.
-abbrev pub number_given : LineNumber → Option ℕ
-number_given l = cond l.found (some l.value) none
+abbrev pub number_given : MachineOption ℕ → Option ℕ
+number_given None = none
+number_given (Some n) = some n
 
 -- How many of the bytes that `record_counts` prints for a number and a text were taken by writes.
 pub record ShowsRecordCounts (number : Option ℕ) (text : List ℕ) (r : Handed) : Type 0 where

@@ -11,22 +11,21 @@ ghost use Rattle.first_line.specs.Machine.{number_line_end, keeping, keep_byte, 
 ghost use Rattle.counts_text.specs.Counts.{listed_text};
 ghost use Rattle.show_counts.specs.Shows.{number_given, is_full, or_nothing, FindsFigures, ShowsRecordCounts, ShowsInput};
 
-use basics::fewer;
-use first_line::{LineNumber, Taken};
+use first_line::Taken;
 use opening::OpenedTable;
 use output::Handed;
-use reads::{ReadEnd, ReadsSoFar};
+use reads::ReadEnd;
 use std::io::{Read, Write};
 
 // The most reads of an input: those that a file of the greatest length fills with 65,536 bytes each, and one more that meets its end. An input that goes on
 // behind them counts as one that cannot be read.
 const READS: u64 = 140737488355329;
 
-// What was taken of an input, and what the reads of it have come to.
+// What was taken of an input, and how the reading of it ended.
 #[derive(Clone, Copy)]
 struct TakenInput {
     taken: Taken,
-    progress: ReadsSoFar,
+    ended: ReadEnd,
 }
 
 // How many bytes were taken by writes, and how the reading of the input ended.
@@ -48,8 +47,7 @@ fn count_used(
     requires { (table.states ≤ length finals.now) × (table.states * table.sheet.letters ≤ length entries.now) }
     ensures { CountsRecords table.sheet.letters (take (table.states * table.sheet.letters) entries.now) (take table.states finals.now) most (length figures.old) (length final_figures.old) result figures.new final_figures.new }
 {
-    let sheet = table.sheet;
-    let letters = sheet.letters as usize;
+    let letters = table.sheet.letters as usize;
     let states = table.states as usize;
     let used = states * letters;
     counting::count_records(
@@ -64,7 +62,7 @@ fn count_used(
 
 // The refusal, or 0 with the figures in the lists.
 fn find_figures(
-    number: LineNumber,
+    number: Option<u32>,
     text: &[u8],
     figures: &mut [u64],
     final_figures: &mut [u64],
@@ -76,11 +74,11 @@ fn find_figures(
     let mut finals = [0u8; 256];
     let start = [0u8; 1];
     let table = opening::open_table(text, false, &start, &mut entries, &mut finals);
-    let refusal = first_line::early_refusal(number.found, table.refusal);
+    let refusal = first_line::early_refusal(number, table.refusal);
     if refusal != 0 {
         return refusal;
     }
-    let most = number.value as usize;
+    let most = number.unwrap_or(0) as usize;
     if count_used(table, most, &entries, &finals, figures, final_figures) {
         return 0;
     }
@@ -107,7 +105,7 @@ fn write_lines<W: Write>(out: &mut W, figures: &[u64], final_figures: &[u64]) ->
 
 // Prints the figures of a sheet, compiled in the rows that `sluice` lends, or the refusal. The lists have room for the figures of 64 letters, so that a larger
 // number is 19.
-pub fn show_counts<W: Write>(out: &mut W, number: LineNumber, text: &[u8]) -> Handed
+pub fn show_counts<W: Write>(out: &mut W, number: Option<u32>, text: &[u8]) -> Handed
     ensures { ShowsRecordCounts (number_given number) text.now result }
 {
     let mut figures = [0u64; 65];
@@ -116,7 +114,7 @@ pub fn show_counts<W: Write>(out: &mut W, number: LineNumber, text: &[u8]) -> Ha
     if refusal != 0 {
         return write_refusal(out, refusal);
     }
-    let count = fewer(number.value as usize, 64) + 1;
+    let count = (number.unwrap_or(0) as usize).min(64) + 1;
     write_lines(out, &figures[..count], &final_figures[..count])
 }
 
@@ -124,9 +122,8 @@ pub fn show_counts<W: Write>(out: &mut W, number: LineNumber, text: &[u8]) -> Ha
 pub fn show_taken<W: Write>(out: &mut W, taken: Taken, sheet: &[u8]) -> Handed
     ensures { ShowsRecordCounts (number_given (number_line_end taken.line)) (take taken.size sheet.now) result }
 {
-    let line = taken.line;
-    let size = fewer(taken.size, sheet.len());
-    show_counts(out, first_line::line_number(line), &sheet[..size])
+    let size = taken.size.min(sheet.len());
+    show_counts(out, first_line::line_number(taken.line), &sheet[..size])
 }
 
 // Whether as many bytes are kept as tell that the sheet has too many.
@@ -138,22 +135,20 @@ fn is_full(taken: Taken, sheet: &[u8]) -> bool
 
 // Takes the input chunk by chunk, up to its end or to more bytes than a sheet may have, which are refused whatever follows.
 fn take_input<R: Read>(source: &mut Option<R>, sheet: &mut [u8]) -> TakenInput
-    ensures { ReadsAll keep_byte is_full (keeping taken_start sheet.old) (keeping result.taken sheet.new) result.progress }
+    ensures { ReadsAll keep_byte is_full (keeping taken_start sheet.old) (keeping result.taken sheet.new) result.ended }
 {
     let mut chunk = [0u8; 65536];
     let mut left = READS;
     let mut taken = first_line::take_start();
-    let mut progress = reads::so_far(is_full(taken, sheet), 1, left);
-    while progress.more {
-        let answer = input::read_answer(source, &mut chunk);
+    let mut answer = 1;
+    'chunks: loop {
+        if let Some(ended) = reads::so_far(is_full(taken, sheet), answer, left) {
+            return TakenInput { taken, ended };
+        }
+        answer = input::read_answer(source, &mut chunk);
         let size = io::count(answer, &chunk);
         taken = first_line::take_chunk(taken, &chunk[..size], sheet);
         left -= 1;
-        progress = reads::so_far(is_full(taken, sheet), answer, left);
-    }
-    TakenInput {
-        taken: taken,
-        progress: progress,
     }
 }
 
@@ -162,8 +157,7 @@ fn or_nothing(taken: Taken, ended: ReadEnd) -> Taken
     ensures { result ≡ or_nothing taken ended }
 {
     match ended {
-        ReadEnd::Complete => taken,
-        ReadEnd::Stopped => taken,
+        ReadEnd::Complete | ReadEnd::Stopped => taken,
         ReadEnd::Incomplete => first_line::take_start(),
     }
 }
@@ -174,13 +168,9 @@ pub fn show_input<R: Read, W: Write>(source: &mut Option<R>, out: &mut W) -> Sho
 {
     let mut sheet = [0u8; 16385];
     let read = take_input(source, &mut sheet);
-    let progress = read.progress;
-    let ended = progress.ended;
-    let taken = read.taken;
-    let kept = or_nothing(taken, ended);
-    let handed = show_taken(out, kept, &sheet);
+    let kept = or_nothing(read.taken, read.ended);
     ShownInput {
-        handed: handed,
-        ended: ended,
+        handed: show_taken(out, kept, &sheet),
+        ended: read.ended,
     }
 }

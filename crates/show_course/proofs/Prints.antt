@@ -28,7 +28,7 @@ use Rattle.theorems.specs.UsedRows.{used_entries, used_finals}
 use Rattle.theorems.proofs.Courses.{state-answered}
 use Rattle.theorems.proofs.Replaying.{start-is-state}
 use Rattle.lend.specs.Lend.{CompiledLent, HasOutcome, is_refused, is_compiled}
-use Rattle.lend.proofs.Rows.{lent-entries, lent_rows}
+use Rattle.lend.proofs.Rows.{lent-entries}
 use Rattle.lend.proofs.Outcome.{compiled_unique, compiled-held, refused_unique, refused-not-compiled, lent_total}
 use Rattle.print.specs.Text.{refusal_line}
 use Rattle.opening.proofs.Sizes.{few_rows}

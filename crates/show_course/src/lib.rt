@@ -3,15 +3,14 @@
 #![tactic(auto)]
 
 ghost use Rattle.std.specs.Prelude.{◌≡◌, ◌*◌, ◌≤◌, min, length, take};
-ghost use Rattle.print.specs.Lines.{AllFit};
 ghost use Rattle.stored_ranges.specs.Ranges.{HasRanges};
 ghost use Rattle.opening.specs.Start.{start_text};
 ghost use Rattle.course_text.specs.Output.{course_output};
 ghost use Rattle.output.specs.Output.{Hands};
 ghost use Rattle.show_course.specs.Shows.{ShowsCourse, FindsCourse, course_printout};
 
-use basics::fewer;
 use course::CourseAnswer;
+use course_text::PrintedCourse;
 use opening::OpenedTable;
 use output::Handed;
 use std::io::Write;
@@ -27,10 +26,9 @@ fn find_course(
     requires { (table.states ≤ length finals.now) × (table.states * table.sheet.letters ≤ length entries.now) × (length list.old ≡ 256) × (length work.old ≡ 32768) }
     ensures { FindsCourse table entries.now finals.now list.new result }
 {
-    let refusal = table.refusal;
-    if refusal != 0 {
+    if table.refusal != 0 {
         return CourseAnswer {
-            refusal: refusal,
+            refusal: table.refusal,
             count: 0,
         };
     }
@@ -48,45 +46,6 @@ fn find_course(
     )
 }
 
-// Writes all lines, page by page, and stops at a write that fails.
-fn write_pages<W: Write>(
-    out: &mut W,
-    refusal: u32,
-    names: &[u8],
-    lengths: &[u8],
-    lows: &[i64],
-    highs: &[i64],
-    course: &[u32],
-) -> Handed
-    requires { AllFit lows.now × AllFit highs.now × (length course.now ≤ 256) }
-    ensures { Hands (course_output (record { refusal = refusal; names = names.now; lengths = lengths.now; lows = lows.now; highs = highs.now; course = course.now })) result.size result.whole }
-{
-    let mut page = [0u8; 4096];
-    let mut size: usize = 0;
-    let mut from: usize = 0;
-    'pages: loop {
-        let filled = course_text::fill_page(
-            refusal, names, lengths, lows, highs, course, from, &mut page,
-        );
-        let count = filled.size;
-        if count == 0 {
-            return Handed {
-                size: size,
-                whole: true,
-            };
-        }
-        let handed = output::write_front(out, &page, count);
-        if !handed.whole {
-            return Handed {
-                size: size,
-                whole: false,
-            };
-        }
-        size += handed.size;
-        from = filled.next;
-    }
-}
-
 // Writes the refusal, or the course that stands at the front of the list, with the sheet's names and ranges.
 fn print_course<W: Write>(
     out: &mut W,
@@ -97,21 +56,18 @@ fn print_course<W: Write>(
     requires { HasRanges sheet × (length list.now ≡ 256) }
     ensures { Hands (course_output (course_printout sheet answer.refusal (take (min answer.count 256) list.now))) result.size result.whole }
 {
-    let names = sheet.names;
-    let lengths = sheet.lengths;
-    let lows = sheet.lows;
-    let highs = sheet.highs;
-    let streams = fewer(sheet.streams, 8);
-    let count = fewer(answer.count as usize, 256);
-    write_pages(
-        out,
-        answer.refusal,
-        &names,
-        &lengths,
-        &lows[..streams],
-        &highs[..streams],
-        &list[..count],
-    )
+    let streams = sheet.streams.min(8);
+    let count = (answer.count as usize).min(256);
+    let course = PrintedCourse {
+        refusal: answer.refusal,
+        names: &sheet.names,
+        lengths: &sheet.lengths,
+        lows: &sheet.lows[..streams],
+        highs: &sheet.highs[..streams],
+        course: &list[..count],
+    };
+    let mut page = [0u8; 4096];
+    pages::write_pages(out, &course, &mut page)
 }
 
 // Prints the best course from a state of the sheet's table to a final state, or the refusal of the sheet or the state. Without a state given it is 0.
@@ -124,6 +80,5 @@ pub fn show_course<W: Write>(out: &mut W, text: &[u8], given: bool, start: &[u8]
     let mut list = [0u32; 256];
     let mut work = [0u16; 32768];
     let answer = find_course(table, &entries, &finals, &mut list, &mut work);
-    let sheet = table.sheet;
-    print_course(out, sheet, answer, &list)
+    print_course(out, table.sheet, answer, &list)
 }

@@ -1,16 +1,14 @@
 -- What `histogram` prints by its calls is what document 02 says of the sheet and of the bytes that reads of the record gave. Said in the terms of the calls'
 -- contracts. From what is counted of a record (tally, Record), the text of a printout (histogram_text, Text), and the stored sheet (stored_ranges).
-use Prim.Native.Nat.{ℕ, zero, suc, ◌+◌, ◌*◌, ◌≤◌, ◌<◌}
+use Prim.Native.Nat.{ℕ, suc, ◌+◌, ◌*◌, ◌≤◌, ◌<◌}
 use native.Mathlib.Omega.{arith}
 use mathlib.Core.Path.{◌≡◌, refl, sym, ◌∙◌, ap, subst}
 use mathlib.Core.Logic.{◌⊎◌, inl, inr}
 use mathlib.Core.Bool.{Bool, true, false, cond}
 use mathlib.Core.List.{List, [], ◌∷◌, ◌++◌, append-nil}
 use mathlib.Core.Option.{Option, none, some}
-use lib.Dec.{ltb}
-use lib.IntN.{ℤ, pos, negsuc}
+use lib.IntN.{pos, negsuc}
 use lib.ListN.{length, drop, replicate, length-drop}
-use borrow.Author.Tests.{ltb-false}
 use Rattle.basics.proofs.Tests.{not-both}
 use Rattle.text.specs.Bytes.{lines}
 use Rattle.text.specs.Fold.{run_bytes}
@@ -52,10 +50,10 @@ use Rattle.record_lines.specs.Runs.{highest_number}
 use Rattle.record_lines.proofs.Runs.{lines_few}
 use Rattle.histogram_text.specs.Histogram.{range_value, histogram_text, text_or, counted_text}
 use Rattle.histogram_text.specs.Output.{histogram_line, histogram_output}
-use Rattle.histogram_text.specs.Prints.{PrintsHistogram, refused_sheet, counted}
+use Rattle.histogram_text.specs.Prints.{PrintsHistogram, counted}
 use Rattle.histogram_text.proofs.Text.{histogram_text_lem}
 use Rattle.reads.specs.declared.ReadEnd.{ReadEnd}
-use Rattle.reads.specs.declared.ReadEnd.TheVariants.{Complete, Stopped, Incomplete}
+use Rattle.reads.specs.declared.ReadEnd.TheVariants.{Stopped, Incomplete}
 use Rattle.show_histogram.specs.declared.ShownCounts.{ShownCounts}
 use Rattle.reads.specs.Chunks.{most_reads, ChunkRead, read_text, last_answer, ReadsUntilStop}
 use Rattle.reads.proofs.Chunks.{text-few, Ended, at_stop, at_end, at_failure, at_most, reading-ended}
@@ -259,14 +257,14 @@ module _ (text : List ℕ) {reading : Reading} (read_as : reading ≡ reading_of
       shown-reads : PrintsReads text chunks r.ended printed
       shown-reads = by (reading-ended _ is_refused_counting _ shown.file.reads)
         where
-          by : Ended (count_byte (passed_streams x)) is_refused_counting (counting start_tally (replicate 1024 0)) (counting tally shown.file.before) chunks shown.file.progress
+          by : Ended (count_byte (passed_streams x)) is_refused_counting (counting start_tally (replicate 1024 0)) (counting tally shown.file.before) chunks r.ended
               → PrintsReads text chunks r.ended printed
-          by (at_stop e q) = let n = refusal-of tally.stage e in faulty-read n.0 n.1 (shown.file.same ∙ q)
+          by (at_stop e q) = let n = refusal-of tally.stage e in faulty-read n.0 n.1 q
           by (at_end e a q) =
-              print_as (shown.file.same ∙ q) (counts-printed s accepted same (read_text chunks) few shown.file.reads.reads.run (finished (shown.file.same ∙ q)))
+              print_as q (counts-printed s accepted same (read_text chunks) few shown.file.reads.reads.run (finished q))
               (complete answered (no_fault_ended s accepted same (read_text chunks) shown.file.reads.reads.run e) a)
-          by (at_failure e {k} a q) = unread e (inl (k, a)) (shown.file.same ∙ q)
-          by (at_most e m {k} a q) = unread e (inr (m, (k, a))) (shown.file.same ∙ q)
+          by (at_failure e {k} a q) = unread e (inl (k, a)) q
+          by (at_most e m {k} a q) = unread e (inr (m, (k, a))) q
 
     stops_in_time : {s : Sheet} → AnswerTo text (sheet s) → StopsInTime s.streams chunks
     stops_in_time {s} answered =

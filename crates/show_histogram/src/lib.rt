@@ -10,7 +10,6 @@ ghost use Rattle.histogram_text.specs.Output.{histogram_output};
 ghost use Rattle.output.specs.Output.{Hands};
 ghost use Rattle.show_histogram.specs.Shows.{ShowsHistogram, ShowsCounts};
 
-use basics::fewer;
 use output::Handed;
 use reader::StoredSheet;
 use reads::ReadEnd;
@@ -40,25 +39,19 @@ fn write_pages<W: Write>(
     ensures { Hands (histogram_output (record { refusal = refusal; total = total; names = names.now; lengths = lengths.now; lows = lows.now; highs = highs.now; counts = counts.now })) result.size result.whole }
 {
     let mut page = [0u8; 4096];
-    let mut size: usize = 0;
-    let mut from: usize = 0;
+    let mut size = 0;
+    let mut from = 0;
     'pages: loop {
         let filled = histogram_text::fill_page(
             refusal, total, names, lengths, lows, highs, counts, from, &mut page,
         );
         let count = filled.size;
         if count == 0 {
-            return Handed {
-                size: size,
-                whole: true,
-            };
+            return Handed { size, whole: true };
         }
         let handed = output::write_front(out, &page, count);
         if !handed.whole {
-            return Handed {
-                size: size,
-                whole: false,
-            };
+            return Handed { size, whole: false };
         }
         size += handed.size;
         from = filled.next;
@@ -79,7 +72,7 @@ fn show_counts<F: Files, W: Write>(
     let lengths = sheet.lengths;
     let lows = sheet.lows;
     let highs = sheet.highs;
-    let streams = fewer(sheet.streams, 8);
+    let streams = sheet.streams.min(8);
     let mut counts = [0u64; 1024];
     let file = record_file::count_file(
         files,
@@ -101,10 +94,9 @@ fn show_counts<F: Files, W: Write>(
         &highs[..streams],
         &counts,
     );
-    let ended = file.ended;
     ShownCounts {
-        handed: handed,
-        ended: ended,
+        handed,
+        ended: file.ended,
     }
 }
 
@@ -128,14 +120,11 @@ pub fn show_histogram<F: Files, W: Write>(
     ensures { ShowsHistogram text.now result }
 {
     let reading = reader::read(text);
-    let refusal = reading.refusal;
-    if refusal != 0 {
-        let handed = show_refusal(out, refusal);
+    if reading.refusal != 0 {
         return ShownCounts {
-            handed: handed,
+            handed: show_refusal(out, reading.refusal),
             ended: ReadEnd::Stopped,
         };
     }
-    let sheet = reading.sheet;
-    show_counts(files, out, sheet, path)
+    show_counts(files, out, reading.sheet, path)
 }

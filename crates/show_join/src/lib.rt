@@ -2,9 +2,7 @@
 // are the calls.
 #![tactic(auto)]
 
-ghost use Rattle.std.specs.Prelude.{◌≡◌, ◌≢◌, ◌≤◌, length};
-ghost use Rattle.print.specs.Text.{refusal_line};
-ghost use Rattle.output.specs.Output.{Hands};
+ghost use Rattle.std.specs.Prelude.{◌≡◌, ◌≤◌, length};
 ghost use Rattle.given_tables.specs.Given.{given_table};
 ghost use Rattle.join_tables.specs.Outcome.{JoinOutcome};
 ghost use Rattle.opened_tables.specs.Used.{opened_given};
@@ -114,23 +112,6 @@ fn show_tables<W: Write>(
     )
 }
 
-// Writes the line of a refusal.
-fn write_refusal<W: Write>(out: &mut W, refusal: u32) -> Handed
-    ensures { refusal ≢ 0 → Hands (refusal_line refusal) result.size result.whole }
-{
-    let entries = [0u16; 32768];
-    let finals = [0u8; 256];
-    table_pages::write_table(
-        out,
-        joined_streams::no_streams(),
-        0,
-        refusal,
-        0,
-        &entries,
-        &finals,
-    )
-}
-
 // The refusal with which the first or the second table was opened, or what is printed of both.
 fn show_both<W: Write>(
     out: &mut W,
@@ -145,10 +126,10 @@ fn show_both<W: Write>(
     ensures { ShowsBoth first second (opened_given first entries.now finals.now) (opened_given second second_entries.now second_finals.now) result }
 {
     if first.refusal != 0 {
-        return write_refusal(out, first.refusal);
+        return pages::write_refusal(out, first.refusal);
     }
     if second.refusal != 0 {
-        return write_refusal(out, second.refusal);
+        return pages::write_refusal(out, second.refusal);
     }
     let sheet = first.sheet;
     let rows = used_rows(first);

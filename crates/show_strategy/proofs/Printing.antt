@@ -1,10 +1,10 @@
 -- What `show_strategy` prints by its calls is what document 02 says of the text: the play table that `force` leaves in the rows lent, with the table, names and
 -- ranges of the sheet, or the refusal, is printed place by place. Said in the terms of the calls' contracts. From what a call for a play table gives (outcome),
 -- the choices that are counted (choices), and the text of a printout (play_text).
-use Prim.Native.Nat.{ℕ, ◌+◌, ◌-◌, ◌*◌, ◌≤◌, ◌<◌, min}
+use Prim.Native.Nat.{ℕ, ◌+◌, ◌-◌, ◌*◌, ◌<◌, min}
 use native.Mathlib.Omega.{arith}
 use native.Mathlib.Nat.{le_trans, mul-le-mul_left, min-eq_left}
-use mathlib.Core.Path.{◌≡◌, refl, sym, ◌∙◌, ap, ap₂, subst, transport}
+use mathlib.Core.Path.{◌≡◌, sym, ◌∙◌, ap, ap₂, subst, transport}
 use mathlib.Core.Logic.{◌⊎◌, inl, inr}
 use mathlib.Core.List.{List}
 use lib.Arith.{digits_lt}

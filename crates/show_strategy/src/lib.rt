@@ -3,18 +3,17 @@
 #![tactic(auto)]
 
 ghost use Rattle.std.specs.Prelude.{◌≤◌, length};
-ghost use Rattle.pages.specs.Lines.{IsPage};
 ghost use Rattle.output.specs.Output.{Hands};
 ghost use Rattle.lend.specs.Lend.{room_of_rows, tables_of_rows};
 ghost use Rattle.stored_ranges.specs.Ranges.{HasRanges};
 ghost use Rattle.game.specs.Call.{ForceSheetCall};
-ghost use Rattle.play_text.specs.Output.{play_at, play_output};
-ghost use Rattle.show_strategy.specs.Shows.{play_printout, play_places_of, ShownIn, ShowsStrategy};
+ghost use Rattle.play_text.specs.Output.{play_output};
+ghost use Rattle.show_strategy.specs.Shows.{play_printout, ShownIn, ShowsStrategy};
 
-use basics::fewer;
 use compiled_sheet::CompiledSheet;
 use output::Handed;
-use pages::Page;
+use pages::Table;
+use play_text::PrintedPlay;
 use std::io::Write;
 
 // Compiles the text with a play table in tables of so many rows.
@@ -51,80 +50,38 @@ fn force_in_rows(
     )
 }
 
-// The next lines, from a line's number on.
-fn next_page(
-    sheet: reader::StoredSheet,
-    refusal: u32,
-    states: u32,
-    choices: u32,
-    entries: &[u16],
-    finals: &[u8],
-    play: &[u16],
-    from: usize,
-    out: &mut [u8],
-) -> Page
-    requires { HasRanges sheet }
-    ensures { IsPage (play_at (play_printout sheet refusal states choices entries.now finals.now play.now)) (play_places_of (play_printout sheet refusal states choices entries.now finals.now play.now)) from out.old out.new result }
-{
-    let names = sheet.names;
-    let lengths = sheet.lengths;
-    let lows = sheet.lows;
-    let highs = sheet.highs;
-    let streams = fewer(sheet.streams, 8);
-    play_text::fill_page(
-        refusal,
-        states,
-        choices,
-        &names,
-        &lengths,
-        &lows[..streams],
-        &highs[..streams],
-        entries,
-        finals,
-        play,
-        from,
-        out,
-    )
-}
-
-// Writes all lines, page by page, and stops at a write that fails.
-fn write_pages<W: Write>(
+// Writes all lines of a play table with the names and ranges of the stored sheet, or the line of a refusal.
+fn write_pages<'a, W: Write>(
     out: &mut W,
     sheet: reader::StoredSheet,
     refusal: u32,
     states: u32,
     choices: u32,
-    entries: &[u16],
-    finals: &[u8],
-    play: &[u16],
+    entries: &'a [u16],
+    finals: &'a [u8],
+    play: &'a [u16],
 ) -> Handed
     requires { HasRanges sheet × (length entries.now ≤ 32768) × (length play.now ≤ 32768) }
     ensures { Hands (play_output (play_printout sheet refusal states choices entries.now finals.now play.now)) result.size result.whole }
 {
+    let streams = sheet.streams.min(8);
+    let table = Table {
+        refusal,
+        states,
+        names: &sheet.names,
+        lengths: &sheet.lengths,
+        lows: &sheet.lows[..streams],
+        highs: &sheet.highs[..streams],
+        entries,
+        finals,
+    };
+    let printed = PrintedPlay {
+        table,
+        choices,
+        play,
+    };
     let mut page = [0u8; 65536];
-    let mut size: usize = 0;
-    let mut from: usize = 0;
-    'pages: loop {
-        let filled = next_page(
-            sheet, refusal, states, choices, entries, finals, play, from, &mut page,
-        );
-        let count = filled.size;
-        if count == 0 {
-            return Handed {
-                size: size,
-                whole: true,
-            };
-        }
-        let handed = output::write_front(out, &page, count);
-        if !handed.whole {
-            return Handed {
-                size: size,
-                whole: false,
-            };
-        }
-        size += handed.size;
-        from = filled.next;
-    }
+    pages::write_pages(out, &printed, &mut page)
 }
 
 // Compiles the text in tables of so many rows, and prints the play table or the refusal.
@@ -165,7 +122,7 @@ pub fn show_strategy<W: Write>(out: &mut W, text: &[u8]) -> Handed
     let choices = choices::choice_count(compiled_sheet::stored_streams(sheet));
     let rows = lend::rows_lent(letters);
     let room = rows * letters;
-    let play_room = fewer(rows * choices as usize, 32768);
+    let play_room = (rows * choices as usize).min(32768);
     let mut entries = [0u16; 32768];
     let mut finals = [0u8; 256];
     let mut play = [0u16; 32768];

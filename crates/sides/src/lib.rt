@@ -9,7 +9,7 @@ ghost use Rattle.nodes.specs.Code.{sign_at};
 ghost use Rattle.nodes.specs.Evaluate.{stored, view, node_value};
 ghost use Rattle.sides.specs.Mark.{odd};
 
-use arithmetic::{at_most, in_bound, less, nonzero, same};
+use arithmetic::{in_bound, nonzero};
 use evaluate::evaluate;
 
 // Here a value is given as one number, which is beyond the magnitude bound where there is none.
@@ -18,13 +18,13 @@ use evaluate::evaluate;
 fn truth(a: i64) -> bool
     ensures { result ≡ truth (stored_value a) }
 {
-    if in_bound(a) { nonzero(a) } else { false }
+    in_bound(a) && nonzero(a)
 }
 
 fn implied(a: i64, b: i64) -> bool
     ensures { result ≡ holds_numbers implies a b }
 {
-    if nonzero(a) { nonzero(b) } else { true }
+    !nonzero(a) || nonzero(b)
 }
 
 // What a sign asks of two numbers, by its own number.
@@ -32,12 +32,12 @@ fn numbers_hold(relation: u8, a: i64, b: i64) -> bool
     ensures { result ≡ holds_numbers (sign_at relation) a b }
 {
     match relation {
-        nodes::LESS_RELATION => less(a, b),
-        nodes::AT_MOST_RELATION => at_most(a, b),
-        nodes::EQUAL_RELATION => same(a, b),
-        nodes::AT_LEAST_RELATION => at_most(b, a),
-        nodes::GREATER_RELATION => less(b, a),
-        nodes::DIFFERENT_RELATION => !same(a, b),
+        nodes::LESS_RELATION => a < b,
+        nodes::AT_MOST_RELATION => a <= b,
+        nodes::EQUAL_RELATION => a == b,
+        nodes::AT_LEAST_RELATION => b <= a,
+        nodes::GREATER_RELATION => b < a,
+        nodes::DIFFERENT_RELATION => a != b,
         _ => implied(a, b),
     }
 }
@@ -47,12 +47,7 @@ fn numbers_hold(relation: u8, a: i64, b: i64) -> bool
 fn sign_holds(relation: u8, a: i64, b: i64) -> bool
     ensures { result ≡ holds (sign_at relation) (stored_value a) (stored_value b) }
 {
-    if numbers_hold(relation, a, b) {
-        if in_bound(a) {
-            return in_bound(b);
-        }
-    }
-    false
+    numbers_hold(relation, a, b) && in_bound(a) && in_bound(b)
 }
 
 // Whether an until is done: it was, or its right side is true; none counts as 0.
@@ -70,13 +65,10 @@ pub fn is_done(
 ) -> bool
     ensures { result ≡ (odd marks || truth (value_in (node_value (stored kinds.now values.now starts.now) (view window.now streams firsts.now whole) right place))) }
 {
-    if marks % 2 == 1 {
-        return true;
-    }
-    let awaited = evaluate(
-        kinds, values, starts, right, window, streams, firsts, place, whole,
-    );
-    truth(awaited)
+    marks % 2 == 1
+        || truth(evaluate(
+            kinds, values, starts, right, window, streams, firsts, place, whole,
+        ))
 }
 
 // Whether an until that is done or not is permitted: its left side matters only where it is not done.
@@ -94,10 +86,7 @@ pub fn is_permitted(
 ) -> bool
     ensures { result ≡ (done || truth (value_in (node_value (stored kinds.now values.now starts.now) (view window.now streams firsts.now whole) left place))) }
 {
-    if done {
-        return true;
-    }
-    truth(evaluate(
+    done || truth(evaluate(
         kinds, values, starts, left, window, streams, firsts, place, whole,
     ))
 }

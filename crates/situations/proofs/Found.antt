@@ -12,7 +12,6 @@ use lib.Dec.{leb}
 use lib.IntN.{ℤ, pos}
 use lib.ListN.{length, take, drop, length-append, replicate, length-drop, length-replicate}
 use borrow.Author.Tests.{leb-true, le-leb, lt-leb}
-use Rattle.basics.proofs.Answers.{says_yes}
 use Rattle.basics.proofs.Tests.{true_of_T, T-of_true, and_right, cond_cases}
 use Rattle.meaning.specs.Expression.{Stream, Sheet}
 use Rattle.meaning.specs.Letter.{letter_count}
@@ -25,55 +24,38 @@ use Rattle.letters.specs.Described.{described, letters_below, has_room, with_let
 use Rattle.letters.proofs.AllLetters.{below-long}
 use Rattle.extend.specs.Step.{Store, store_of}
 use Rattle.explore.specs.StoredSheet.{store_for as explored, IsStored}
-use Rattle.explore.specs.Exploration.{ExploreTables, IsExplorable, ExploresStored, GraphZero}
-use Rattle.explore.specs.Rows.{ExploreOutcome}
-use Rattle.explore.proofs.SheetSizes.{accepted_explorable, letters-fit, has_letters, stored-explored}
-use Rattle.explore.specs.Search.{KeptBehind}
+use Rattle.std.specs.Prelude.{Result, Ok, Err}
+use Rattle.std.specs.Result.{result_unwrap_or}
+use Rattle.explore.specs.declared.Unexplored.{Unexplored}
+use Rattle.explore.specs.declared.Unexplored.TheVariants.{NotReady, Full}
+use Rattle.explore.specs.Exploration.{ExploreTables, IsExplorable, WorkZero, FindsOrNone, ExploresStored}
+use Rattle.explore.proofs.SheetSizes.{accepted_explorable, letters-fit, has_letters, SheetExplored, stored-explored}
 use Rattle.explore.proofs.Unique.{explored_unique}
 use Rattle.outcome.proofs.NoRows.{some-situation}
 use Rattle.situations.specs.Found.{SituationsFound, RoomFor, FindsSituations, Leaves, store_in, ExploredSheet, values_list}
 use Rattle.situations.proofs.Stored.{sheet-letters, held-lows, held-highs, parts-of-sheet}
 
-module _ {K : Store} {letters limit count : ℕ} {before after : ExploreTables} {ready full : Bool} (found : ExploresStored K letters limit before after ready full count) where
-  -- No more situations are found than the limit allows.
-  count-within : cond full 0 count ≤ limit
-  count-within = by full refl
-    where
-      all : full ≡ false → (b : Bool) → ready ≡ b → count ≤ limit
-      all f true e = (found.rows e f).searched.searched.within
-      all f false e = omega (arith, (found.refused e).1)
+-- How many rows are found, or 0 where none are.
+abbrev rows_of : Result ℕ Unexplored → ℕ
+rows_of found = result_unwrap_or found 0
 
-      by : (b : Bool) → full ≡ b → cond b 0 count ≤ limit
-      by true f = zero-le
-      by false f = all f ready refl
-
+module _ (K : Store) (letters limit : ℕ) (before after : ExploreTables) where
   -- Without rows nothing is explored.
-  no_rows : limit ≡ 0 → cond full 0 count ≡ 0
-  no_rows z = by ready refl
-    where
-      by : (b : Bool) → ready ≡ b → cond full 0 count ≡ 0
-      by true e = absurd (omega (arith, (says_yes e found.answer).1.some_row))
-      by false e = ap (λ b. cond b 0 count) (found.refused e).0 ∙ (found.refused e).1
+  no_rows : (found : Result ℕ Unexplored) → FindsOrNone K letters limit before after found → limit ≡ 0 → rows_of found ≡ 0
+  no_rows (Ok count) x z = absurd (omega (arith, z, x.0.1.some_row))
+  no_rows (Err e) x z = refl
 
-  -- What is left in the tables: rows are found, or every table is zero.
-  exploration_leaves : Leaves letters limit before after (cond full 0 count)
-  exploration_leaves =
+  -- What is left in the tables: rows are found, no more than the limit allows, or every table is zero.
+  exploration_leaves : (found : Result ℕ Unexplored) → WorkZero before after → FindsOrNone K letters limit before after found → Leaves letters limit before after (rows_of found)
+  exploration_leaves (Ok count) w x =
       record {
-        within = count-within;
-        work_zero = found.work_zero;
-        graph_zero = none full refl ready refl;
-        behind = some full refl ready refl;
+        within = x.1.searched.searched.within;
+        work_zero = w;
+        graph_zero = λ z. absurd (omega (arith, z, x.1.searched.searched.known.some_row));
+        behind = λ h. x.1.behind;
       }
-    where
-      none : (b : Bool) → full ≡ b → (r : Bool) → ready ≡ r → cond b 0 count ≡ 0 → GraphZero before after
-      none b f false e z = (found.refused e).2
-      none true f true e z = (found.more e f).1
-      none false f true e z = absurd (omega (arith, z, (found.rows e f).searched.searched.known.some_row))
-
-      some : (b : Bool) → full ≡ b → (r : Bool) → ready ≡ r → 0 < cond b 0 count → KeptBehind letters (cond b 0 count) before.entries before.flags after.entries after.flags
-      some true f r e h = absurd (omega arith)
-      some false f false e h = absurd (omega (arith, h, (found.refused e).1))
-      some false f true e h = (found.rows e f).behind
+  exploration_leaves (Err Full) w x = record { within = zero-le; work_zero = w; graph_zero = λ z. x.2; behind = λ h. absurd (omega arith) }
+  exploration_leaves (Err NotReady) w x = record { within = zero-le; work_zero = w; graph_zero = λ z. x.1; behind = λ h. absurd (omega arith) }
 
 -- As many values are in the list of the letters' values as were in it before.
 module _ (streams : List Stream) (list : List ℤ) where
@@ -109,7 +91,7 @@ module _ {s : Sheet} (accepted : Accepted s) {x : StoredSheet} (same : x ≡ sto
       parts-of-sheet s same accepted refl refl refl refl refl letter_values
       (has_letters s accepted list (held-lows s same accepted refl refl refl refl refl) (held-highs s same accepted refl refl refl refl refl) (omega (arith, room_for_letters)) refl)
 
-  module _ {limit count : ℕ} {before after : ExploreTables} {ready full : Bool} (room : RoomFor limit (letter_count s.streams) before) (found : ExploresStored (store_in x list) x.letters limit before after ready full count) where
+  module _ {limit : ℕ} {before after : ExploreTables} (found : Result ℕ Unexplored) (room : RoomFor limit (letter_count s.streams) before) (left : ExploresStored (store_in x list) x.letters limit before after found) where
     explorable : 0 < limit → IsExplorable (store_in x list) x.letters limit before
     unfolding store_in
     explorable some =
@@ -118,16 +100,17 @@ module _ {s : Sheet} (accepted : Accepted s) {x : StoredSheet} (same : x ≡ sto
         subst (λ (y : Store). IsExplorable y x.letters limit before) (sym is-stored.same) (subst (λ l. IsExplorable (explored s is-stored.behind letter_values) l limit before) (sym (sheet-letters s same)) stored-part)
 
     -- The answer is the count, or 0 if there are more situations than the limit.
-    exploration_found : SituationsFound s limit (cond full 0 count) after.entries after.flags
+    exploration_found : SituationsFound s limit (rows_of found) after.entries after.flags
     exploration_found = by (dec_lt 0 limit)
       where
-        outcome : (b : Bool) → ExploreOutcome s b limit count after.entries after.flags → SituationsFound s limit (cond b 0 count) after.entries after.flags
-        outcome true more = inl (refl, more)
-        outcome false rows = inr rows
+        outcome : (found : Result ℕ Unexplored) → SheetExplored s limit after.entries after.flags found → SituationsFound s limit (rows_of found) after.entries after.flags
+        outcome (Ok count) rows = inr rows
+        outcome (Err Full) more = inl (refl, more)
+        outcome (Err NotReady) never = absurd never
 
-        by : Dec (0 < limit) → SituationsFound s limit (cond full 0 count) after.entries after.flags
-        by (yes h) = outcome full (stored-explored accepted is-stored (sheet-letters s same) (explorable h) found).1
-        by (no h) = let z : limit ≡ 0 = omega arith in inl (no_rows found z, subst (MoreSituations s) (sym z) (some-situation s))
+        by : Dec (0 < limit) → SituationsFound s limit (rows_of found) after.entries after.flags
+        by (yes h) = outcome found (stored-explored accepted is-stored found (sheet-letters s same) (explorable h) left)
+        by (no h) = let z : limit ≡ 0 = omega arith in inl (no_rows _ _ _ _ _ found left.outcome z, subst (MoreSituations s) (sym z) (some-situation s))
 
 -- ---- what `situations` gives
 
@@ -144,18 +127,18 @@ module _ (x : StoredSheet) (list : List ℤ) {constraint_count firsts streams ah
       let values = filled ∙ (λ i. with_letters (described (take (streams_cut i) x.lows) (take (streams_cut i) x.highs)) list) in
       λ i. store_of x.kinds x.values x.starts (take (constraints_cut i) x.relations) (take (constraints_cut i) x.lefts) (take (constraints_cut i) x.rights) (take (firsts_cut i) x.first_nodes) (values i) (streams_cut i) (ahead_cut i) (ahead_cut i + back_cut i)
 
-  pub parts-explored : {limit count n : ℕ} {before after : ExploreTables} {ready full : Bool} → ExploresStored parts x.letters limit before after ready full count → n ≡ cond full 0 count → ExploredSheet x list limit before after n
-  parts-explored {limit} {count} {before = before} {after} {ready} {full} e rows =
-      record { ready = ready; full = full; count = count; explored = subst (λ K. ExploresStored K x.letters limit before after ready full count) parts_is e; rows = rows }
+  pub parts-explored : {limit n : ℕ} {before after : ExploreTables} {found : Result ℕ Unexplored} → ExploresStored parts x.letters limit before after found → n ≡ rows_of found → ExploredSheet x list limit before after n
+  parts-explored {limit} {before = before} {after} {found} e rows =
+      record { found = found; explored = subst (λ K. ExploresStored K x.letters limit before after found) parts_is e; rows = rows }
 
 module _ {x : StoredSheet} {list : List ℤ} {limit : ℕ} {before after : ExploreTables} {n : ℕ} (e : ExploredSheet x list limit before after n) where
   -- What is left of the lent tables.
   pub explored-leaves : Leaves x.letters limit before after n
-  explored-leaves = subst (Leaves x.letters limit before after) (sym e.rows) (exploration_leaves e.explored)
+  explored-leaves = subst (Leaves x.letters limit before after) (sym e.rows) (exploration_leaves _ _ _ _ _ e.found e.explored.work_zero e.explored.outcome)
 
   -- Nothing is left open: what is explored once more gives the same answer and leaves the same tables.
   pub explored_once : {after' : ExploreTables} {n' : ℕ} → ExploredSheet x list limit before after' n' → (n ≡ n') × (after ≡ after')
-  explored_once e' = let u = explored_unique e.explored e'.explored in (e.rows ∙ (λ i. cond (u.1 i) 0 (u.2 i)) ∙ sym e'.rows, u.3)
+  explored_once e' = let u = explored_unique e.explored e'.explored in (e.rows ∙ ap rows_of u.0 ∙ sym e'.rows, u.1)
 
 -- Few letters have their values in a small list, more of them in a large one.
 module _ {x : StoredSheet} {limit : ℕ} {before after : ExploreTables} {n : ℕ} where
@@ -168,7 +151,7 @@ module _ {x : StoredSheet} {limit : ℕ} {before after : ExploreTables} {n : ℕ
 -- The situations of an accepted sheet are found: the list has room for the values of as many letters as it has.
 pub explored-situations : {x : StoredSheet} {limit : ℕ} {before after : ExploreTables} {n : ℕ} → ExploredSheet x (values_list x.letters) limit before after n → FindsSituations x limit before after n
 explored-situations {x} {limit} {before} {after} e s accepted same room =
-    subst (λ k. SituationsFound s limit k after.entries after.flags) (sym e.rows) (exploration_found accepted same (values_list x.letters) long room e.explored)
+    subst (λ k. SituationsFound s limit k after.entries after.flags) (sym e.rows) (exploration_found accepted same (values_list x.letters) long e.found room e.explored)
   where
     size : ℕ
     size = cond (leb x.letters 64) 520 8200

@@ -1,5 +1,5 @@
 -- What exploring a stored sheet gives, and the room that it needs.
-use Rattle.std.specs.Prelude.{ℕ, ◌+◌, ◌*◌, ◌≤◌, ◌<◌, min, ◌≡◌, Bool, cond, ◌⊎◌, List, leb, ℤ, pos, length, take, replicate}
+use Rattle.std.specs.Prelude.{ℕ, ◌+◌, ◌*◌, ◌≤◌, ◌<◌, min, ◌≡◌, Result, cond, ◌⊎◌, List, leb, ℤ, pos, length, take, replicate}
 use Rattle.meaning.specs.Expression.{Sheet}
 use Rattle.meaning.specs.Letter.{letter_count}
 use Rattle.meaning.specs.Situation.{SituationCount, MoreSituations}
@@ -11,6 +11,8 @@ use Rattle.reader.specs.Stored.{stored_sheet}
 use Rattle.extend.specs.Step.{Store, store_of}
 use Rattle.explore.specs.Rows.{ExploredRows}
 use Rattle.explore.specs.Search.{KeptBehind}
+use Rattle.std.specs.Result.{result_unwrap_or}
+use Rattle.explore.specs.declared.Unexplored.{Unexplored}
 use Rattle.explore.specs.Exploration.{ExploreTables, WorkZero, GraphZero, ExploresStored}
 use Rattle.outcome.specs.Compile.{situation_bound}
 
@@ -53,11 +55,9 @@ store_in x list =
 -- What exploring any stored sheet gives: how many rows are found, or 0 where there are more than the limit. The values of its letters are written over a
 -- list. So nothing is left open (`Rattle.situations.proofs.Found.explored_once`).
 pub record ExploredSheet (x : StoredSheet) (list : List ℤ) (limit : ℕ) (before after : ExploreTables) (n : ℕ) : Type 0 where
-  pub ready : Bool
-  pub full : Bool
-  pub count : ℕ
-  pub explored : ExploresStored (store_in x list) x.letters limit before after ready full count
-  pub rows : n ≡ cond full 0 count
+  pub found : Result ℕ Unexplored
+  pub explored : ExploresStored (store_in x list) x.letters limit before after found
+  pub rows : n ≡ result_unwrap_or found 0
 
 -- The list for the values of so many letters, all 0.
 abbrev pub values_list : ℕ → List ℤ

@@ -1,20 +1,10 @@
 // The situations of a stored sheet, explored in lent tables.
 #![tactic(auto)]
 
-ghost use Rattle.std.specs.Prelude.{◌≡◌, cond};
 ghost use Rattle.explore.specs.Exploration.{explore_tables};
 ghost use Rattle.situations.specs.Found.{ExploredSheet, values_list};
 
-use basics::fewer;
-
-// How many rows were found, or 0 where there are more than the limit.
-fn rows_found(found: explore::Exploration) -> usize
-    ensures { result ≡ cond found.full 0 found.count }
-{
-    if found.full { 0 } else { found.count }
-}
-
-// Explores the situations of a stored sheet. The values of its letters are written to `letter_values`.
+// Explores the situations of a stored sheet: how many rows are found, or 0 where none are. The values of its letters are written to `letter_values`.
 fn explored(
     sheet: reader::StoredSheet,
     limit: usize,
@@ -30,18 +20,18 @@ fn explored(
     let kinds = sheet.kinds;
     let values = sheet.values;
     let starts = sheet.starts;
-    let constraints = fewer(sheet.constraints, 32);
+    let constraints = sheet.constraints.min(32);
     let relations = sheet.relations;
     let lefts = sheet.lefts;
     let rights = sheet.rights;
-    let firsts = fewer(sheet.firsts, 8);
+    let firsts = sheet.firsts.min(8);
     let first_nodes = sheet.first_nodes;
-    let streams = fewer(sheet.streams, 8);
+    let streams = sheet.streams.min(8);
     let lows = sheet.lows;
     let highs = sheet.highs;
-    let ahead = fewer(sheet.ahead, 6);
+    let ahead = sheet.ahead.min(6);
     letters::fill_letters(&lows[..streams], &highs[..streams], letter_values);
-    let found = explore::explore_stored(
+    explore::explore_stored(
         &kinds,
         &values,
         &starts,
@@ -52,7 +42,7 @@ fn explored(
         letter_values,
         streams,
         ahead,
-        ahead + fewer(sheet.back, 6),
+        ahead + sheet.back.min(6),
         sheet.letters as usize,
         limit,
         keys,
@@ -60,8 +50,8 @@ fn explored(
         links,
         entries,
         finals,
-    );
-    rows_found(found)
+    )
+    .unwrap_or(0)
 }
 
 // Explores the situations of a stored sheet: their number, with the entries and flags of their rows, or 0 where they are more than the limit. Few

@@ -52,25 +52,12 @@ pub fn is_ready(
 ) -> bool
     ensures { Says result ((width ≤ window_bound) × (streams ≤ stream_bound) × (lefts ≡ relations) × (rights ≡ relations) × (relations ≤ 32) × (firsts ≤ first_bound)) }
 {
-    if WINDOW_BOUND < width {
-        return false;
-    }
-    if STREAM_BOUND < streams {
-        return false;
-    }
-    if lefts != relations {
-        return false;
-    }
-    if rights != relations {
-        return false;
-    }
-    if CONSTRAINT_BOUND < relations {
-        return false;
-    }
-    if FIRST_BOUND < firsts {
-        return false;
-    }
-    true
+    width <= WINDOW_BOUND
+        && streams <= STREAM_BOUND
+        && lefts == relations
+        && rights == relations
+        && relations <= CONSTRAINT_BOUND
+        && firsts <= FIRST_BOUND
 }
 
 // Whether there are few streams and every letter's values are there, with room behind them, and the tables have room for as many rows as the limit.
@@ -78,35 +65,14 @@ pub fn is_ready(
 pub fn is_lent(letters: usize, limit: usize, streams: usize, values: usize, tables: Lengths) -> bool
     ensures { Says result ((streams ≤ stream_bound) × (letters ≤ 1024) × (letters * streams + stream_bound ≤ values) × (0 < limit) × (limit ≤ 4096) × (limit * key_size ≤ tables.keys) × (limit ≤ tables.heads) × (limit ≤ tables.links) × (limit * letters ≤ tables.entries) × (limit ≤ tables.flags)) }
 {
-    if STREAM_BOUND < streams {
-        return false;
-    }
-    if LETTER_BOUND < letters {
-        return false;
-    }
-    if limit == 0 {
-        return false;
-    }
-    if SITUATION_BOUND < limit {
-        return false;
-    }
-    if values < letters * streams + STREAM_BOUND {
-        return false;
-    }
-    if tables.keys < limit * KEY_SIZE {
-        return false;
-    }
-    if tables.heads < limit {
-        return false;
-    }
-    if tables.links < limit {
-        return false;
-    }
-    if tables.entries < limit * letters {
-        return false;
-    }
-    if tables.flags < limit {
-        return false;
-    }
-    true
+    streams <= STREAM_BOUND
+        && letters <= LETTER_BOUND
+        && 0 < limit
+        && limit <= SITUATION_BOUND
+        && letters * streams + STREAM_BOUND <= values
+        && limit * KEY_SIZE <= tables.keys
+        && limit <= tables.heads
+        && limit <= tables.links
+        && limit * letters <= tables.entries
+        && limit <= tables.flags
 }

@@ -2,21 +2,19 @@
 // A sheet that cannot be read whole counts as empty; this, and a table that cannot be written whole, is told on standard error.
 #![tactic(auto)]
 
-fn tell(rt: &impl Eprint, failed: bool, message: &str) {
-    if failed {
-        let _ = rt.eprint(message);
-    }
-}
-
 fn main(rt: HostRuntime) {
     let mut text = [0u8; 16385];
     let mut source = Some(rt.stdin());
     let input = input::read_input(&mut source, &mut text);
-    tell(&rt, input.failed, "sluice: the sheet cannot be read\n");
+    output::tell(
+        &mut rt.stderr(),
+        input.failed,
+        "sluice: the sheet cannot be read\n",
+    );
     let size = input.size;
     let printed = show::show(&mut rt.stdout(), &text[..size]);
-    tell(
-        &rt,
+    output::tell(
+        &mut rt.stderr(),
         !printed.whole,
         "sluice: the table cannot be written whole\n",
     );

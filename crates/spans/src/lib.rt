@@ -7,6 +7,8 @@ ghost use Rattle.spans.specs.Token.{span};
 ghost use Rattle.spans.specs.Spans.{part_span_to, branches_by, expression_span, constraint_span, constraints_to};
 ghost use Rattle.spans.specs.Stored.{span_bound, put_spans, span_table, PlaceIn, StoresSpans};
 
+use scan::Span;
+
 // The place behind a phrase, and how many spans are stored so far.
 #[derive(Clone, Copy)]
 struct Reached {
@@ -37,14 +39,9 @@ fn part(text: &[u8], at: usize, spans: &mut [u16; 2048], count: usize) -> Reache
     requires { PlaceIn text.now at count }
     ensures { StoresSpans (λ d. part_span_to text.now d at) text.now at count spans.old spans.new result }
 {
-    let token = scan::next_token(text, at);
-    let start = token.start;
-    let end = token.end;
+    let Span { start, end } = scan::next_token(text, at);
     if start == end {
-        return Reached {
-            next: end,
-            count: count,
-        };
+        return Reached { next: end, count };
     }
     let word = &text[start..end];
     let kind = vocabulary::prefix_code(word);
@@ -82,21 +79,17 @@ fn expression(text: &[u8], at: usize, spans: &mut [u16; 2048], count: usize) -> 
     requires { PlaceIn text.now at count }
     ensures { StoresSpans (λ d. expression_span text.now (part_span_to text.now d) at) text.now at count spans.old spans.new result }
 {
-    let token = scan::next_token(text, at);
-    let start = token.start;
-    let end = token.end;
+    let Span { start, end } = scan::next_token(text, at);
     if vocabulary::is_if(&text[start..end]) {
         let inside = branches(text, end, spans, count);
         return put(spans, inside.count, start, inside.next);
     }
     let left = part(text, at, spans, count);
     let sign = scan::next_token(text, left.next);
-    let sign_start = sign.start;
-    let sign_end = sign.end;
-    if vocabulary::operator_code(&text[sign_start..sign_end]) == nodes::NO_CODE {
+    if vocabulary::operator_code(&text[sign.start..sign.end]) == nodes::NO_CODE {
         return left;
     }
-    let right = part(text, sign_end, spans, left.count);
+    let right = part(text, sign.end, spans, left.count);
     put(spans, right.count, start, right.next)
 }
 
@@ -118,9 +111,7 @@ fn constraints(text: &[u8], from: usize, spans: &mut [u16; 2048]) -> usize
     let mut at = from;
     let mut count: usize = 0;
     loop {
-        let token = scan::next_token(text, at);
-        let start = token.start;
-        let end = token.end;
+        let Span { start, end } = scan::next_token(text, at);
         if start == end {
             return count;
         }

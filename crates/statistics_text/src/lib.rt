@@ -5,8 +5,6 @@ ghost use Rattle.std.specs.Prelude.{◌≡◌, suc, ◌≤◌, length};
 ghost use Rattle.print.specs.Append.{Appends};
 ghost use Rattle.statistics_text.specs.Text.{sizes_known, situations_known, known_line, sheet_lines, statistics_text};
 
-use basics::either;
-
 // The refusal's number or 0, the letters, D and B of a sheet, its situations, the states of its table, and the rows lent.
 #[derive(Clone, Copy)]
 pub struct Statistics {
@@ -23,14 +21,14 @@ pub struct Statistics {
 fn sizes_known(refusal: u32) -> bool
     ensures { result ≡ sizes_known refusal }
 {
-    either(refusal == 0, 7 < refusal)
+    refusal == 0 || 7 < refusal
 }
 
 // Whether there are no more situations than rows, so that they are known.
 fn situations_known(refusal: u32) -> bool
     ensures { result ≡ situations_known refusal }
 {
-    either(refusal == 0, refusal == 9)
+    refusal == 0 || refusal == 9
 }
 
 // The line of a word and a number, where it is known, from the place where the last line ended.

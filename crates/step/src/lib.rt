@@ -17,8 +17,6 @@ const REFUSED_12: u32 = REFUSED + 12;
 // The entry for none.
 const NO_STATE: u32 = automaton::NO_STATE as u32;
 
-const MOST_STEPS: u32 = 4294967295;
-
 // The running place: the state, and the steps taken, which stay at their top.
 #[repr(C)]
 #[derive(Clone, Copy)]
@@ -39,8 +37,8 @@ fn entry_at(table: &[u8], at: usize) -> u32
     requires { at + 1 < length table.now }
     ensures { result ≡ number_at entry_width table.now at }
 {
-    let low = table[at] as u32;
-    let high = table[at + 1] as u32;
+    let low = u32::from(table[at]);
+    let high = u32::from(table[at + 1]);
     low + 256 * high
 }
 
@@ -49,21 +47,12 @@ fn entry_at(table: &[u8], at: usize) -> u32
 pub fn step(table: &[u8], letters: u32, state: u32, letter: u32) -> u32
     ensures { StepAnswer table.now letters state letter result }
 {
-    if letters == 0 {
-        return REFUSED_11;
-    }
     let row = letters as usize * 2;
-    if table.len() % row != 0 {
+    if letters == 0 || table.len() % row != 0 {
         return REFUSED_11;
     }
     let rows = table.len() / row;
-    if MOST_ROWS < rows {
-        return REFUSED_11;
-    }
-    if rows <= state as usize {
-        return REFUSED_11;
-    }
-    if letters <= letter {
+    if MOST_ROWS < rows || rows <= state as usize || letters <= letter {
         return REFUSED_11;
     }
     let at = (state as usize * letters as usize + letter as usize) * 2;
@@ -81,15 +70,17 @@ pub fn step(table: &[u8], letters: u32, state: u32, letter: u32) -> u32
 fn counted(steps: u32) -> u32
     ensures { result ≡ steps_after steps }
 {
-    if steps < MOST_STEPS { steps + 1 } else { steps }
+    steps.saturating_add(1)
 }
 
 // The place after a step to a state.
 fn moved(place: Place, state: u32) -> Place
     ensures { (result.state ≡ state) × (result.steps ≡ steps_after place.steps) }
 {
-    let steps = counted(place.steps);
-    Place { state, steps }
+    Place {
+        state,
+        steps: counted(place.steps),
+    }
 }
 
 // A step from a running place. A refusal leaves the place as it was.
@@ -98,10 +89,9 @@ pub fn step_place(place: Place, table: &[u8], letters: u32, letter: u32) -> Step
 {
     let answer = step(table, letters, place.state, letter);
     if answer < REFUSED {
-        let after = moved(place, answer);
         Stepped {
             answer,
-            place: after,
+            place: moved(place, answer),
         }
     } else {
         Stepped { answer, place }

@@ -22,13 +22,11 @@ fn answer<W: Write>(out: &mut W, heading: &[u8], table: &[u8]) {
 // One case; whether there was one.
 fn one<R: Read, W: Write>(source: &mut R, out: &mut W) -> bool {
     let mut space = [0u8; 65536];
-    let case = cases::read_case(source, 20, &mut space);
-    let size = case.size;
-    let heading = case.heading;
-    if case.found {
-        answer(out, &heading, &space[..size]);
-    }
-    case.found
+    let Some(case) = cases::read_case(source, 20, &mut space) else {
+        return false;
+    };
+    answer(out, &case.heading, &space[..case.size]);
+    true
 }
 
 fn main(rt: HostRuntime) {

@@ -1,5 +1,5 @@
 -- The check that tables hold a graph, place by place.
-use Rattle.std.specs.Prelude.{◌≡◌, ◌⊎◌, List, ℕ, ◌*◌, ◌<◌, ◌≤◌, T, get_or, length}
+use Rattle.std.specs.Prelude.{Option, None, Some, ◌≡◌, ◌⊎◌, List, ℕ, ◌*◌, ◌<◌, ◌≤◌, T, get_or, length}
 use Rattle.automaton.specs.Table.{no_state, Before, FirstMet}
 use Rattle.automaton.specs.Stored.{entry_at}
 use Rattle.marks.specs.Tests.{is_marked}
@@ -24,7 +24,7 @@ pub record Checked (entries flags : List ℕ) (letters rows i a met : ℕ) : Typ
   pub stays : (s b : ℕ) → b < letters → Before s b i a → entry_at letters entries s b < rows → T (is_marked flags s) → T (is_marked flags (entry_at letters entries s b))
   pub first_met : (j : ℕ) → 0 < j → j < met → (f : FirstMet letters (entry_at letters entries) j) × Before f.state f.letter i a
 
--- the answer of the check of every place before row i and letter a: how many rows are met, or 0 if the tables are no graph
-pub record CheckedTo (entries flags : List ℕ) (letters rows i a met : ℕ) : Type 0 where
-  pub broken : met ≡ 0 → ¬ IsStoredGraph entries flags letters rows
-  pub passed : 0 < met → (i < met) × Checked entries flags letters rows i a met
+-- the answer of the check of every place before row i and letter a: how many rows are met, or none if the tables are no graph
+abbrev pub CheckedTo : (entries flags : List ℕ) (letters rows i a : ℕ) → Option ℕ → Type 0
+CheckedTo entries flags letters rows i a None = ¬ IsStoredGraph entries flags letters rows
+CheckedTo entries flags letters rows i a (Some met) = (i < met) × Checked entries flags letters rows i a met

@@ -1,5 +1,4 @@
+pub mod Below
 pub mod Decided
 pub mod Fit
-pub mod Names
-pub mod Ranges
 pub mod Stored

@@ -1,6 +1,6 @@
 -- Streams as a host describes them, and which of them an accepted sheet could have (document 02, S-8: "Streams that no accepted sheet could have, or
 -- that do not make the table's letters").
-use Rattle.std.specs.Prelude.{ℕ, zero, suc, ◌≤◌, ◌<◌, ◌≡◌, false, cond, List, [], ◌∷◌, T, eqb, ℤ, pos, get_or, ◌≤ℤ◌}
+use Rattle.std.specs.Prelude.{ℕ, zero, suc, ◌≤◌, ◌<◌, ◌≡◌, false, cond, List, [], ◌∷◌, T, eqb, ℤ, pos, get_or, replicate, ◌≤ℤ◌}
 use Rattle.text.specs.Token.{is_name, is_reserved}
 use Rattle.meaning.specs.Arithmetic.{Interval}
 use Rattle.meaning.specs.Expression.{StreamKind, read_kind, set_kind, Stream}
@@ -11,6 +11,10 @@ use Rattle.sheet.specs.Accepted.{AcceptedStreams}
 use Rattle.streams.specs.declared.StreamsDescription.{StreamsDescription}
 
 -- ---- the streams that are described
+
+-- no streams, with every number 0
+abbrev pub none_described : StreamsDescription
+none_described = record { count = 0; names = replicate 64 0; lengths = replicate 8 0; lows = replicate 8 (pos 0); highs = replicate 8 (pos 0); kinds = replicate 8 0 }
 
 abbrev pub range_at : List ℤ → List ℤ → ℕ → Interval
 range_at lows highs k = record { low = get_or lows k (pos 0); high = get_or highs k (pos 0) }

@@ -18,10 +18,15 @@ use Rattle.pages.proofs.Output.{line-short}
 use Rattle.pages.proofs.Refused.{few-places, refused-text}
 use Rattle.table_pages.specs.Printout.{described_printout, RangesHeld}
 
-pub lines-short : (d : StreamsDescription) {refusal : ℕ} (states : ℕ) (entries finals : List ℕ) → RangesHeld d → refusal < 4294967296 → ((i : ℕ) → get_or entries i 0 < 65536)
-    → ((i : ℕ) → get_or finals i 0 < 256) → length entries ≤ 32768 → (k : ℕ) → length (output_at (described_printout d refusal states entries finals) k) ≤ line_room
-lines-short d {refusal} states entries finals held r e f n =
-    line-short (described_printout d refusal states entries finals) r held.lows held.highs e f (omega arith)
+-- What is printed of so many streams.
+abbrev pub cut_to : StreamsDescription → (states : ℕ) (entries finals : List ℕ) (count : ℕ) → Printout
+cut_to d states entries finals count =
+    record { refusal = 0; states = states; names = d.names; lengths = d.lengths; lows = take count d.lows; highs = take count d.highs; entries = entries; finals = finals }
+
+pub lines-short : (d : StreamsDescription) (states : ℕ) (entries finals : List ℕ) {count : ℕ} → count ≡ min d.count 8 → RangesHeld d → ((i : ℕ) → get_or entries i 0 < 65536)
+    → ((i : ℕ) → get_or finals i 0 < 256) → length entries ≤ 32768 → (k : ℕ) → length (output_at (cut_to d states entries finals count) k) ≤ line_room
+lines-short d states entries finals {count} cut held e f n =
+    line-short (cut_to d states entries finals count) (omega arith) (subst (λ k. AllFit (take k d.lows)) (sym cut) held.lows) (subst (λ k. AllFit (take k d.highs)) (sym cut) held.highs) e f (omega arith)
 
 pub few-lines : (p : Printout) → length p.entries ≤ 32768 → places_of p ≤ 32769
 few-lines p h = few-places p.refusal (omega arith) (omega arith)

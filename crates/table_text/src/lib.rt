@@ -5,7 +5,6 @@
 ghost use Rattle.print.specs.Append.{Appends};
 ghost use Rattle.table_text.specs.Table.{place_text};
 
-use basics::fewer;
 use print::{byte_at, entry_line};
 
 // The line of the entry at a place, counted by state and letter; nothing where the entry is 65,535, where there is no such place, or where the
@@ -37,6 +36,6 @@ pub fn entry_text(
         return 0;
     }
     let state = place / count;
-    let streams = fewer(lows.len(), highs.len());
+    let streams = lows.len().min(highs.len());
     entry_line(state, byte_at(finals, state), &values[..streams], next, out)
 }

@@ -12,19 +12,11 @@ use automaton::{MOST_ROWS, NO_STATE};
 fn has_sizes(entries: usize, rows: usize, letters: usize) -> bool
     ensures { Says result (HasTableSizes letters rows entries) }
 {
-    if letters == 0 {
-        return false;
-    }
-    if rows == 0 {
-        return false;
-    }
-    if rows > MOST_ROWS {
-        return false;
-    }
-    if !basics::rows_fit(rows, letters, entries) {
-        return false;
-    }
-    rows * letters == entries
+    letters != 0
+        && rows != 0
+        && rows <= MOST_ROWS
+        && basics::rows_fit(rows, letters, entries)
+        && rows * letters == entries
 }
 
 // Whether each entry is a row or none. There is no way out of the loop, so that many entries are tested at once.
@@ -32,11 +24,8 @@ fn are_rows(entries: &[u16], rows: u16) -> bool
     ensures { Says result (AreRows entries.now rows (length entries.now)) }
 {
     let mut all = true;
-    let mut i = 0;
-    while i < entries.len() {
-        let entry = entries[i];
-        all = all & ((entry < rows) | (entry == NO_STATE));
-        i += 1;
+    for entry in entries {
+        all &= (*entry < rows) | (*entry == NO_STATE);
     }
     all
 }
@@ -45,14 +34,7 @@ fn are_rows(entries: &[u16], rows: u16) -> bool
 fn are_flags(finals: &[u8]) -> bool
     ensures { Says result (AreFlags finals.now) }
 {
-    let mut i = 0;
-    while i < finals.len() {
-        if finals[i] > 1 {
-            return false;
-        }
-        i += 1;
-    }
-    true
+    finals.iter().all(|byte| *byte <= 1)
 }
 
 // Whether the table is well formed: it is whole, and has one final byte, 0 or 1, for each row.
@@ -60,11 +42,5 @@ pub fn is_well_formed(entries: &[u16], finals: &[u8], letters: usize) -> bool
     ensures { Says result (IsWellFormed letters entries.now finals.now) }
 {
     let rows = finals.len();
-    if !has_sizes(entries.len(), rows, letters) {
-        return false;
-    }
-    if !are_flags(finals) {
-        return false;
-    }
-    are_rows(entries, rows as u16)
+    has_sizes(entries.len(), rows, letters) && are_flags(finals) && are_rows(entries, rows as u16)
 }

@@ -53,11 +53,8 @@ fn part_to(begun: bool, stage: TallyStage, next: usize) -> Part
     ensures { result ≡ record { tally = tally_at begun stage; next = next } }
 {
     Part {
-        tally: Tally {
-            begun: begun,
-            stage: stage,
-        },
-        next: next,
+        tally: Tally { begun, stage },
+        next,
     }
 }
 
@@ -67,12 +64,11 @@ fn count_names(line: NamesState, chunk: &[u8], from: usize, names: &[u8], length
     ensures { (begun : Bool) (lows highs : List ℤ) (counts : List ℕ) → ReadsPart (counted_sheet names.now lengths.now lows highs) (tally_at begun (TallyStage.Names line)) chunk.now from counts counts result }
 {
     let run = record_lines::run_names(line, chunk, from, names, lengths);
-    let read = run.names;
     let at = run.next;
     if chunk.len() <= at {
-        return part_to(true, TallyStage::Names(read), at);
+        return part_to(true, TallyStage::Names(run.names), at);
     }
-    if record_names::names_end(read, names, lengths) {
+    if record_names::names_end(run.names, names, lengths) {
         return part_to(false, TallyStage::Values(records::line_start(), 0), at + 1);
     }
     part_to(false, TallyStage::Refused(13), at + 1)
@@ -104,9 +100,8 @@ fn count_values(
         if at < chunk.len() {
             at += 1;
             let end = records::line_end(line, lows, highs);
-            let refusal = end.refusal;
-            if refusal != 0 {
-                return part_to(false, TallyStage::Refused(refusal), at);
+            if end.refusal != 0 {
+                return part_to(false, TallyStage::Refused(end.refusal), at);
             }
             held_lines::raise(counts, end.letter as usize);
             within = false;
@@ -123,7 +118,11 @@ fn skip_rest(refusal: u32, chunk: &[u8], from: usize) -> Part
     ensures { (names lengths : List ℕ) (lows highs : List ℤ) (begun : Bool) (counts : List ℕ) → ReadsPart (counted_sheet names lengths lows highs) (tally_at begun (TallyStage.Refused refusal)) chunk.now from counts counts result }
 {
     let last = chunk.len() - 1;
-    part_to(chunk[last] != 10, TallyStage::Refused(refusal), chunk.len())
+    part_to(
+        chunk[last] != b'\n',
+        TallyStage::Refused(refusal),
+        chunk.len(),
+    )
 }
 
 // Reads a part of the chunk, which ends with the stage or the chunk.
@@ -140,8 +139,7 @@ fn count_part(
     requires { from < length chunk.now }
     ensures { ReadsPart (counted_sheet names.now lengths.now lows.now highs.now) tally chunk.now from counts.old counts.new result }
 {
-    let stage = tally.stage;
-    match stage {
+    match tally.stage {
         TallyStage::Names(line) => count_names(line, chunk, from, names, lengths),
         TallyStage::Values(line, total) => {
             count_values(tally.begun, line, total, chunk, from, lows, highs, counts)
@@ -186,23 +184,15 @@ fn last_line(
     if !tally.begun {
         return tally;
     }
-    let end = [10u8];
-    count_chunk(tally, &end, names, lengths, lows, highs, counts)
+    count_chunk(tally, b"\n", names, lengths, lows, highs, counts)
 }
 
 // What a refusal leaves: no count.
 fn refused(refusal: u32, counts: &mut [u64]) -> LineCounts
     ensures { (result ≡ refused_counts refusal) × (counts.new ≡ replicate (length counts.old) 0) }
 {
-    let mut i = 0;
-    while i < counts.len() {
-        counts[i] = 0;
-        i += 1;
-    }
-    LineCounts {
-        refusal: refusal,
-        total: 0,
-    }
+    counts.fill(0);
+    LineCounts { refusal, total: 0 }
 }
 
 // Ends the record: a last line without byte 10 ends with it, and a record without lines has no names. After a refusal all counts are 0.
@@ -217,13 +207,9 @@ pub fn finish(
     ensures { FinishesTally (counted_sheet names.now lengths.now lows.now highs.now) tally counts.old counts.new result }
 {
     let ended = last_line(tally, names, lengths, lows, highs, counts);
-    let stage = ended.stage;
-    match stage {
+    match ended.stage {
         TallyStage::Names(_) => refused(13, counts),
-        TallyStage::Values(_, total) => LineCounts {
-            refusal: 0,
-            total: total,
-        },
+        TallyStage::Values(_, total) => LineCounts { refusal: 0, total },
         TallyStage::Refused(refusal) => refused(refusal, counts),
     }
 }

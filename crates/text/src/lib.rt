@@ -7,5 +7,5 @@ ghost use Rattle.text.specs.Bytes.{is_bracket};
 pub fn is_bracket(b: u8) -> bool
     ensures { result ≡ is_bracket b }
 {
-    b == 40 || b == 41
+    matches!(b, b'(' | b')')
 }

@@ -8,8 +8,6 @@ ghost use Rattle.sheet.specs.Vocabulary.{operator_of, relation_of, prefix_of, st
 ghost use Rattle.nodes.specs.Code.{stream_kind_code};
 ghost use Rattle.vocabulary.specs.Word.{code_or255, word_place, infix_code, prefix_code, relation_number, TellsWord};
 
-use scan::wide;
-
 // A number that tells the words of up to seven bytes apart, from a word's first byte as the lowest; 0 for a longer token.
 fn word_number(token: &[u8]) -> u64
     ensures { TellsWord token.now result }
@@ -18,10 +16,8 @@ fn word_number(token: &[u8]) -> u64
         return 0;
     }
     let mut number: u64 = 1;
-    let mut i = token.len();
-    while 0 < i {
-        i -= 1;
-        number = number * 256 + wide(token[i]);
+    for i in (0..token.len()).rev() {
+        number = number * 256 + u64::from(token[i]);
     }
     number
 }
@@ -131,12 +127,10 @@ const RESERVED_WORDS: [u64; 18] = [
 fn word_place(words: &[u64], number: u64) -> usize
     ensures { result ≡ word_place words.now number }
 {
-    let mut i = 0;
-    while i < words.len() {
-        if words[i] == number {
+    for (i, word) in words.iter().enumerate() {
+        if *word == number {
             return i;
         }
-        i += 1;
     }
     words.len()
 }
@@ -189,35 +183,30 @@ pub fn is_reserved(token: &[u8]) -> bool
 pub fn is_if(token: &[u8]) -> bool
     ensures { result ≡ same_bytes (bytes_of "if") token.now }
 {
-    let number = word_number(token);
-    number == 0x1_66_69
+    scan::same_bytes(b"if", token)
 }
 
 pub fn is_then(token: &[u8]) -> bool
     ensures { result ≡ same_bytes (bytes_of "then") token.now }
 {
-    let number = word_number(token);
-    number == 0x1_6e_65_68_74
+    scan::same_bytes(b"then", token)
 }
 
 pub fn is_else(token: &[u8]) -> bool
     ensures { result ≡ same_bytes (bytes_of "else") token.now }
 {
-    let number = word_number(token);
-    number == 0x1_65_73_6c_65
+    scan::same_bytes(b"else", token)
 }
 
 // The first word of the release line.
 pub fn is_release(token: &[u8]) -> bool
     ensures { result ≡ same_bytes (bytes_of "release") token.now }
 {
-    let number = word_number(token);
-    number == 0x1_65_73_61_65_6c_65_72
+    scan::same_bytes(b"release", token)
 }
 
 pub fn is_opening(token: &[u8]) -> bool
     ensures { result ≡ same_bytes (bytes_of "(") token.now }
 {
-    let number = word_number(token);
-    number == 0x1_28
+    scan::same_bytes(b"(", token)
 }

@@ -25,16 +25,11 @@ fn answer_row(row: &[u16], choice: &[u16], ranks: &[u32], highest: u32, answers:
     requires { (length row.now ≡ length choice.now) × ChoicesFit choice.now (length answers.old) }
     ensures { AreAnswers row.now choice.now ranks.now highest 0 answers.new }
 {
-    basics::fill_entries(answers, NO_STATE);
-    let mut letter = row.len();
-    while letter > 0 {
-        letter -= 1;
+    answers.fill(NO_STATE);
+    for letter in (0..row.len()).rev() {
         let rank = number_at(ranks, row[letter]);
-        if rank != 0 {
-            if rank <= highest {
-                let to = choice[letter] as usize;
-                answers[to] = letter as u16;
-            }
+        if rank != 0 && rank <= highest {
+            answers[choice[letter] as usize] = letter as u16;
         }
     }
 }
@@ -43,14 +38,7 @@ fn answer_row(row: &[u16], choice: &[u16], ranks: &[u32], highest: u32, answers:
 fn all_answered(answers: &[u16]) -> bool
     ensures { Says result (AllAnswered answers.now) }
 {
-    let mut i = 0;
-    while i < answers.len() {
-        if answers[i] == NO_STATE {
-            return false;
-        }
-        i += 1;
-    }
-    true
+    answers.iter().all(|answer| *answer != NO_STATE)
 }
 
 // The rank that a row gets if it is the next to be turned.
@@ -109,13 +97,11 @@ fn sweep(
 {
     let rows = ranks.len();
     let mut next = first;
-    let mut i = 0;
-    while i < rows {
+    for i in 0..rows {
         let row = row_of(i, rows, down);
         if turn_row(entries, choice, to, next, row, ranks, answers) {
             next += 1;
         }
-        i += 1;
     }
     next
 }
@@ -142,7 +128,7 @@ fn rank_rows(entries: &[u16], finals: &[u8], choice: &[u16], ranks: &mut [u32], 
     requires { GameFits entries.now choice.now (length answers.old) (length ranks.old) }
     ensures { RowsRanked (lent_game entries.now choice.now (length answers.old) (length ranks.old) (final_at finals.now)) ranks.new }
 {
-    basics::fill(ranks, 1);
+    ranks.fill(1);
     sweeps(entries, choice, false, ranks, answers);
     marks::keep_flagged(finals, ranks);
     sweeps(entries, choice, true, ranks, answers);
@@ -160,8 +146,7 @@ fn fill_play(entries: &[u16], choice: &[u16], choices: usize, ranks: &[u32], pla
     requires { GameFits entries.now choice.now choices (length ranks.now) × (length ranks.now * choices ≤ length play.old) }
     ensures { (final : ℕ → ℕ) → PlaysRanking (lent_game entries.now choice.now choices (length ranks.now) final) ranks.now (entry_at choices play.new) }
 {
-    let mut row = 0;
-    while row < ranks.len() {
+    for row in 0..ranks.len() {
         let start = row * choice.len();
         let end = start + choice.len();
         let from = row * choices;
@@ -173,7 +158,6 @@ fn fill_play(entries: &[u16], choice: &[u16], choices: usize, ranks: &[u32], pla
             highest_next(ranks[row]),
             &mut play[from..to],
         );
-        row += 1;
     }
 }
 
@@ -181,43 +165,25 @@ fn fill_play(entries: &[u16], choice: &[u16], choices: usize, ranks: &[u32], pla
 fn are_choices(choice: &[u16], choices: usize) -> bool
     ensures { Says result ((a : ℕ) → a < length choice.now → get_or choice.now a 0 < choices) }
 {
-    let mut letter = 0;
-    while letter < choice.len() {
-        if choices <= choice[letter] as usize {
-            return false;
-        }
-        letter += 1;
-    }
-    true
+    choice.iter().all(|number| (*number as usize) < choices)
 }
 
 // Whether there are rows, not too many rows and letters, and room for them.
 fn has_room(rows: usize, letters: usize, choices: usize, entries: usize, play: usize) -> bool
     ensures { Says result (HasPlayRoom rows letters choices entries play) }
 {
-    if rows == 0 {
-        return false;
-    }
-    if rows > MOST_ROWS {
-        return false;
-    }
-    if letters >= 65535 {
-        return false;
-    }
-    if !basics::rows_fit(rows, letters, entries) {
-        return false;
-    }
-    basics::rows_fit(rows, choices, play)
+    rows != 0
+        && rows <= MOST_ROWS
+        && letters < 65535
+        && basics::rows_fit(rows, letters, entries)
+        && basics::rows_fit(rows, choices, play)
 }
 
 // Whether the rows of a lent table can be played.
 fn can_play(entries: &[u16], choice: &[u16], choices: usize, rows: usize, room: usize) -> bool
     ensures { Says result (PlayFits entries.now choice.now choices rows room) }
 {
-    if !has_room(rows, choice.len(), choices, entries.len(), room) {
-        return false;
-    }
-    are_choices(choice, choices)
+    has_room(rows, choice.len(), choices, entries.len(), room) && are_choices(choice, choices)
 }
 
 // How many numbers of the play table are kept: those of its rows, or none.
@@ -241,15 +207,15 @@ pub fn find_play(
     ensures { PlayOutcome entries.now finals.now choice.now choices (length ranks.old) (length play.old) result play.new × (ranks.new ≡ replicate (length ranks.old) 0) }
 {
     if !can_play(entries, choice, choices, ranks.len(), play.len()) {
-        basics::clear_entries(play, 0);
-        basics::fill(ranks, 0);
+        play.fill(0);
+        ranks.fill(0);
         return false;
     }
     rank_rows(entries, finals, choice, ranks, &mut play[..choices]);
     let won = ranks[0] != 0;
     fill_play(entries, choice, choices, ranks, play);
     let kept = numbers_kept(won, ranks.len(), choices, play.len());
-    basics::clear_entries(play, kept);
-    basics::fill(ranks, 0);
+    basics::clear_from(play, kept, 0);
+    ranks.fill(0);
     won
 }

@@ -23,10 +23,9 @@ use Rattle.residue.specs.Residue.{Tree, name_tree, negation_tree, operator_tree,
 use Rattle.residue.specs.Written.{written, tree_size, SameBelow, Writes}
 use Rattle.residue.proofs.Size.{length-written}
 use Rattle.residue.proofs.Writing.{below_trans, writes_join, writes_after}
-use Rattle.write_residue.specs.Wrote.{end_of, Appended, known_at, varying_at, Wrote, WroteKnown, negated_times, NegatesLast, IsAsked, moved_known, moved_to, MovesTo}
+use Rattle.write_residue.specs.Wrote.{end_of, Appended, known_at, varying_at, Wrote, WroteKnown, negated_times, NegatesLast, IsAsked, MovesToKnown}
 use Rattle.write_residue.specs.declared.WrittenResidue.{WrittenResidue}
 use Rattle.write_residue.proofs.Recursion.{times_none, times_more, times_decodes}
-use Rattle.write_residue.specs.declared.Moved.{Moved}
 
 -- ---- the place behind nodes
 
@@ -259,27 +258,10 @@ module _ {old m₁ m₂ mid new : Nodes} {at : ℕ} {q r s : Residue} {test then
 -- ---- where a node leads
 
 module _ {N : Nodes} {streams : ℕ} {firsts : List ℤ} {whole : Bool} {letters e p : ℕ} where
-  pub moves-known : {z : ℤ} {m : Moved} {x : Evaluated} → z ≡ coded x → m ≡ moved_known z → Decodes x → ((window : List ℤ) → residue_before N (view window streams firsts whole) letters e p ≡ known x) → MovesTo N streams firsts whole letters e p m
-  moves-known {z} {m} {x} q r d h =
-      let v : m.value ≡ coded x = ap (λ y. y.value) r ∙ q in
-      let b : bounded m.value ≡ x = ap bounded v ∙ d in
-      record {
-        number = λ k. v ∙ sym (ap coded b);
-        known = λ k window. h window ∙ ap known (sym b);
-        same = λ k. let y : ◌≡◌ {A = ℕ} 0 1 = cc in absurd (omega arith);
-        earlier = λ k. let y : ◌≡◌ {A = ℕ} 0 1 = cc in absurd (omega arith);
-      }
-
-  pub moves-to : {d q : ℕ} {m : Moved} → m ≡ moved_to d q → ((window : List ℤ) → residue_before N (view window streams firsts whole) letters d q ≡ residue_before N (view window streams firsts whole) letters e p) → d < e → MovesTo N streams firsts whole letters e p m
-  moves-to {d} {q} {m} r h l =
-      let i : d ≡ m.end = sym (ap (λ y. y.end) r) in
-      let j : q ≡ m.place = sym (ap (λ y. y.place) r) in
-      record {
-        number = λ k. let y : ◌≡◌ {A = ℕ} 0 1 = cc in absurd (omega arith);
-        known = λ k. let y : ◌≡◌ {A = ℕ} 0 1 = cc in absurd (omega arith);
-        same = λ k window. sym (ap (λ u. residue_before N (view window streams firsts whole) letters u q) i ∙ ap (residue_before N (view window streams firsts whole) letters m.end) j) ∙ h window;
-        earlier = λ k. omega arith;
-      }
+  pub moves-known : {z : ℤ} {x : Evaluated} → z ≡ coded x → Decodes x → ((window : List ℤ) → residue_before N (view window streams firsts whole) letters e p ≡ known x) → MovesToKnown N streams firsts whole letters e p z
+  moves-known {z} {x} q d h =
+      let b : bounded z ≡ x = ap bounded q ∙ d in
+      record { number = q ∙ sym (ap coded b); known = λ window. h window ∙ ap known (sym b) }
 
 -- A known residue, from what was written.
 pub wrote-known : {old new : Nodes} {at : ℕ} {v : ℤ} {a : WrittenResidue} {x : Evaluated} {r : Residue} → WroteKnown old new at v a → v ≡ coded x → known x ≡ r → Wrote old new at r a

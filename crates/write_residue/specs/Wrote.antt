@@ -1,5 +1,5 @@
 -- What is answered where a residue is written, and what stands in the lists of nodes then.
-use Rattle.std.specs.Prelude.{ℕ, zero, suc, ◌+◌, ◌-◌, ◌≤◌, ◌<◌, ◌≡◌, Bool, true, false, cond, List, [], ◌∷◌, leb, ℤ, pos}
+use Rattle.std.specs.Prelude.{ℕ, zero, suc, ◌+◌, ◌-◌, ◌≤◌, ◌<◌, ◌≡◌, Bool, true, false, cond, List, [], ◌∷◌, leb, ℤ}
 use Rattle.nodes.specs.Bounded.{no_value, bounded}
 use Rattle.nodes.specs.Postfix.{Node}
 use Rattle.nodes.specs.Evaluate.{Nodes, View, view, places}
@@ -10,6 +10,7 @@ use Rattle.residue.specs.Residue.{Residue, known, tree_of, is_known, known_value
 use Rattle.residue.specs.Written.{written, tree_size, SameBelow, Writes}
 use Rattle.write_residue.specs.declared.WrittenResidue.{WrittenResidue}
 use Rattle.write_residue.specs.declared.Moved.{Moved}
+use Rattle.write_residue.specs.declared.Moved.TheVariants.{Known, To}
 
 -- The place behind so many nodes from the place `at` on, in arrays of 1024; 1025 where there is no room for them.
 abbrev pub end_of : ℕ → ℕ → ℕ
@@ -70,15 +71,15 @@ pub record IsAsked (U : View) (letters end at : ℕ) : Type 0 where
 
 -- Where a `first`, a `next` or a `fby` leads: to a value that is known, or to a part that ends earlier, at a place, with the same residue, whatever
 -- the letters are.
-abbrev pub moved_known : ℤ → Moved
-moved_known z = record { known = true; value = z; end = 0; place = 0 }
+pub record MovesToKnown (N : Nodes) (streams : ℕ) (firsts : List ℤ) (whole : Bool) (letters e p : ℕ) (value : ℤ) : Type 0 where
+  pub number : value ≡ coded (bounded value)
+  pub known : (window : List ℤ) → residue_before N (view window streams firsts whole) letters e p ≡ known (bounded value)
 
-abbrev pub moved_to : ℕ → ℕ → Moved
-moved_to d q = record { known = false; value = pos 0; end = d; place = q }
+pub record MovesToPart (N : Nodes) (streams : ℕ) (firsts : List ℤ) (whole : Bool) (letters e p end place : ℕ) : Type 0 where
+  pub same : (window : List ℤ)
+      → residue_before N (view window streams firsts whole) letters end place ≡ residue_before N (view window streams firsts whole) letters e p
+  pub earlier : end < e
 
-pub record MovesTo (N : Nodes) (streams : ℕ) (firsts : List ℤ) (whole : Bool) (letters e p : ℕ) (m : Moved) : Type 0 where
-  pub number : m.known ≡ true → m.value ≡ coded (bounded m.value)
-  pub known : m.known ≡ true → (window : List ℤ) → residue_before N (view window streams firsts whole) letters e p ≡ known (bounded m.value)
-  pub same : m.known ≡ false → (window : List ℤ)
-      → residue_before N (view window streams firsts whole) letters m.end m.place ≡ residue_before N (view window streams firsts whole) letters e p
-  pub earlier : m.known ≡ false → m.end < e
+abbrev pub MovesTo : (N : Nodes) (streams : ℕ) (firsts : List ℤ) (whole : Bool) (letters e p : ℕ) → Moved → Type 0
+MovesTo N streams firsts whole letters e p (Known value) = MovesToKnown N streams firsts whole letters e p value
+MovesTo N streams firsts whole letters e p (To end place) = MovesToPart N streams firsts whole letters e p end place

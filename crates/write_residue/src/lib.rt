@@ -8,11 +8,10 @@ ghost use Rattle.nodes.specs.Postfix.{node};
 ghost use Rattle.nodes.specs.Evaluate.{stored, view, numbered, negated_result};
 ghost use Rattle.arithmetic.specs.Coded.{coded};
 ghost use Rattle.residue.specs.Residue.{residue_before, node_residue};
-ghost use Rattle.write_residue.specs.Wrote.{Appended, varying_at, Wrote, WroteKnown, NegatesLast, OperatesLast, PassesNegations, IsAsked, moved_known, moved_to, MovesTo};
+ghost use Rattle.write_residue.specs.Wrote.{Appended, varying_at, Wrote, WroteKnown, NegatesLast, OperatesLast, PassesNegations, IsAsked, MovesTo};
 
-use arithmetic::{apply_coded, bit, bounded_coded, in_bound, no_value_coded, nonzero};
-use basics::{both, fewer};
-use evaluate::evaluate;
+use arithmetic::{apply_coded, bounded_coded, in_bound, no_value_coded, nonzero};
+use evaluate::{evaluate, negated, numbered};
 use nodes::left_end;
 
 // What was written of a residue: whether its value is known, then the number of that value, and the place behind its nodes; 1025 where there was no
@@ -40,38 +39,11 @@ struct Part {
     at: usize,
 }
 
-// Where a node leads that only changes the place: to a value that is known, or to a part and a place.
+// Where a node leads that only changes the place: to a value that is known, or to a part, by where it ends, and a place.
 #[derive(Clone, Copy)]
-struct Moved {
-    known: bool,
-    value: i64,
-    end: usize,
-    place: usize,
-}
-
-// The stored value of a `first`, by its number.
-fn stored_first(firsts: &[i64], number: i64) -> i64
-    ensures { result ≡ coded (numbered firsts.now number) }
-{
-    if number < 0 {
-        return no_value_coded();
-    }
-    let k = number as usize;
-    if k < firsts.len() {
-        return bounded_coded(firsts[k]);
-    }
-    no_value_coded()
-}
-
-// The negation of a value that is given as one number.
-fn negated(a: i64) -> i64
-    ensures { result ≡ coded (negated_result (bounded a)) }
-{
-    if in_bound(a) {
-        bit(!nonzero(a))
-    } else {
-        no_value_coded()
-    }
+enum Moved {
+    Known(i64),
+    To { end: usize, place: usize },
 }
 
 // Writes one node at the place `end`, behind the nodes of its parts, which start at `start`; answers the place behind it.
@@ -121,8 +93,8 @@ fn write_known(
     );
     WrittenResidue {
         known: true,
-        value: value,
-        end: end,
+        value,
+        end,
     }
 }
 
@@ -133,7 +105,7 @@ fn varying(end: usize) -> WrittenResidue
     WrittenResidue {
         known: false,
         value: no_value_coded(),
-        end: end,
+        end,
     }
 }
 
@@ -176,7 +148,7 @@ fn operate_last(
     requires { at ≤ right.end }
     ensures { OperatesLast (stored new_kinds.old new_values.old new_starts.old) (stored new_kinds.new new_values.new new_starts.new) kind at left right result }
 {
-    if both(left.known, right.known) {
+    if left.known && right.known {
         let value = apply_coded(kind, left.value, right.value);
         return write_known(new_kinds, new_values, new_starts, at, value);
     }
@@ -235,30 +207,6 @@ fn write_leaf(
     ))
 }
 
-// A value that is known.
-fn moved_known(value: i64) -> Moved
-    ensures { result ≡ moved_known value }
-{
-    Moved {
-        known: true,
-        value: value,
-        end: 0,
-        place: 0,
-    }
-}
-
-// A part and a place.
-fn moved_to(end: usize, place: usize) -> Moved
-    ensures { result ≡ moved_to end place }
-{
-    Moved {
-        known: false,
-        value: 0,
-        end: end,
-        place: place,
-    }
-}
-
 // Where a `first`, a `next` or a `fby` leads.
 fn led_to(
     kinds: &[u8; 1024],
@@ -274,26 +222,24 @@ fn led_to(
     ensures { MovesTo (stored kinds.now values.now starts.now) older.streams firsts.now older.whole older.letters end place result }
 {
     let i = end - 1;
-    let kind = kinds[i];
-    if kind == nodes::FIRST_NODE {
-        if older.whole {
-            return moved_to(i, 0);
-        }
-        return moved_known(stored_first(firsts, values[i]));
+    match kinds[i] {
+        nodes::FIRST_NODE if older.whole => Moved::To { end: i, place: 0 },
+        nodes::FIRST_NODE => Moved::Known(numbered(firsts, values[i])),
+        nodes::NEXT_NODE if place < older.letters => Moved::To {
+            end: i,
+            place: place + 1,
+        },
+        nodes::NEXT_NODE => Moved::Known(no_value_coded()),
+        _ if place != 0 => Moved::To {
+            end: i,
+            place: place - 1,
+        },
+        _ if older.whole => Moved::To {
+            end: left_end(starts, i),
+            place: 0,
+        },
+        _ => Moved::Known(0),
     }
-    if kind == nodes::NEXT_NODE {
-        if place < older.letters {
-            return moved_to(i, place + 1);
-        }
-        return moved_known(no_value_coded());
-    }
-    if place != 0 {
-        return moved_to(i, place - 1);
-    }
-    if older.whole {
-        return moved_to(left_end(starts, i), 0);
-    }
-    moved_known(0)
 }
 
 // The part that is reached over the `not`s that end before `end`, one before the other: by loops, since a line may have a thousand of them, and each
@@ -302,14 +248,12 @@ fn past_negations(kinds: &[u8; 1024], end: usize) -> usize
     requires { end ≤ 1024 }
     ensures { PassesNegations kinds.now end result }
 {
-    let mut inner = end;
-    while inner != 0 {
-        if kinds[inner - 1] != nodes::NEGATION_NODE {
-            return inner;
+    for i in (0..end).rev() {
+        if kinds[i] != nodes::NEGATION_NODE {
+            return i + 1;
         }
-        inner -= 1;
     }
-    inner
+    0
 }
 
 // `not`s, one before the other: behind what is written of the part that they stand before, one node for each.
@@ -346,14 +290,12 @@ fn write_negations(
         older,
         Part {
             end: inner,
-            place: place,
-            at: at,
+            place,
+            at,
         },
     );
-    let mut left = end - inner;
-    while left != 0 {
+    for _passed in inner..end {
         last = negate_last(new_kinds, new_values, new_starts, at, last);
-        left -= 1;
     }
     last
 }
@@ -377,29 +319,22 @@ fn write_moved(
     requires fact { (get_or kinds.now (part.end - 1) 0 ≡ 4 → ⊥) × (get_or kinds.now (part.end - 1) 0 ≡ 5 → ⊥) }
     ensures { Wrote (stored new_kinds.old new_values.old new_starts.old) (stored new_kinds.new new_values.new new_starts.new) part.at (residue_before (stored kinds.now values.now starts.now) (view window.now older.streams firsts.now older.whole) older.letters part.end part.place) result }
 {
-    let end = part.end;
-    let place = part.place;
     let at = part.at;
-    let next = led_to(kinds, values, starts, firsts, older, end, place);
-    if next.known {
-        return write_known(new_kinds, new_values, new_starts, at, next.value);
+    match led_to(kinds, values, starts, firsts, older, part.end, part.place) {
+        Moved::Known(value) => write_known(new_kinds, new_values, new_starts, at, value),
+        Moved::To { end, place } => write_before(
+            kinds,
+            values,
+            starts,
+            window,
+            firsts,
+            new_kinds,
+            new_values,
+            new_starts,
+            older,
+            Part { end, place, at },
+        ),
     }
-    write_before(
-        kinds,
-        values,
-        starts,
-        window,
-        firsts,
-        new_kinds,
-        new_values,
-        new_starts,
-        older,
-        Part {
-            end: next.end,
-            place: next.place,
-            at: at,
-        },
-    )
 }
 
 // Where the branch ends that a condition takes.
@@ -444,8 +379,8 @@ fn write_conditional(
         older,
         Part {
             end: left,
-            place: place,
-            at: at,
+            place,
+            at,
         },
     );
     if test.known {
@@ -465,7 +400,7 @@ fn write_conditional(
             older,
             Part {
                 end: branch,
-                place: place,
+                place,
                 at: at,
             },
         );
@@ -482,7 +417,7 @@ fn write_conditional(
         older,
         Part {
             end: middle,
-            place: place,
+            place,
             at: test.end,
         },
     );
@@ -498,7 +433,7 @@ fn write_conditional(
         older,
         Part {
             end: right,
-            place: place,
+            place,
             at: then.end,
         },
     );
@@ -548,8 +483,8 @@ fn write_operator(
         older,
         Part {
             end: left,
-            place: place,
-            at: at,
+            place,
+            at,
         },
     );
     let b = write_before(
@@ -564,7 +499,7 @@ fn write_operator(
         older,
         Part {
             end: right,
-            place: place,
+            place,
             at: a.end,
         },
     );
@@ -623,10 +558,7 @@ fn write_before(
 fn letter_count(length: usize, streams: usize) -> usize
     ensures { result ≡ length / streams }
 {
-    if streams == 0 {
-        return 0;
-    }
-    length / streams
+    if streams == 0 { 0 } else { length / streams }
 }
 
 // Writes the residue of the node with the place `root`, at a place of a window whose newest letter is yet to come, from the place `at` on.
@@ -655,7 +587,7 @@ pub fn write_residue(
     let new_value_list: &[i64] = new_values;
     let new_start_list: &[u16] = new_starts;
     let letters = letter_count(window.len(), streams);
-    let from = fewer(at, 1025);
+    let from = at.min(1025);
     if 1024 <= root {
         return write_known(new_kinds, new_values, new_starts, from, no_value_coded());
     }
@@ -669,13 +601,13 @@ pub fn write_residue(
         new_values,
         new_starts,
         Older {
-            streams: streams,
-            letters: letters,
-            whole: whole,
+            streams,
+            letters,
+            whole,
         },
         Part {
             end: root + 1,
-            place: place,
+            place,
             at: from,
         },
     )

@@ -5,7 +5,6 @@ ghost use Rattle.std.specs.Prelude.{◌/◌, ◌≤◌, length};
 ghost use Rattle.nodes.specs.Evaluate.{stored, view};
 ghost use Rattle.write_sides.specs.Sides.{ConstraintWritten, WritesSides};
 
-use basics::fewer;
 use sizes::CONSTRAINT_BOUND;
 use write_residue::write_residue;
 
@@ -105,10 +104,9 @@ pub fn write_sides(
     let start_list: &[u16] = new_starts;
     let left_list: &[u16] = new_lefts;
     let right_list: &[u16] = new_rights;
-    let count = fewer(fewer(lefts.len(), rights.len()), CONSTRAINT_BOUND);
+    let count = lefts.len().min(rights.len()).min(CONSTRAINT_BOUND);
     let mut at = 0;
-    let mut j = 0;
-    while j < count {
+    for j in 0..count {
         let roots = SideNodes {
             left: lefts[j] as usize,
             right: rights[j] as usize,
@@ -117,14 +115,12 @@ pub fn write_sides(
             kinds, values, starts, window, firsts, new_kinds, new_values, new_starts, asked, roots,
             at,
         );
-        let full = 1024 < ends.right;
-        if full {
+        if 1024 < ends.right {
             return false;
         }
         new_lefts[j] = (ends.left - 1) as u16;
         new_rights[j] = (ends.right - 1) as u16;
         at = ends.right;
-        j += 1;
     }
     true
 }

@@ -1,7 +1,7 @@
 -- `arithmetic::applied` meets its contract at the last arm: the kind is none of 7 to 20, so the operator is the remainder rounded down. The other
 -- arms prove themselves.
 use native.Mathlib.Omega.{arith}
-use Rattle.arithmetic.proofs.Operators.{applied_last, later}
+use Rattle.arithmetic.proofs.Operators.{applied_last}
 use Rattle.arithmetic.proofs.applied.Goals as goal
 
 pub returns-in_default : goal.returns-in_default

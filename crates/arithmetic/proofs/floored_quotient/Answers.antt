@@ -1,8 +1,5 @@
 -- `arithmetic::floored_quotient` meets its contract: the quotient rounded down; by 0 there is none.
-use mathlib.Core.Path.{◌∙◌}
-use Rattle.meaning.specs.Arithmetic.{floor_quot_z}
-use Rattle.arithmetic.proofs.Machine.{bits_positive, bits-nonzero, bits_false, by_zero}
-use Rattle.arithmetic.proofs.Coded.{held-result}
+use Rattle.arithmetic.proofs.Machine.{bits_positive, bits-nonzero}
 use Rattle.arithmetic.proofs.Floored.{division-fits, lowered-fits, quotient-lowered, quotient-kept}
 use Rattle.arithmetic.proofs.floored_quotient.Goals as goal
 

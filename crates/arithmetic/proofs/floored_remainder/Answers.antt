@@ -1,8 +1,5 @@
 -- `arithmetic::floored_remainder` meets its contract: the remainder with the divisor's sign; by 0 there is none.
-use mathlib.Core.Path.{◌∙◌}
-use Rattle.meaning.specs.Arithmetic.{floor_rem_z}
-use Rattle.arithmetic.proofs.Machine.{bits_positive, bits-nonzero, bits_false, by_zero}
-use Rattle.arithmetic.proofs.Coded.{held-result}
+use Rattle.arithmetic.proofs.Machine.{bits_positive, bits-nonzero}
 use Rattle.arithmetic.proofs.Floored.{division-fits, moved-fits, remainder-moved, remainder-kept}
 use Rattle.arithmetic.proofs.floored_remainder.Goals as goal
 

@@ -1,8 +1,8 @@
 -- `arithmetic::quotient` meets its contract: "A quotient is cut toward zero"; by 0 there is none.
 use mathlib.Core.Path.{◌∙◌}
 use lib.Signed.{quot_z}
-use Rattle.arithmetic.proofs.Machine.{held_fits, held-exact, quot_z_fits, bits_positive, bits-nonzero, bits_false, by-nonzero, by_zero}
-use Rattle.arithmetic.proofs.Coded.{held-result, quotient-within}
+use Rattle.arithmetic.proofs.Machine.{held_fits, held-exact, quot_z_fits, bits_positive, bits-nonzero, by-nonzero}
+use Rattle.arithmetic.proofs.Coded.{quotient-within}
 use Rattle.arithmetic.proofs.quotient.Goals as goal
 
 pub nonzero_div-result : goal.nonzero_div-result

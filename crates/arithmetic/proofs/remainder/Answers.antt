@@ -1,8 +1,8 @@
 -- `arithmetic::remainder` meets its contract: "the remainder has the dividend's sign"; by 0 there is none.
 use mathlib.Core.Path.{◌∙◌}
 use lib.Signed.{quot_z, rem_z}
-use Rattle.arithmetic.proofs.Machine.{held_fits, held-exact, quot_z_fits, rem_z_fits, bits_positive, bits-nonzero, bits_false, by-nonzero, by_zero}
-use Rattle.arithmetic.proofs.Coded.{held-result, remainder-within}
+use Rattle.arithmetic.proofs.Machine.{held_fits, held-exact, quot_z_fits, rem_z_fits, bits_positive, bits-nonzero, by-nonzero}
+use Rattle.arithmetic.proofs.Coded.{remainder-within}
 use Rattle.arithmetic.proofs.remainder.Goals as goal
 
 pub nonzero_rem-result : goal.nonzero_rem-result

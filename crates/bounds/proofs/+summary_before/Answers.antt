@@ -1,9 +1,9 @@
 -- `bounds::summary_before` meets its contract, by recursion on the place where the part ends: each call is for a part that ends earlier, and each
 -- arm answers what the last node makes of the parts (Recursion), or what the prefixes at the end make of the part behind them (Prefixes).
-use Prim.Native.Nat.{ℕ, ◌-◌, ◌≤◌, zero-le, ◌<◌}
+use Prim.Native.Nat.{◌-◌, ◌≤◌, zero-le}
 use native.Mathlib.Omega.{arith}
 use mathlib.Core.Path.{refl, sym, ◌∙◌}
-use Rattle.nodes.specs.Evaluate.{Nodes, stored}
+use Rattle.nodes.specs.Evaluate.{stored}
 use Rattle.nodes.proofs.Parts.{left-before, stores-part}
 use Rattle.arithmetic.proofs.Operators.{later}
 use Rattle.bounds.proofs.Prefixes.{behind_prefixes, prefixes_last}

@@ -1,13 +1,12 @@
--- `bounds::floored_range` meets its contract, by the kind.
-use mathlib.Core.Path.{◌∙◌}
+-- `bounds::floored_range` meets its contract: the kind that is left is that of the remainder.
 use native.Mathlib.Omega.{arith}
-use Rattle.bounds.proofs.Ranges.{floored-around, floored-remainder}
+use mathlib.Core.Path.{◌≡◌, ◌∙◌, ap}
+use Rattle.meaning.specs.Arithmetic.{operator_interval}
+use Rattle.nodes.specs.Bounded.{operator_at}
+use Rattle.nodes.specs.Bounds.{range_within, interval_of}
 use Rattle.bounds.proofs.floored_range.Goals as goal
 
-pub returns-then-kind-eq-FLOORED_DIVIDE_NODE : goal.returns-then-kind-eq-FLOORED_DIVIDE_NODE
-returns-then-kind-eq-FLOORED_DIVIDE_NODE c = let s = c in c.around.ensures ∙ floored-around s.args.a s.args.b s.args.kind c.if-kind-eq-FLOORED_DIVIDE_NODE.true
-
-pub returns : goal.returns
-returns c =
-    let s = c in
-    c.floored_remainder_range.ensures ∙ floored-remainder s.args.a s.args.b s.args.kind (omega (arith, s.requires.0, s.requires.1, c.if-kind-eq-FLOORED_DIVIDE_NODE.false))
+pub returns-else-kind-eq-FLOORED_DIVIDE_NODE : goal.returns-else-kind-eq-FLOORED_DIVIDE_NODE
+returns-else-kind-eq-FLOORED_DIVIDE_NODE c =
+    let kind : 21 ≡ c.args.kind = omega arith in
+    c.floored_remainder_range.ensures ∙ ap (λ k. range_within (operator_interval (operator_at k) (interval_of c.args.a) (interval_of c.args.b))) kind

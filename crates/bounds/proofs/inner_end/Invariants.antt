@@ -4,6 +4,3 @@ use Rattle.bounds.proofs.inner_end.Given as goal
 
 abbrev pub invariant-loop-at : goal.invariant-loop-at
 invariant-loop-at l = Prefixes l.kinds l.at l.end
-
-abbrev pub decreases-loop-at : goal.decreases-loop-at
-decreases-loop-at l = l.at

@@ -2,7 +2,8 @@
 use Prim.Native.Nat.{◌≤◌}
 use mathlib.Core.Path.{◌≡◌, sym, ap, subst, ◌∙◌}
 use lib.ListN.{length, take, replicate, length-replicate}
-use Rattle.basics.proofs.Clearing.{cleared-all, zeroed}
+use borrow.Author.Rules.{rules}
+use Rattle.basics.proofs.Clearing.{zeroed}
 use Rattle.automaton.specs.Table.{no_state}
 use Rattle.automaton.specs.WellFormed.{most_rows, WholeTable}
 use Rattle.given_tables.specs.Given.{given_table}
@@ -13,7 +14,7 @@ use Rattle.carry.proofs.Outcome.{refused-outcome, not-refused, new-whole, filled
 use Rattle.carry.proofs.carry.Goals as goal
 
 pub returns-then-refusal-ne0 : goal.returns-then-refusal-ne0
-returns-then-refusal-ne0 c = refused-outcome c.tables_refusal-refusal.ensures c.if-refusal-ne0.true (cleared-all c.clear_entries.ensures)
+returns-then-refusal-ne0 c = refused-outcome c.tables_refusal-refusal.ensures c.if-refusal-ne0.true (c.fill.ensures.after (search rules))
 
 pub slice_bounds-states-end : goal.slice_bounds-states-end
 slice_bounds-states-end c =
@@ -43,7 +44,7 @@ fill_list-requires c =
     let long = states-long in
     record {
       whole_table = subst (λ n. WholeTable start.args.letters n start.args.entries.now) (sym long) s.old_fit.well_formed.whole;
-      by_index = ((length start.args.new_finals.now, new-whole s), states-none ∙ ap (λ n. replicate n no_state) (sym long), zeroed (cleared-all c.clear_entries.ensures) (sym c.clear_entries.auto.list));
+      by_index = ((length start.args.new_finals.now, new-whole s), states-none ∙ ap (λ n. replicate n no_state) (sym long), zeroed (c.fill.ensures.after (search rules)) (sym c.fill.auto.self));
     }
 
 pub returns : goal.returns
@@ -59,4 +60,4 @@ returns c =
     filled-outcome (same)
     (subst (λ n. ListFilled start.args.letters start.args.entries.now start.args.new_entries.now n (length start.args.list.now) answer.result list) (states-long)
     (subst (λ m. ListFilled start.args.letters start.args.entries.now start.args.new_entries.now (length (take (length start.args.finals.now) (replicate most_rows no_state))) m answer.result list)
-    c.clear_entries.auto.list answer.ensures))
+    c.fill.auto.self answer.ensures))

@@ -1,6 +1,5 @@
 -- `carry::carry_row` meets its contract: in the row at the head, before each letter, the turn of the queue holds (`RowTurn`).
 use Prim.Native.Nat.{ℕ, ◌+◌, ◌*◌, ◌≤◌, ◌<◌}
-use mathlib.Core.Path.{refl}
 use native.Mathlib.Omega.{arith}
 use lib.ListN.{length}
 use Rattle.basics.specs.Lists.{at}
@@ -92,20 +91,15 @@ offset_bounds-new_entries-new_start c = omega (arith, new_place (goal.at.offset_
 pub bounds-new_entries-new_start : goal.bounds-new_entries-new_start
 bounds-new_entries-new_start c = new_place (goal.at.bounds-new_entries-new_start c).Start c.loop-letter.letter c.loop-letter-test.true
 
-pub carry_entry-met-requires : goal.carry_entry-met-requires
-carry_entry-met-requires c = row_turn_place c.requires.whole_table c.requires.by_index.1 c.loop-letter.invariant c.loop-letter-test.true
+pub carry_entry-requires : goal.carry_entry-requires
+carry_entry-requires c = row_turn_place c.requires.whole_table c.requires.by_index.1 c.loop-letter.invariant c.loop-letter-test.true
 
-pub returns-then-met-eq0 : goal.returns-then-met-eq0
-returns-then-met-eq0 c = stops refl (row_turn_lacks c.requires.whole_table c.requires.by_index.1 c.loop-letter.invariant c.loop-letter-test.true c.carry_entry-met.ensures c.if-met-eq0.true)
-
-pub overflow_add-letter : goal.overflow_add-letter
-overflow_add-letter c = omega (arith, c.loop-letter-test.true)
-
-pub loop-letter-smaller : goal.loop-letter-smaller
-loop-letter-smaller c = omega (arith, c.loop-letter-test.true)
+pub returns-in_err-met : goal.returns-in_err-met
+returns-in_err-met c =
+    rw c.from_residual.ensures (stops (row_turn_lacks c.requires.whole_table c.requires.by_index.1 c.loop-letter.invariant c.loop-letter-test.true c.in_err-met.ensures))
 
 pub loop-letter-preserved : goal.loop-letter-preserved
-loop-letter-preserved c = row_turn_next c.requires.whole_table c.requires.by_index.1 c.loop-letter.invariant c.loop-letter-test.true c.carry_entry-met.ensures c.if-met-eq0.false
+loop-letter-preserved c = row_turn_next c.requires.whole_table c.requires.by_index.1 c.loop-letter.invariant c.loop-letter-test.true c.in_ok-met.ensures
 
 pub returns : goal.returns
 returns c = row-turn-end c.loop-letter-test.false c.loop-letter.invariant

@@ -1,19 +1,14 @@
 -- `cases::nonzero_bytes` meets its contract: before a place as many are counted as are not 0 (Nonzeros).
-use Rattle.std.proofs.Common.{◌-◌, arith}
+use Rattle.std.proofs.Common.{◌≤◌, [], ◌∷◌, length, ◌∙◌, ap, arith}
+use Rattle.cases.specs.Cases.{nonzeros}
 use Rattle.cases.proofs.Nonzeros.{counted-all, counted_next, count-within}
 use Rattle.cases.proofs.nonzero_bytes.Goals as goal
 
-pub loop-i-init : goal.loop-i-init
-loop-i-init c = omega arith
-
-pub overflow_cast-table : goal.overflow_cast-table
-overflow_cast-table c = omega (arith, c.type_inv.table c.loop-i.i)
-
 pub overflow_add-count : goal.overflow_add-count
-overflow_add-count c = omega (arith, count-within _ _ _ c.loop-i.invariant _ c.loop-i-test.true c.one_if-count.ensures)
+overflow_add-count c = omega (arith, count-within _ _ _ c.loop-byte.invariant _ (omega arith) (c.one_if-count.ensures ∙ ap (λ n. nonzeros (n ∷ [])) c.from.ensures))
 
-pub loop-i-preserved : goal.loop-i-preserved
-loop-i-preserved c = counted_next _ _ _ c.loop-i.invariant _ c.loop-i-test.true c.one_if-count.ensures
+pub loop-byte-preserved : goal.loop-byte-preserved
+loop-byte-preserved c = counted_next _ _ _ c.loop-byte.invariant _ (omega arith) (c.one_if-count.ensures ∙ ap (λ n. nonzeros (n ∷ [])) c.from.ensures)
 
 pub returns : goal.returns
-returns c = counted-all _ _ _ c.loop-i.invariant c.loop-i-test.false
+returns c = let end : length c.args.table.now ≤ c.loop-byte.byte-index = omega arith in counted-all _ _ _ c.loop-byte.invariant end

@@ -1,10 +1,6 @@
 -- `cases::nonzero_entries` meets its contract: before a place as many are counted as are not 0 (Nonzeros).
-use Rattle.std.proofs.Common.{◌-◌, length}
 use Rattle.cases.proofs.Nonzeros.{CountedTo}
 use Rattle.cases.proofs.nonzero_entries.Given as goal
 
-abbrev pub invariant-loop-i : goal.invariant-loop-i
-invariant-loop-i l = CountedTo l.table l.i l.count
-
-abbrev pub decreases-loop-i : goal.decreases-loop-i
-decreases-loop-i l = length l.table - l.i
+abbrev pub invariant-loop-entry : goal.invariant-loop-entry
+invariant-loop-entry l = CountedTo l.table l.entry-index l.count

@@ -4,4 +4,4 @@ use Rattle.cases.proofs.Counted.{is-taken}
 use Rattle.cases.proofs.words_lent.Goals as goal
 
 pub returns : goal.returns
-returns c = is-taken _ _ _ (omega (arith, c.fewer.ensures, c.number.ensures))
+returns c = is-taken _ _ _ (omega (arith, c.min.ensures, c.number.ensures))

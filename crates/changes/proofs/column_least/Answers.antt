@@ -41,12 +41,6 @@ bounds-row-from-in-loop-value c =
     let place : let a = c.args in a.from + c.loop-value.value * a.stride < length a.row.now = c.requires.1 c.loop-value.value c.loop-value-test.true in
     place
 
-pub overflow_add-value : goal.overflow_add-value
-overflow_add-value c = omega arith
-
-pub loop-value-smaller : goal.loop-value-smaller
-loop-value-smaller c = omega arith
-
 pub loop-value-preserved : goal.loop-value-preserved
 loop-value-preserved c =
     let turn = c.loop-value in

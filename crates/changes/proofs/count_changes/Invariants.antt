@@ -7,6 +7,3 @@ use Rattle.changes.proofs.count_changes.Given as goal
 
 abbrev pub invariant-loop-stream : goal.invariant-loop-stream
 invariant-loop-stream l = (l.stream ≤ l.initial.stream) × (length l.row ≡ length l.initial.row) × CountedFrom l.shape l.initial.stream l.stream l.stride l.letter l.row
-
-abbrev pub decreases-loop-stream : goal.decreases-loop-stream
-decreases-loop-stream l = l.stream

@@ -35,12 +35,6 @@ lower_column-requires c =
     omega (arith, inside, start.requires.1, c.loop-offset.invariant.1.same_length)) in
     (omega arith, column)
 
-pub overflow_add-offset : goal.overflow_add-offset
-overflow_add-offset c = omega arith
-
-pub loop-offset-smaller : goal.loop-offset-smaller
-loop-offset-smaller c = omega arith
-
 pub loop-offset-preserved : goal.loop-offset-preserved
 loop-offset-preserved c =
     let start = c in

@@ -40,12 +40,6 @@ bounds-row-place-in-loop-value c =
     let place : let a = c.args in a.from + c.loop-value.value * a.stride < length c.loop-value.row = omega (arith, c.requires.1 c.loop-value.value c.loop-value-test.true, c.loop-value.invariant.1.same_length) in
     place
 
-pub overflow_add-value : goal.overflow_add-value
-overflow_add-value c = omega arith
-
-pub loop-value-smaller : goal.loop-value-smaller
-loop-value-smaller c = omega arith
-
 pub loop-value-preserved : goal.loop-value-preserved
 loop-value-preserved c =
     let place : let a = c.args in a.from + c.loop-value.value * a.stride < length c.loop-value.row = omega (arith, c.requires.1 c.loop-value.value c.loop-value-test.true, c.loop-value.invariant.1.same_length) in

@@ -23,34 +23,28 @@ returns-then-not-makes c =
     let no = says_no c.if-not-makes.true c.makes.ensures in
     record { same_length = refl; lowered = λ e a h. absurd (no (omega arith, e)); kept = λ n. refl }
 
-pub fewer-stream-requires : goal.fewer-stream-requires
-fewer-stream-requires c = tt
-
 pub loop-stream-init : goal.loop-stream-init
-loop-stream-init c = let a = c.args in (omega arith, refl, passes-start a.shape c.fewer-stream.result a.row.now)
-
-pub overflow_sub-stream : goal.overflow_sub-stream
-overflow_sub-stream c = omega arith
+loop-stream-init c = let a = c.args in (omega arith, refl, passes-start a.shape c.min-stream.result a.row.now)
 
 pub value_count-size-requires : goal.value_count-size-requires
-value_count-size-requires c = omega (arith, c.fewer-stream.ensures)
+value_count-size-requires c = omega (arith, c.min-stream.ensures)
 
 pub is_set-requires : goal.is_set-requires
-is_set-requires c = omega (arith, c.fewer-stream.ensures)
+is_set-requires c = omega (arith, c.min-stream.ensures)
 
 pub lower_stream-requires : goal.lower_stream-requires
 lower_stream-requires c =
-    let all : let a = c.args in (0 < length a.row.now) × (before a.shape c.fewer-stream.result ≡ length a.row.now) = (let made = c.makes in
+    let all : let a = c.args in (0 < length a.row.now) × (before a.shape c.min-stream.result ≡ length a.row.now) = (let made = c.makes in
     let m = says_yes c.if-not-makes.false made.ensures in
-    (m.0, ap (before c.args.shape) c.fewer-stream.ensures ∙ m.1)) in
+    (m.0, ap (before c.args.shape) c.min-stream.ensures ∙ m.1)) in
     let whole : let start = c in
     length start.args.row.now ≡ before start.args.shape (c.loop-stream.stream - 1) * (c.value_count-size.result * c.loop-stream.stride) = (let a = c.args in
     let turn = c.loop-stream in
     let known = all in
-    whole_blocks a.shape c.fewer-stream.result known.1 known.0 turn.stream c.loop-stream-test.true turn.invariant.0
+    whole_blocks a.shape c.min-stream.result known.1 known.0 turn.stream c.loop-stream-test.true turn.invariant.0
     ∙ ap₂ (λ z k. before a.shape (turn.stream - 1) * (z * k)) (sym c.value_count-size.ensures) (sym turn.invariant.2.strides)) in
     let a = c.args in
-    let n = c.fewer-stream.result in
+    let n = c.min-stream.result in
     let turn = c.loop-stream in
     let known = all in
     let values = some-values a.shape n known.1 known.0 turn.stream c.loop-stream-test.true turn.invariant.0 in
@@ -63,14 +57,14 @@ lower_stream-requires c =
 
 pub overflow_mul-stride : goal.overflow_mul-stride
 overflow_mul-stride c =
-    let all : let a = c.args in (0 < length a.row.now) × (before a.shape c.fewer-stream.result ≡ length a.row.now) = (let made = c.makes in
+    let all : let a = c.args in (0 < length a.row.now) × (before a.shape c.min-stream.result ≡ length a.row.now) = (let made = c.makes in
     let m = says_yes c.if-not-makes.false made.ensures in
-    (m.0, ap (before c.args.shape) c.fewer-stream.ensures ∙ m.1)) in
+    (m.0, ap (before c.args.shape) c.min-stream.ensures ∙ m.1)) in
     let whole : let start = c in
     length start.args.row.now ≡ before start.args.shape (c.loop-stream.stream - 1) * (c.value_count-size.result * c.loop-stream.stride) = (let a = c.args in
     let turn = c.loop-stream in
     let known = all in
-    whole_blocks a.shape c.fewer-stream.result known.1 known.0 turn.stream c.loop-stream-test.true turn.invariant.0
+    whole_blocks a.shape c.min-stream.result known.1 known.0 turn.stream c.loop-stream-test.true turn.invariant.0
     ∙ ap₂ (λ z k. before a.shape (turn.stream - 1) * (z * k)) (sym c.value_count-size.ensures) (sym turn.invariant.2.strides)) in
     let up = c in
     let a = up.args in
@@ -78,23 +72,20 @@ overflow_mul-stride c =
     let blocks = before a.shape (up.loop-stream.stream - 1) in
     omega (arith, block_inside 0 blocks width (omega (arith, zero-mul width, whole, (all).0)), zero-mul width, whole)
 
-pub loop-stream-smaller : goal.loop-stream-smaller
-loop-stream-smaller c = omega arith
-
 pub loop-stream-preserved : goal.loop-stream-preserved
 loop-stream-preserved c =
-    let all : let a = c.args in (0 < length a.row.now) × (before a.shape c.fewer-stream.result ≡ length a.row.now) = (let made = c.makes in
+    let all : let a = c.args in (0 < length a.row.now) × (before a.shape c.min-stream.result ≡ length a.row.now) = (let made = c.makes in
     let m = says_yes c.if-not-makes.false made.ensures in
-    (m.0, ap (before c.args.shape) c.fewer-stream.ensures ∙ m.1)) in
+    (m.0, ap (before c.args.shape) c.min-stream.ensures ∙ m.1)) in
     let whole : let start = c in
     length start.args.row.now ≡ before start.args.shape (c.loop-stream.stream - 1) * (c.value_count-size.result * c.loop-stream.stride) = (let a = c.args in
     let turn = c.loop-stream in
     let known = all in
-    whole_blocks a.shape c.fewer-stream.result known.1 known.0 turn.stream c.loop-stream-test.true turn.invariant.0
+    whole_blocks a.shape c.min-stream.result known.1 known.0 turn.stream c.loop-stream-test.true turn.invariant.0
     ∙ ap₂ (λ z k. before a.shape (turn.stream - 1) * (z * k)) (sym c.value_count-size.ensures) (sym turn.invariant.2.strides)) in
     let up = c in
     let a = up.args in
-    let n = up.fewer-stream.result in
+    let n = up.min-stream.result in
     let turn = up.loop-stream in
     let blocks = before a.shape (turn.stream - 1) in
     let next = c.lower_stream.new.row in
@@ -109,17 +100,17 @@ loop-stream-preserved c =
 
 pub returns : goal.returns
 returns c =
-    let all : let a = c.args in (0 < length a.row.now) × (before a.shape c.fewer-stream.result ≡ length a.row.now) = (let made = c.makes in
+    let all : let a = c.args in (0 < length a.row.now) × (before a.shape c.min-stream.result ≡ length a.row.now) = (let made = c.makes in
     let m = says_yes c.if-not-makes.false made.ensures in
-    (m.0, ap (before c.args.shape) c.fewer-stream.ensures ∙ m.1)) in
+    (m.0, ap (before c.args.shape) c.min-stream.ensures ∙ m.1)) in
     let a = c.args in
     let turn = c.loop-stream in
-    let n = c.fewer-stream.result in
+    let n = c.min-stream.result in
     let end : turn.stream ≡ 0 = omega arith in
     let passed = subst (λ (x : ℕ). PassesFrom a.shape n x turn.stride a.row.now turn.row) end turn.invariant.2 in
     let known = all in
     record {
       same_length = turn.invariant.1;
-      lowered = λ e b h. subst (λ (m : ℕ). IsLeastFrom (axes_from a.shape 0 m) (at a.row.now) b (at turn.row b)) c.fewer-stream.ensures (passes-end a.shape n passed b (omega (arith, known.1)));
-      kept = λ ne. absurd (ne (ap (before a.shape) (sym c.fewer-stream.ensures) ∙ known.1));
+      lowered = λ e b h. subst (λ (m : ℕ). IsLeastFrom (axes_from a.shape 0 m) (at a.row.now) b (at turn.row b)) c.min-stream.ensures (passes-end a.shape n passed b (omega (arith, known.1)));
+      kept = λ ne. absurd (ne (ap (before a.shape) (sym c.min-stream.ensures) ∙ known.1));
     }

@@ -7,6 +7,3 @@ use Rattle.changes.proofs.makes.Given as goal
 
 abbrev pub invariant-loop-stream : goal.invariant-loop-stream
 invariant-loop-stream l = (l.stream ≤ l.initial.stream) × (l.made ≡ letter_total (later l.shape l.initial.stream l.stream))
-
-abbrev pub decreases-loop-stream : goal.decreases-loop-stream
-decreases-loop-stream l = l.stream

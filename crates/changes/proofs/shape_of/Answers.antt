@@ -53,9 +53,6 @@ offset_bounds-sizes-i c = omega arith
 pub bounds-sizes-i : goal.bounds-sizes-i
 bounds-sizes-i c = omega arith
 
-pub loop-i-smaller : goal.loop-i-smaller
-loop-i-smaller c = omega arith
-
 pub loop-i-preserved : goal.loop-i-preserved
 loop-i-preserved c =
     let lows-long : length c.args.streams.lows ≡ 8 = search rules in

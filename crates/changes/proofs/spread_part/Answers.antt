@@ -43,12 +43,6 @@ bounds-row-from c =
     let place : c.args.from + c.loop-offset.offset < length c.loop-offset.row = omega (arith, c.requires.1, c.loop-offset.invariant.1.same_length) in
     place
 
-pub overflow_add-offset : goal.overflow_add-offset
-overflow_add-offset c = omega arith
-
-pub loop-offset-smaller : goal.loop-offset-smaller
-loop-offset-smaller c = omega arith
-
 pub loop-offset-preserved : goal.loop-offset-preserved
 loop-offset-preserved c =
     let place : c.args.from + c.loop-offset.offset < length c.loop-offset.row = omega (arith, c.requires.1, c.loop-offset.invariant.1.same_length) in

@@ -11,9 +11,6 @@ use Rattle.changes.proofs.spread_stream.Goals as goal
 pub loop-value-init : goal.loop-value-init
 loop-value-init c = let a = c.args in (omega arith, stream-start a.is_set a.size a.stride a.own a.row.now)
 
-pub overflow_sub-value : goal.overflow_sub-value
-overflow_sub-value c = omega arith
-
 pub overflow_mul-value : goal.overflow_mul-value
 overflow_mul-value c =
     let part : (c.loop-value.value - 1) * c.args.stride + c.args.stride ≤ length c.loop-value.row = (let start = c in
@@ -35,9 +32,6 @@ spread_part-requires c =
       omega (arith, c.change.ensures, change-most a.is_set a.own (turn.value - 1)),
       λ o h. omega (arith, turn.invariant.1.front c.loop-value-test.true o h, start.requires.1 o h),
     )
-
-pub loop-value-smaller : goal.loop-value-smaller
-loop-value-smaller c = omega arith
 
 pub loop-value-preserved : goal.loop-value-preserved
 loop-value-preserved c =

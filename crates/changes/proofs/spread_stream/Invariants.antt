@@ -5,6 +5,3 @@ use Rattle.changes.proofs.spread_stream.Given as goal
 
 abbrev pub invariant-loop-value : goal.invariant-loop-value
 invariant-loop-value l = (l.value ≤ l.size) × SpreadsStream l.is_set l.size l.stride l.own l.value l.initial.row l.row
-
-abbrev pub decreases-loop-value : goal.decreases-loop-value
-decreases-loop-value l = l.value

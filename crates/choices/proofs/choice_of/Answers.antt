@@ -16,8 +16,8 @@ values_in-size-requires c =
     let stream-there : (c.loop-i.i - 1 < c.args.streams.count) × (c.loop-i.i - 1 < 8) = (omega (arith, c.loop-i.invariant.inside, c.loop-i-test.true), omega (arith, c.loop-i.invariant.inside, c.loop-i-test.true, c.requires.few_streams)) in
     (stream-there).1
 
-pub bounds-kinds-i : goal.bounds-kinds-i
-bounds-kinds-i c =
+pub bounds-streams-i : goal.bounds-streams-i
+bounds-streams-i c =
     let stream-there : (c.loop-i.i - 1 < c.args.streams.count) × (c.loop-i.i - 1 < 8) = (omega (arith, c.loop-i.invariant.inside, c.loop-i-test.true), omega (arith, c.loop-i.invariant.inside, c.loop-i-test.true, c.requires.few_streams)) in
     (stream-there).1
 
@@ -74,9 +74,6 @@ nonzero_div-rest c =
     let stream-there : (c.loop-i.i - 1 < c.args.streams.count) × (c.loop-i.i - 1 < 8) = (omega (arith, c.loop-i.invariant.inside, c.loop-i-test.true), omega (arith, c.loop-i.invariant.inside, c.loop-i-test.true, c.requires.few_streams)) in
     let exact : (c.values_in-size.result ≡ size (stream_in c.args.streams (c.loop-i.i - 1)).range) × (0 < c.values_in-size.result) = size_exact c.args.streams c.requires (c.loop-i.i - 1) (stream-there).0 c.values_in-size.ensures in
     (exact).1
-
-pub loop-i-smaller : goal.loop-i-smaller
-loop-i-smaller c = omega (arith, c.loop-i-test.true)
 
 pub loop-i-preserved : goal.loop-i-preserved
 loop-i-preserved c =

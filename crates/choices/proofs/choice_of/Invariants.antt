@@ -4,6 +4,3 @@ use Rattle.choices.proofs.choice_of.Given as goal
 
 abbrev pub invariant-loop-i : goal.invariant-loop-i
 invariant-loop-i l = DigitsTaken l.streams l.letter l.i l.rest l.number l.count
-
-abbrev pub decreases-loop-i : goal.decreases-loop-i
-decreases-loop-i l = l.i

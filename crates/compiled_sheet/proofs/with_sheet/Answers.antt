@@ -7,7 +7,7 @@ returns-then-compiled-eq0 c =
     let start = c in
     sheet-told start.args.sheet start.args.compiled c.if-compiled-eq0.true c.stored_streams.ensures c.with_streams.ensures
 
-pub returns : goal.returns
-returns c =
+pub returns-else-compiled-eq0 : goal.returns-else-compiled-eq0
+returns-else-compiled-eq0 c =
     let start = c in
-    refused-told start.args.sheet start.args.compiled c.if-compiled-eq0.false c.no_streams.ensures c.with_streams-2.ensures
+    refused-told start.args.sheet start.args.compiled c.if-compiled-eq0.false c.none.ensures c.with_streams-else-compiled-eq0.ensures

@@ -12,18 +12,6 @@ use Rattle.counts_text.proofs.append_line.Goals as goal
 pub returns-then-out-at : goal.returns-then-out-at
 returns-then-out-at c = no_place c.args.out.now c.if-out-at.true c.requires
 
-pub shown-requires : goal.shown-requires
-shown-requires c = tt
-
-pub shown-requires-2 : goal.shown-requires-2
-shown-requires-2 c = tt
-
-pub shown-requires-3 : goal.shown-requires-3
-shown-requires-3 c = tt
-
-pub numbers_line-requires : goal.numbers_line-requires
-numbers_line-requires c = tt
-
 pub overflow_add-result : goal.overflow_add-result
 overflow_add-result c =
     let a = c.args in

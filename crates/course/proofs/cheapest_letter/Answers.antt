@@ -60,12 +60,6 @@ offset_bounds-changes-letter c = omega (arith, c.requires.finals_len.4)
 pub bounds-changes-letter : goal.bounds-changes-letter
 bounds-changes-letter c = omega (arith, c.requires.finals_len.4)
 
-pub overflow_add-letter : goal.overflow_add-letter
-overflow_add-letter c = omega arith
-
-pub loop-letter-smaller : goal.loop-letter-smaller
-loop-letter-smaller c = omega arith
-
 pub loop-letter-preserved : goal.loop-letter-preserved
 loop-letter-preserved c =
     let table : Layered = let a = c.args in layered_in a.letters a.entries.now a.finals.now a.layers.now a.goal in

@@ -13,9 +13,6 @@ use Rattle.course.proofs.find_costs.Goals as goal
 pub loop-left-init : goal.loop-left-init
 loop-left-init c = (omega arith, refl, known_start c.requires.queue)
 
-pub overflow_sub-left : goal.overflow_sub-left
-overflow_sub-left c = omega arith
-
 pub offset_bounds-queue-left : goal.offset_bounds-queue-left
 offset_bounds-queue-left c =
     let place : c.loop-left.left - 1 < c.args.met.count = omega arith in
@@ -55,9 +52,6 @@ find_row-requires c =
     let turn = c.loop-left in
     record { whole_table = start.requires.whole_table; finals_len = (sizes.0, omega (arith, sizes.2, turn.invariant.1), row_inside, omega (arith, c.if-layers-row.true, sizes.3), sizes.4) }
 
-pub loop-left-smaller-then-layers-row : goal.loop-left-smaller-then-layers-row
-loop-left-smaller-then-layers-row c = omega arith
-
 pub loop-left-preserved-then-layers-row : goal.loop-left-preserved-then-layers-row
 loop-left-preserved-then-layers-row c =
     let start = c in
@@ -68,9 +62,6 @@ loop-left-preserved-then-layers-row c =
       found.same_length ∙ turn.invariant.1,
       known_more start.requires.queue sizes.4 (axes_few start.args.shape) sizes.3 (whole-entries start.requires.whole_table) c.loop-left-test.true turn.invariant.0 c.if-layers-row.true turn.invariant.2 found,
     )
-
-pub loop-left-smaller : goal.loop-left-smaller
-loop-left-smaller c = omega arith
 
 pub loop-left-preserved : goal.loop-left-preserved
 loop-left-preserved c =

@@ -10,6 +10,3 @@ use Rattle.course.proofs.find_costs.Given as goal
 
 abbrev pub invariant-loop-left : goal.invariant-loop-left
 invariant-loop-left l = (l.left ≤ l.initial.left) × (length l.costs ≡ length l.initial.costs) × KnownFrom (axes_in l.shape) (layered_in l.letters l.entries l.finals l.layers l.goal) (at l.queue) l.initial.left l.left l.costs
-
-abbrev pub decreases-loop-left : goal.decreases-loop-left
-decreases-loop-left l = l.left

@@ -101,12 +101,6 @@ overflow_cast-row c =
 pub count_changes-requires : goal.count_changes-requires
 count_changes-requires c = tt
 
-pub overflow_add-taken : goal.overflow_add-taken
-overflow_add-taken c = omega arith
-
-pub loop-taken-smaller : goal.loop-taken-smaller
-loop-taken-smaller c = omega arith
-
 pub loop-taken-preserved : goal.loop-taken-preserved
 loop-taken-preserved c =
     let table : Layered = let a = c.args in layered_in a.letters a.entries.now a.finals.now a.layers.now a.goal in

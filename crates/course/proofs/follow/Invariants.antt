@@ -1,6 +1,6 @@
 -- `course::follow` meets its contract: before each turn the letters so far are written (`Following`).
 use mathlib.Core.Path.{◌≡◌}
-use Prim.Native.Nat.{◌≤◌, ◌-◌}
+use Prim.Native.Nat.{◌≤◌}
 use lib.ListN.{length}
 use Rattle.changes.specs.Axes.{axes_in}
 use Rattle.course.specs.Costs.{layered_in}
@@ -9,6 +9,3 @@ use Rattle.course.proofs.follow.Given as goal
 
 abbrev pub invariant-loop-taken : goal.invariant-loop-taken
 invariant-loop-taken l = (l.taken ≤ l.end) × (length l.changes ≡ l.letters) × Following (axes_in l.shape) (layered_in l.letters l.entries l.finals l.layers l.goal) l.costs l.start l.initial.list l.list l.changes l.row l.taken
-
-abbrev pub decreases-loop-taken : goal.decreases-loop-taken
-decreases-loop-taken l = l.end - l.taken

@@ -70,12 +70,6 @@ bounds-costs-start c =
     let place : let a = c.args in a.row * a.letters + c.loop-letter.letter < length c.loop-letter.costs = omega (arith, row_inside, c.loop-letter.invariant.1.same_length) in
     place
 
-pub overflow_add-letter : goal.overflow_add-letter
-overflow_add-letter c = omega arith
-
-pub loop-letter-smaller : goal.loop-letter-smaller
-loop-letter-smaller c = omega arith
-
 pub loop-letter-preserved : goal.loop-letter-preserved
 loop-letter-preserved c =
     let table : Layered = let a = c.args in layered_in a.letters a.entries.now a.finals.now a.layers.now a.goal in

@@ -65,12 +65,6 @@ bounds-entries-start c = place (goal.at.bounds-entries-start c).Start c.loop-let
 pub meet-met-requires : goal.meet-met-requires
 meet-met-requires c = let start = c in row_turn_room start.requires.whole_table start.requires.queue_len.0 c.loop-letter.invariant c.loop-letter-test.true
 
-pub overflow_add-letter : goal.overflow_add-letter
-overflow_add-letter c = omega arith
-
-pub loop-letter-smaller : goal.loop-letter-smaller
-loop-letter-smaller c = omega arith
-
 pub loop-letter-preserved : goal.loop-letter-preserved
 loop-letter-preserved c =
     let start = c in

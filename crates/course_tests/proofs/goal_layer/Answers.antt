@@ -8,36 +8,22 @@ use lib.ListN.{length}
 use Rattle.basics.specs.Lists.{at}
 use Rattle.automaton.specs.Stored.{final_at}
 use Rattle.course_tests.specs.Goal.{IsGoalBelow}
-use Rattle.course_tests.proofs.Goal.{goal-beyond}
+use Rattle.course_tests.proofs.Goal.{goal-kept, goal-least, goal-beyond}
 use Rattle.course_tests.proofs.goal_layer.Goals as goal
+use Rattle.course_tests.proofs.goal_layer.Goals.{then-finals-row-eq1, else-finals-row-eq1}
 
 pub loop-row-init : goal.loop-row-init
-loop-row-init c = (omega arith, record { least = λ i h. absurd (omega arith); attained = inl refl })
+loop-row-init c = record { least = λ i h. absurd (omega arith); attained = inl refl }
 
-pub bounds-finals-row : goal.bounds-finals-row
-bounds-finals-row c = omega (arith, c.fewer-rows.ensures)
-
-pub offset_bounds-layers-row : goal.offset_bounds-layers-row
-offset_bounds-layers-row c = omega (arith, c.fewer-rows.ensures)
-
-pub bounds-layers-row : goal.bounds-layers-row
-bounds-layers-row c = omega (arith, c.fewer-rows.ensures)
-
-pub offset_bounds-layers-row-then-layers-row : goal.offset_bounds-layers-row-then-layers-row
-offset_bounds-layers-row-then-layers-row c = omega (arith, c.fewer-rows.ensures)
-
-pub bounds-layers-row-then-layers-row : goal.bounds-layers-row-then-layers-row
-bounds-layers-row-then-layers-row c = omega (arith, c.fewer-rows.ensures)
-
-pub overflow_add-row : goal.overflow_add-row
-overflow_add-row c = omega arith
-
-pub loop-row-smaller : goal.loop-row-smaller
-loop-row-smaller c = omega arith
+pub loop-row-preserved : goal.loop-row-preserved
+loop-row-preserved c = elim c.if-finals-row-eq1.branch [
+  | then-finals-row-eq1 w ↦ rw w.goal-is (goal-least c.loop-row.invariant w.if-finals-row-eq1.true w.min-goal.ensures)
+  | else-finals-row-eq1 w ↦ rw w.goal-is (goal-kept c.loop-row.invariant (λ e. absurd (w.if-finals-row-eq1.false e)))
+]
 
 pub returns : goal.returns
 returns c =
     let a = c.args in
-    let end : c.loop-row.row ≡ min (length a.layers.now) (length a.finals.now) = omega (arith, c.fewer-rows.ensures) in
+    let end : c.loop-row.row ≡ min (length a.layers.now) (length a.finals.now) = omega (arith, c.min-row-end.ensures, c.loop-row-test.false) in
     goal-beyond a.finals.now
-    (subst (λ (m : ℕ). IsGoalBelow (final_at a.finals.now) (at a.layers.now) m c.loop-row.goal) end c.loop-row.invariant.1)
+    (subst (λ (m : ℕ). IsGoalBelow (final_at a.finals.now) (at a.layers.now) m c.loop-row.goal) end c.loop-row.invariant)

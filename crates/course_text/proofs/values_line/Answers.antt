@@ -18,17 +18,17 @@ slice_bounds-values-end c =
     let a = c.args in
     let h = few_streams a.lows.now a.highs.now a.letter (sym c.letter_values.ensures.0 ∙ c.if-not-letter_values.false) in
     let k : length c.letter_values.new.out ≡ 8 = c.letter_values.auto.out in
-    omega (arith, c.fewer-streams.ensures)
+    omega (arith, c.min-streams.ensures)
 
 pub slice_bounds-numbers_line-end : goal.slice_bounds-numbers_line-end
 slice_bounds-numbers_line-end c =
     let a = c.args in
     let h = few_streams a.lows.now a.highs.now a.letter (sym c.letter_values.ensures.0 ∙ c.if-not-letter_values.false) in
     let k : length c.letter_values.new.out ≡ 8 = c.letter_values.auto.out in
-    sym (length-take-le _ _ (omega (arith, c.fewer-streams.ensures)))
+    sym (length-take-le _ _ (omega (arith, c.min-streams.ensures)))
 
 pub returns : goal.returns
 returns c =
     let a = c.args in
     appends_same c.numbers_line.ensures
-    (values-there a.lows.now a.highs.now a.letter (sym c.letter_values.ensures.0 ∙ c.if-not-letter_values.false) c.fewer-streams.ensures (replicate 8 (pos 0)) refl c.letter_values.ensures.1)
+    (values-there a.lows.now a.highs.now a.letter (sym c.letter_values.ensures.0 ∙ c.if-not-letter_values.false) c.min-streams.ensures (replicate 8 (pos 0)) refl c.letter_values.ensures.1)

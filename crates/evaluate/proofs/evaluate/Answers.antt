@@ -8,21 +8,19 @@ use Rattle.arithmetic.proofs.Coded.{held-result}
 use Rattle.evaluate.proofs.Leaves.{not_leaf}
 use Rattle.evaluate.proofs.Recursion.{HasArrays, leaf_before, stored_arm, no_node, no_place, root_value}
 use Rattle.evaluate.proofs.evaluate.Goals as goal
+use Rattle.evaluate.proofs.evaluate.Goals.{then-root-ge1024-via-then-root-ge1024, then-root-ge1024-via-else-root-ge1024+then-count-place}
 
 pub returns-then-root-ge1024 : goal.returns-then-root-ge1024
 returns-then-root-ge1024 c =
     let N : Nodes = stored c.args.kinds.now c.args.values.now c.args.starts.now in
     let W : View = view c.args.window.now c.args.streams c.args.firsts.now c.args.whole in
     let arrays : HasArrays N = record { kinds = omega arith; values = omega arith; starts = omega arith } in
-    held-result (record { sfits = c.no_value_coded.type_inv }) (c.no_value_coded.ensures ∙ ap coded (no_node arrays W c.args.root c.args.place c.if-root-ge1024.true))
-
-pub returns-then-count-place : goal.returns-then-count-place
-returns-then-count-place c =
-    let N : Nodes = stored c.args.kinds.now c.args.values.now c.args.starts.now in
-    let W : View = view c.args.window.now c.args.streams c.args.firsts.now c.args.whole in
-    let arrays : HasArrays N = record { kinds = omega arith; values = omega arith; starts = omega arith } in
-    held-result (record { sfits = c.no_value_coded-then-count-place.type_inv })
-    (c.no_value_coded-then-count-place.ensures ∙ ap coded (no_place arrays W c.args.root c.args.place c.if-root-ge1024.false c.places-count.ensures c.if-count-place.true))
+    held-result (record { sfits = c.no_value_coded.type_inv })
+    (c.no_value_coded.ensures
+    ∙ ap coded (elim c.then-root-ge1024.branch [
+      | then-root-ge1024-via-then-root-ge1024 w ↦ no_node arrays W c.args.root c.args.place w.if-root-ge1024.true
+      | then-root-ge1024-via-else-root-ge1024+then-count-place w ↦ no_place arrays W c.args.root c.args.place w.if-root-ge1024.false c.places-count.ensures w.if-count-place.true
+    ]))
 
 pub returns-then-is_leaf : goal.returns-then-is_leaf
 returns-then-is_leaf c =
@@ -36,14 +34,6 @@ returns-then-is_leaf c =
     ∙ root_value arrays W c.args.root c.args.place c.if-root-ge1024.false c.places-count.ensures c.if-count-place.false in
     held-result (record { sfits = c.leaf.type_inv })
     (c.leaf.ensures ∙ ap coded (leaf_before N W q d (sym c.if-is_leaf.ensures) ∙ root))
-
-pub overflow_sub-i : goal.overflow_sub-i
-overflow_sub-i c =
-    let m = c.shifted-inner.ensures in
-    let d = c.shifted-inner.result.end in
-    let q = c.shifted-inner.result.place in
-    let n = not_leaf c.args.kinds.now d (sym c.if-is_leaf.ensures) in
-    omega (arith, n.0)
 
 pub returns-then-not-whole : goal.returns-then-not-whole
 returns-then-not-whole c =

@@ -3,8 +3,5 @@
 use Rattle.evaluate.specs.Negation.{Negates}
 use Rattle.evaluate.proofs.negations.Given as goal
 
-abbrev pub invariant-loop-inner : goal.invariant-loop-inner
-invariant-loop-inner l = Negates l.kinds l.end l.inner l.again
-
-abbrev pub decreases-loop-inner : goal.decreases-loop-inner
-decreases-loop-inner l = l.inner
+abbrev pub invariant-loop-i : goal.invariant-loop-i
+invariant-loop-i l = Negates l.kinds l.end l.i l.again

@@ -3,8 +3,5 @@
 use Rattle.evaluate.specs.Shift.{SameElsewhere}
 use Rattle.evaluate.proofs.shifted.Given as goal
 
-abbrev pub invariant-loop-inner : goal.invariant-loop-inner
-invariant-loop-inner l = SameElsewhere l.kinds l.count l.end l.place l.inner l.at
-
-abbrev pub decreases-loop-inner : goal.decreases-loop-inner
-decreases-loop-inner l = l.inner
+abbrev pub invariant-loop-i : goal.invariant-loop-i
+invariant-loop-i l = SameElsewhere l.kinds l.count l.end l.place l.i l.at

@@ -3,14 +3,14 @@ use native.Mathlib.Omega.{arith}
 use Rattle.explore.proofs.SearchLaws.{settled-found, settled-full, settled-new}
 use Rattle.explore.proofs.settle.Goals as goal
 
-pub find-found-requires : goal.find-found-requires
-find-found-requires c =
+pub find-requires : goal.find-requires
+find-requires c =
     let start = c in
     let bucket = c.bucket-h in
     record { key_tables = start.requires.key_tables; key_len = (start.requires.key_len.0, bucket.ensures.value, bucket.ensures.upper_bound) }
 
-pub returns-then-found-ne0 : goal.returns-then-found-ne0
-returns-then-found-ne0 c = settled-found _ _ _ _ _ _ _ _ _ c.find-found.ensures c.if-found-ne0.true c.requires.key_tables
+pub returns-in-Some : goal.returns-in-Some
+returns-in-Some c = settled-found _ _ _ _ _ _ _ _ c.in-Some.row c.in-Some.ensures c.requires.key_tables
 
 pub insert-requires : goal.insert-requires
 insert-requires c =
@@ -24,7 +24,7 @@ insert-requires c =
     }
 
 pub returns-then-n-limit : goal.returns-then-n-limit
-returns-then-n-limit c = settled-new _ _ _ _ _ _ _ _ _ c.find-found.ensures c.if-found-ne0.false c.if-n-limit.true c.insert.ensures.key_tables_2 c.insert.ensures.inserts c.flag.ensures
+returns-then-n-limit c = settled-new _ _ _ _ _ _ _ _ c.in_default.ensures c.if-n-limit.true c.insert.ensures.key_tables_2 c.insert.ensures.inserts c.flag.ensures
 
 pub returns-else-n-limit : goal.returns-else-n-limit
-returns-else-n-limit c = settled-full _ _ _ _ _ _ _ _ _ c.find-found.ensures c.if-found-ne0.false c.if-n-limit.false c.requires.key_tables
+returns-else-n-limit c = settled-full _ _ _ _ _ _ _ _ c.in_default.ensures c.if-n-limit.false c.requires.key_tables

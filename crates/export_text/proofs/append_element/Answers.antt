@@ -4,15 +4,6 @@ use Rattle.print.proofs.Append.{appends_then, appends_same}
 use Rattle.export_text.proofs.Parts.{element-parts}
 use Rattle.export_text.proofs.append_element.Goals as goal
 
-pub append_bytes-value_at-requires : goal.append_bytes-value_at-requires
-append_bytes-value_at-requires c = tt
-
-pub append_natural-end-requires : goal.append_natural-end-requires
-append_natural-end-requires c = tt
-
-pub append_bytes-requires : goal.append_bytes-requires
-append_bytes-requires c = tt
-
 pub returns : goal.returns
 returns c =
     appends_same (appends_then (appends_then c.append_bytes-value_at.ensures c.append_natural-end.ensures) c.append_bytes.ensures)

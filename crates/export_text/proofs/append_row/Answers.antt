@@ -2,14 +2,8 @@
 use Rattle.print.proofs.Append.{appends_then, reached}
 use Rattle.export_text.proofs.append_row.Goals as goal
 
-pub append_bytes-row_at-requires : goal.append_bytes-row_at-requires
-append_bytes-row_at-requires c = tt
-
 pub append_entry_elements-end-requires : goal.append_entry_elements-end-requires
 append_entry_elements-end-requires c = reached c.append_bytes-row_at.ensures
-
-pub append_bytes-requires : goal.append_bytes-requires
-append_bytes-requires c = tt
 
 pub returns : goal.returns
 returns c = appends_then (appends_then c.append_bytes-row_at.ensures c.append_entry_elements-end.ensures) c.append_bytes.ensures

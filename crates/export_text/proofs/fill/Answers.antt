@@ -3,19 +3,7 @@ use Rattle.print.proofs.Append.{appends_then, appends_same}
 use Rattle.export_text.proofs.Parts.{export_parts}
 use Rattle.export_text.proofs.fill.Goals as goal
 
-pub fewer-count-requires : goal.fewer-count-requires
-fewer-count-requires c = tt
-
-pub put_counts-streams_at-requires : goal.put_counts-streams_at-requires
-put_counts-streams_at-requires c = tt
-
-pub append_described-table_at-requires : goal.append_described-table_at-requires
-append_described-table_at-requires c = tt
-
-pub append_table-requires : goal.append_table-requires
-append_table-requires c = tt
-
 pub returns : goal.returns
 returns c =
     let a = c.args in
-    appends_same (appends_then (appends_then c.put_counts-streams_at.ensures c.append_described-table_at.ensures) c.append_table.ensures) (export_parts a.streams a.letters a.checksum a.entries.now a.finals.now c.fewer-count.ensures)
+    appends_same (appends_then (appends_then c.put_counts-streams_at.ensures c.append_described-table_at.ensures) c.append_table.ensures) (export_parts a.streams a.letters a.checksum a.entries.now a.finals.now c.min-count.ensures)

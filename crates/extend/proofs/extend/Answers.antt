@@ -44,14 +44,14 @@ overflow_cast-size c =
 pub overflow_mul-window_end : goal.overflow_mul-window_end
 overflow_mul-window_end c =
     let room : SizesFit (length c.args.key.now) (length c.args.prepared.now) (length c.args.fresh.now) = says_yes c.if-not-has_sizes.false c.has_sizes.ensures in
-    let count : ℕ = c.fewer-count.result in
-    let firsts_count : ℕ = c.fewer-firsts_count.result in
+    let count : ℕ = c.min-count.result in
+    let firsts_count : ℕ = c.min-firsts_count.result in
     let store : Store = let a = c.args in store_of a.kinds.now a.values.now a.starts.now a.relations.now a.lefts.now a.rights.now a.first_nodes.now a.letter_values.now a.dimensions.streams a.dimensions.ahead a.dimensions.width in
     let cut : Store = let a = c.args in let few = c.bounded-few.result in store_of a.kinds.now a.values.now a.starts.now (take count a.relations.now) (take count a.lefts.now) (take count a.rights.now) (take firsts_count a.first_nodes.now) a.letter_values.now few.streams few.ahead few.width in
-    let cut-is : cut ≡ within_bounds store = cut-within store (c.fewer-count.ensures ∙ (λ i. min (c.fewer.ensures i) (c.fewer-2.ensures i))) c.fewer-firsts_count.ensures c.bounded-few.ensures in
+    let cut-is : cut ≡ within_bounds store = cut-within store (c.min-count.ensures ∙ (λ i. min (c.min.ensures i) (c.min-2.ensures i))) c.min-firsts_count.ensures c.bounded-few.ensures in
     let ready : IsReady cut = subst IsReady (sym cut-is) (within-ready store) in
-    let held : ℕ = c.fewer-held.result in
-    let few-held : held ≤ window_bound = omega (arith, c.fewer-held.ensures, ready.few_letters) in
+    let held : ℕ = c.min-held.result in
+    let few-held : held ≤ window_bound = omega (arith, c.min-held.ensures, ready.few_letters) in
     let known-long : length c.add_letter.new.window ≡ prepared_size = c.add_letter.auto.window ∙ room.1 in
     let window-fits : (held + 1) * cut.streams ≤ length c.add_letter.new.window = omega (arith, one_more held cut.streams, window-room {n = held} ready.few_streams few-held, known-long) in
     omega (arith, window-fits, known-long)
@@ -63,39 +63,39 @@ bounds-key-15 c =
 
 pub slice_bounds-finish-end : goal.slice_bounds-finish-end
 slice_bounds-finish-end c =
-    let count : ℕ = c.fewer-count.result in
+    let count : ℕ = c.min-count.result in
     let counted : (count ≤ length c.args.relations.now) × (count ≤ length c.args.lefts.now) × (count ≤ length c.args.rights.now) × (count ≤ 32) = (omega arith, omega arith, omega arith, omega arith) in
     sym (length-take-le count c.args.relations.now counted.0)
 
 pub slice_bounds-finish-end-2 : goal.slice_bounds-finish-end-2
 slice_bounds-finish-end-2 c =
-    let count : ℕ = c.fewer-count.result in
+    let count : ℕ = c.min-count.result in
     let counted : (count ≤ length c.args.relations.now) × (count ≤ length c.args.lefts.now) × (count ≤ length c.args.rights.now) × (count ≤ 32) = (omega arith, omega arith, omega arith, omega arith) in
     sym (length-take-le count c.args.lefts.now counted.1)
 
 pub slice_bounds-finish-end-3 : goal.slice_bounds-finish-end-3
 slice_bounds-finish-end-3 c =
-    let count : ℕ = c.fewer-count.result in
+    let count : ℕ = c.min-count.result in
     let counted : (count ≤ length c.args.relations.now) × (count ≤ length c.args.lefts.now) × (count ≤ length c.args.rights.now) × (count ≤ 32) = (omega arith, omega arith, omega arith, omega arith) in
     sym (length-take-le count c.args.rights.now counted.2)
 
 pub slice_bounds-finish-end-4 : goal.slice_bounds-finish-end-4
 slice_bounds-finish-end-4 c =
-    let firsts_count : ℕ = c.fewer-firsts_count.result in
+    let firsts_count : ℕ = c.min-firsts_count.result in
     let firsts-counted : (firsts_count ≤ length c.args.first_nodes.now) × (firsts_count ≤ first_bound) = (omega arith, omega arith) in
     sym (length-take-le firsts_count c.args.first_nodes.now firsts-counted.0)
 
 pub slice_bounds-finish-end-5 : goal.slice_bounds-finish-end-5
 slice_bounds-finish-end-5 c =
     let room : SizesFit (length c.args.key.now) (length c.args.prepared.now) (length c.args.fresh.now) = says_yes c.if-not-has_sizes.false c.has_sizes.ensures in
-    let count : ℕ = c.fewer-count.result in
-    let firsts_count : ℕ = c.fewer-firsts_count.result in
+    let count : ℕ = c.min-count.result in
+    let firsts_count : ℕ = c.min-firsts_count.result in
     let store : Store = let a = c.args in store_of a.kinds.now a.values.now a.starts.now a.relations.now a.lefts.now a.rights.now a.first_nodes.now a.letter_values.now a.dimensions.streams a.dimensions.ahead a.dimensions.width in
     let cut : Store = let a = c.args in let few = c.bounded-few.result in store_of a.kinds.now a.values.now a.starts.now (take count a.relations.now) (take count a.lefts.now) (take count a.rights.now) (take firsts_count a.first_nodes.now) a.letter_values.now few.streams few.ahead few.width in
-    let cut-is : cut ≡ within_bounds store = cut-within store (c.fewer-count.ensures ∙ (λ i. min (c.fewer.ensures i) (c.fewer-2.ensures i))) c.fewer-firsts_count.ensures c.bounded-few.ensures in
+    let cut-is : cut ≡ within_bounds store = cut-within store (c.min-count.ensures ∙ (λ i. min (c.min.ensures i) (c.min-2.ensures i))) c.min-firsts_count.ensures c.bounded-few.ensures in
     let ready : IsReady cut = subst IsReady (sym cut-is) (within-ready store) in
-    let held : ℕ = c.fewer-held.result in
-    let few-held : held ≤ window_bound = omega (arith, c.fewer-held.ensures, ready.few_letters) in
+    let held : ℕ = c.min-held.result in
+    let few-held : held ≤ window_bound = omega (arith, c.min-held.ensures, ready.few_letters) in
     let known-long : length c.add_letter.new.window ≡ prepared_size = c.add_letter.auto.window ∙ room.1 in
     let window-fits : (held + 1) * cut.streams ≤ length c.add_letter.new.window = omega (arith, one_more held cut.streams, window-room {n = held} ready.few_streams few-held, known-long) in
     sym (length-take-le ((held + 1) * cut.streams) c.add_letter.new.window window-fits)
@@ -103,7 +103,7 @@ slice_bounds-finish-end-5 c =
 pub slice_bounds-finish-end-6 : goal.slice_bounds-finish-end-6
 slice_bounds-finish-end-6 c =
     let room : SizesFit (length c.args.key.now) (length c.args.prepared.now) (length c.args.fresh.now) = says_yes c.if-not-has_sizes.false c.has_sizes.ensures in
-    let firsts_count : ℕ = c.fewer-firsts_count.result in
+    let firsts_count : ℕ = c.min-firsts_count.result in
     let firsts-counted : (firsts_count ≤ length c.args.first_nodes.now) × (firsts_count ≤ first_bound) = (omega arith, omega arith) in
     let known-long : length c.add_letter.new.window ≡ prepared_size = c.add_letter.auto.window ∙ room.1 in
     omega (arith, known-long, firsts-counted.1)
@@ -111,36 +111,36 @@ slice_bounds-finish-end-6 c =
 pub slice_bounds-finish-end-7 : goal.slice_bounds-finish-end-7
 slice_bounds-finish-end-7 c =
     let room : SizesFit (length c.args.key.now) (length c.args.prepared.now) (length c.args.fresh.now) = says_yes c.if-not-has_sizes.false c.has_sizes.ensures in
-    let count : ℕ = c.fewer-count.result in
-    let firsts_count : ℕ = c.fewer-firsts_count.result in
+    let count : ℕ = c.min-count.result in
+    let firsts_count : ℕ = c.min-firsts_count.result in
     let store : Store = let a = c.args in store_of a.kinds.now a.values.now a.starts.now a.relations.now a.lefts.now a.rights.now a.first_nodes.now a.letter_values.now a.dimensions.streams a.dimensions.ahead a.dimensions.width in
     let cut : Store = let a = c.args in let few = c.bounded-few.result in store_of a.kinds.now a.values.now a.starts.now (take count a.relations.now) (take count a.lefts.now) (take count a.rights.now) (take firsts_count a.first_nodes.now) a.letter_values.now few.streams few.ahead few.width in
-    let cut-is : cut ≡ within_bounds store = cut-within store (c.fewer-count.ensures ∙ (λ i. min (c.fewer.ensures i) (c.fewer-2.ensures i))) c.fewer-firsts_count.ensures c.bounded-few.ensures in
+    let cut-is : cut ≡ within_bounds store = cut-within store (c.min-count.ensures ∙ (λ i. min (c.min.ensures i) (c.min-2.ensures i))) c.min-firsts_count.ensures c.bounded-few.ensures in
     let ready : IsReady cut = subst IsReady (sym cut-is) (within-ready store) in
-    let held : ℕ = c.fewer-held.result in
-    let few-held : held ≤ window_bound = omega (arith, c.fewer-held.ensures, ready.few_letters) in
+    let held : ℕ = c.min-held.result in
+    let few-held : held ≤ window_bound = omega (arith, c.min-held.ensures, ready.few_letters) in
     omega (arith, few-held, room.0)
 
 pub slice_bounds-finish-end-8 : goal.slice_bounds-finish-end-8
 slice_bounds-finish-end-8 c =
     let room : SizesFit (length c.args.key.now) (length c.args.prepared.now) (length c.args.fresh.now) = says_yes c.if-not-has_sizes.false c.has_sizes.ensures in
-    let firsts_count : ℕ = c.fewer-firsts_count.result in
+    let firsts_count : ℕ = c.min-firsts_count.result in
     let firsts-counted : (firsts_count ≤ length c.args.first_nodes.now) × (firsts_count ≤ first_bound) = (omega arith, omega arith) in
     omega (arith, firsts-counted.1, room.0)
 
 pub finish-requires : goal.finish-requires
 finish-requires c =
     let room : SizesFit (length c.args.key.now) (length c.args.prepared.now) (length c.args.fresh.now) = says_yes c.if-not-has_sizes.false c.has_sizes.ensures in
-    let count : ℕ = c.fewer-count.result in
-    let firsts_count : ℕ = c.fewer-firsts_count.result in
+    let count : ℕ = c.min-count.result in
+    let firsts_count : ℕ = c.min-firsts_count.result in
     let store : Store = let a = c.args in store_of a.kinds.now a.values.now a.starts.now a.relations.now a.lefts.now a.rights.now a.first_nodes.now a.letter_values.now a.dimensions.streams a.dimensions.ahead a.dimensions.width in
     let cut : Store = let a = c.args in let few = c.bounded-few.result in store_of a.kinds.now a.values.now a.starts.now (take count a.relations.now) (take count a.lefts.now) (take count a.rights.now) (take firsts_count a.first_nodes.now) a.letter_values.now few.streams few.ahead few.width in
     let firsts-counted : (firsts_count ≤ length c.args.first_nodes.now) × (firsts_count ≤ first_bound) = (omega arith, omega arith) in
-    let cut-is : cut ≡ within_bounds store = cut-within store (c.fewer-count.ensures ∙ (λ i. min (c.fewer.ensures i) (c.fewer-2.ensures i))) c.fewer-firsts_count.ensures c.bounded-few.ensures in
+    let cut-is : cut ≡ within_bounds store = cut-within store (c.min-count.ensures ∙ (λ i. min (c.min.ensures i) (c.min-2.ensures i))) c.min-firsts_count.ensures c.bounded-few.ensures in
     let ready : IsReady cut = subst IsReady (sym cut-is) (within-ready store) in
-    let held : ℕ = c.fewer-held.result in
+    let held : ℕ = c.min-held.result in
     let key = c.args.key.now in
-    let fewer = c.fewer-held in
+    let fewer = c.min-held in
     record {
       ready = part-ready cut ready;
       letters_len_bound = (
@@ -153,19 +153,19 @@ finish-requires c =
 pub returns : goal.returns
 returns c =
     let room : SizesFit (length c.args.key.now) (length c.args.prepared.now) (length c.args.fresh.now) = says_yes c.if-not-has_sizes.false c.has_sizes.ensures in
-    let count : ℕ = c.fewer-count.result in
-    let firsts_count : ℕ = c.fewer-firsts_count.result in
+    let count : ℕ = c.min-count.result in
+    let firsts_count : ℕ = c.min-firsts_count.result in
     let store : Store = let a = c.args in store_of a.kinds.now a.values.now a.starts.now a.relations.now a.lefts.now a.rights.now a.first_nodes.now a.letter_values.now a.dimensions.streams a.dimensions.ahead a.dimensions.width in
     let cut : Store = let a = c.args in let few = c.bounded-few.result in store_of a.kinds.now a.values.now a.starts.now (take count a.relations.now) (take count a.lefts.now) (take count a.rights.now) (take firsts_count a.first_nodes.now) a.letter_values.now few.streams few.ahead few.width in
     let firsts-counted : (firsts_count ≤ length c.args.first_nodes.now) × (firsts_count ≤ first_bound) = (omega arith, omega arith) in
     let firsts-left : length (take firsts_count c.args.first_nodes.now) ≡ firsts_count = length-take-le firsts_count c.args.first_nodes.now firsts-counted.0 in
-    let cut-is : cut ≡ within_bounds store = cut-within store (c.fewer-count.ensures ∙ (λ i. min (c.fewer.ensures i) (c.fewer-2.ensures i))) c.fewer-firsts_count.ensures c.bounded-few.ensures in
+    let cut-is : cut ≡ within_bounds store = cut-within store (c.min-count.ensures ∙ (λ i. min (c.min.ensures i) (c.min-2.ensures i))) c.min-firsts_count.ensures c.bounded-few.ensures in
     let ready : IsReady cut = subst IsReady (sym cut-is) (within-ready store) in
-    let held : ℕ = c.fewer-held.result in
-    let few-held : held ≤ window_bound = omega (arith, c.fewer-held.ensures, ready.few_letters) in
+    let held : ℕ = c.min-held.result in
+    let few-held : held ≤ window_bound = omega (arith, c.min-held.ensures, ready.few_letters) in
     let a = c.args in
     let key = a.key.now in
-    let fewer = c.fewer-held in
+    let fewer = c.min-held in
     let put = c.add_letter in
     record {
       done = λ fit. subst (λ K. Continues K key a.letter a.prepared.now a.fresh.now put.new.window c.finish.new.fresh c.finish.result) cut-is

@@ -3,34 +3,41 @@ use Prim.Native.Nat.{ℕ, ◌+◌, ◌-◌, ◌≤◌}
 use mathlib.Core.Path.{◌≡◌, refl, ◌∙◌, sym, ap}
 use mathlib.Core.List.{List, [], ◌∷◌, ◌++◌}
 use native.Mathlib.Omega.{arith}
-use lib.Dec.{leb}
 use lib.ListN.{length, length-append, length-take}
 use lib.Seq.{length-take-le}
-use borrow.Author.Tests.{not-true, not-false}
+use Rattle.std.specs.Prelude.{Option, Some, None, is_some, unwrap_or, true, false, drop}
 use Rattle.sheet.specs.Refusal.{window_bound}
 use Rattle.basics.proofs.Tests.{not-both}
-use Rattle.nodes.specs.Evaluate.{view}
+use Rattle.nodes.specs.Evaluate.{View}
 use Rattle.prepare.specs.Key.{encoded_key}
-use Rattle.extend.specs.Step.{Store, store_of, judged_in}
+use Rattle.extend.specs.Step.{Store, judged_in, firsts_from, Finished}
 use Rattle.extend.proofs.StepLaws.{some-kept, none_kept, last-letters}
 use Rattle.extend.proofs.finish.Goals as goal
 
-pub returns-then-not-judged : goal.returns-then-not-judged
-returns-then-not-judged c =
-    let store : Store = (let a = c.args in
-    store_of a.kinds.now a.values.now a.starts.now a.relations.now a.lefts.now a.rights.now a.first_nodes.now [] a.dimensions.streams a.dimensions.ahead a.dimensions.width) in
-    let all-letters : List ℕ = c.args.letters.now ++ (c.args.letter ∷ []) in
-    let all-long : length (all-letters) ≡ length c.args.letters.now + 1 = length-append c.args.letters.now (c.args.letter ∷ []) in
-    let judged-is : let a = c.args in
-    c.judge_letter-judged.result ≡ judged_in (store) (view a.window.now a.dimensions.streams a.firsts.now (leb a.size a.dimensions.width)) (length (all-letters) - 1) a.marks = (let a = c.args in
-    let e : length a.letters.now ≡ length (all-letters) - 1 = omega (arith, all-long) in
-    c.judge_letter-judged.ensures ∙ ap (λ n. judged_in (store) (view a.window.now a.dimensions.streams a.firsts.now (leb a.size a.dimensions.width)) n a.marks) e) in
-    let at = c in
-    record {
-      answer = sym (not-true _ c.if-not-judged.true) ∙ ap (λ j. j.ok) (judged-is);
-      new = λ e. not-both e;
-      kept = λ e. refl;
-    }
+-- What is judged where as many letters are there as before the newest one is what is judged of the longer record.
+module _ (K : Store) (W : View) (size marks : ℕ) (letters : List ℕ) (letter : ℕ) (numbers fresh : List ℕ) {r : Option ℕ} (judged : r ≡ judged_in K W (length letters) marks) where
+  all-long : length (letters ++ (letter ∷ [])) ≡ length letters + 1
+  all-long = length-append letters (letter ∷ [])
+
+  judged-there : r ≡ judged_in K W (length (letters ++ (letter ∷ [])) - 1) marks
+  judged-there =
+      let before : length letters ≡ length (letters ++ (letter ∷ [])) - 1 = omega (arith, all-long) in
+      judged ∙ ap (λ n. judged_in K W n marks) before
+
+  finished-no : r ≡ None → Finished K W size (letters ++ (letter ∷ [])) marks numbers fresh false fresh
+  finished-no none = record { answer = ap is_some (sym none ∙ judged-there); new = λ e. not-both e; kept = λ e. refl }
+
+  finished-yes : {told : ℕ} {last firsts fresh' : List ℕ} → r ≡ Some told → last ≡ drop (length (letters ++ (letter ∷ [])) - K.width) (letters ++ (letter ∷ [])) → firsts ≡ firsts_from K W size numbers
+      → fresh' ≡ encoded_key (length letters + 1) last firsts told → Finished K W size (letters ++ (letter ∷ [])) marks numbers fresh true fresh'
+  finished-yes some last firsts new =
+      record {
+        answer = ap is_some (sym some ∙ judged-there);
+        new = λ e. new ∙ (λ i. encoded_key (sym all-long i) (last i) (firsts i) (unwrap_or ((sym some ∙ judged-there) i) 0));
+        kept = λ e. not-both (sym e);
+      }
+
+pub returns-in_default : goal.returns-in_default
+returns-in_default c = finished-no _ _ _ _ _ _ _ _ c.judge_letter.ensures c.in_default.is
 
 pub overflow_cast-count : goal.overflow_cast-count
 overflow_cast-count c =
@@ -51,8 +58,8 @@ pub write_key-requires : goal.write_key-requires
 write_key-requires c =
     let start = c in
     let after = c.firsts_after-filled in
-    let kept = c.fewer-kept in
-    let from = c.fewer-from in
+    let kept = c.min-kept in
+    let from = c.min-from in
     let letters = start.args.letters.now in
     let width = start.args.dimensions.width in (
       c.requires.letters_len_bound.2,
@@ -64,23 +71,8 @@ write_key-requires c =
 
 pub returns : goal.returns
 returns c =
-    let all-letters : List ℕ = c.args.letters.now ++ (c.args.letter ∷ []) in
-    let all-long : length (all-letters) ≡ length c.args.letters.now + 1 = length-append c.args.letters.now (c.args.letter ∷ []) in
-    let store : Store = (let a = c.args in
-    store_of a.kinds.now a.values.now a.starts.now a.relations.now a.lefts.now a.rights.now a.first_nodes.now [] a.dimensions.streams a.dimensions.ahead a.dimensions.width) in
-    let judged-is : let a = c.args in
-    c.judge_letter-judged.result ≡ judged_in (store) (view a.window.now a.dimensions.streams a.firsts.now (leb a.size a.dimensions.width)) (length (all-letters) - 1) a.marks = (let a = c.args in
-    let e : length a.letters.now ≡ length (all-letters) - 1 = omega (arith, all-long) in
-    c.judge_letter-judged.ensures ∙ ap (λ n. judged_in (store) (view a.window.now a.dimensions.streams a.firsts.now (leb a.size a.dimensions.width)) n a.marks) e) in
-    let at = c in
-    let start = c in
-    let args = start.args in
-    let judged = judged-is in
-    let kept = c.fewer-kept in
-    let from = c.fewer-from in
-    let letters = last-letters args.letters.now args.letter args.dimensions.width kept.result from.result c.requires.letters_len_bound.0 kept.ensures from.ensures in
-    record {
-      answer = sym (not-false _ c.if-not-judged.false) ∙ ap (λ j. j.ok) judged;
-      new = λ e. c.write_key.ensures ∙ (λ i. encoded_key (sym all-long i) (letters i) (c.firsts_after-filled.ensures.numbers_after i) (judged i).marks);
-      kept = λ e. not-both (sym e);
-    }
+    let args = c.args in
+    let kept = c.min-kept in
+    let from = c.min-from in
+    let last = last-letters args.letters.now args.letter args.dimensions.width kept.result from.result c.requires.letters_len_bound.0 kept.ensures from.ensures in
+    finished-yes _ _ _ _ _ _ _ _ c.judge_letter.ensures c.in-Some.is last c.firsts_after-filled.ensures.numbers_after c.write_key.ensures

@@ -10,18 +10,18 @@ unfolding number_line_byte
 returns-then-is_inside c =
     let p = c in
     let s = p in
-    at-inside line_of number_byte number_end (reading_of_line s.args.line) s.args.byte (p.either-barred.ensures ∙ ap (λ t. s.args.line.barred || not t) p.is_plain.ensures) (sym c.is_inside.ensures ∙ c.if-is_inside.true) c.number_byte.ensures
+    at-inside line_of number_byte number_end (reading_of_line s.args.line) s.args.byte (ap (λ t. s.args.line.barred || not t) p.is_plain.ensures) (sym c.is_inside.ensures ∙ c.if-is_inside.true) c.number_byte.ensures
 
 pub returns-then-is_bracket : goal.returns-then-is_bracket
 unfolding number_line_byte
 returns-then-is_bracket c =
     let p = c in
     let s = p in
-    at_bracket line_of number_byte number_end (reading_of_line s.args.line) s.args.byte (p.either-barred.ensures ∙ ap (λ t. s.args.line.barred || not t) p.is_plain.ensures) (sym c.is_bracket.ensures ∙ c.if-is_bracket.true) c.end_number-ended.ensures c.number_byte-then-is_bracket.ensures c.number_end.ensures
+    at_bracket line_of number_byte number_end (reading_of_line s.args.line) s.args.byte (ap (λ t. s.args.line.barred || not t) p.is_plain.ensures) (sym c.is_bracket.ensures ∙ c.if-is_bracket.true) c.end_number-ended.ensures c.number_byte-then-is_bracket.ensures c.number_end.ensures
 
 pub returns : goal.returns
 unfolding number_line_byte
 returns c =
     let p = c in
     let s = p in
-    at-between line_of number_byte number_end (reading_of_line s.args.line) s.args.byte (p.either-barred.ensures ∙ ap (λ t. s.args.line.barred || not t) p.is_plain.ensures) (sym c.is_inside.ensures ∙ c.if-is_inside.false) (sym c.is_bracket.ensures ∙ c.if-is_bracket.false) c.end_number-ended.ensures
+    at-between line_of number_byte number_end (reading_of_line s.args.line) s.args.byte (ap (λ t. s.args.line.barred || not t) p.is_plain.ensures) (sym c.is_inside.ensures ∙ c.if-is_inside.false) (sym c.is_bracket.ensures ∙ c.if-is_bracket.false) c.end_number-ended.ensures

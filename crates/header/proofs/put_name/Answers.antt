@@ -1,60 +1,16 @@
--- `header::put_name` meets its contract: the name's bytes before the loop's place are stored, each after the ones before it. From the law that
--- bytes are stored one by one as in one piece.
-use Prim.Native.Nat.{ℕ, ◌+◌, ◌*◌, ◌<◌, ◌-◌}
-use mathlib.Core.Path.{◌≡◌, refl, sym, ap, ◌∙◌}
-use mathlib.Core.List.{List, [], ◌∷◌}
+-- `header::put_name` meets its contract: the bytes copied into a part of the list are those stored one after another.
+use Prim.Native.Nat.{ℕ, ◌+◌, ◌≤◌}
+use mathlib.Core.Path.{◌≡◌, refl, sym, ap, ap₂, ◌∙◌}
+use mathlib.Core.List.{List, ◌++◌, append_assoc}
 use native.Mathlib.Omega.{arith}
-use native.Mathlib.Numerals.{add-one}
-use lib.ListN.{length, take, get_or, set}
-use lib.Seq.{sets, take-suc, take_all, length-take-le}
-use Rattle.basics.proofs.Lists.{sets_append}
+use lib.ListN.{length, take, drop}
+use lib.Seq.{drop-drop}
+use borrow.Rule.Slice.PartMut.{put_mid}
+use Rattle.std.proofs.lemmas.List.Edits.{sets, sets-eq}
 use Rattle.header.proofs.put_name.Goals as goal
 
--- One byte more is stored.
-sets_more : (l : List ℕ) (k : ℕ) (name : List ℕ) (i : ℕ) → i < length name → sets l k (take (i + 1) name) ≡ set (sets l k (take i name)) (k + i) (get_or name i 0)
-sets_more l k name i h =
-    let there : length (take i name) ≡ i = length-take-le i name (omega arith) in
-    ap (sets l k) (ap (λ n. take n name) (add-one i) ∙ take-suc name i 0 h)
-    ∙ sym (sets_append l k (take i name) (get_or name i 0 ∷ []))
-    ∙ ap (λ n. set (sets l k (take i name)) (k + n) (get_or name i 0)) there
-
-pub overflow_mul-from : goal.overflow_mul-from
-overflow_mul-from c = omega arith
-
-pub loop-i-init : goal.loop-i-init
-loop-i-init c = (omega arith, refl)
-
-pub bounds-name-i : goal.bounds-name-i
-bounds-name-i c = omega arith
-
-pub overflow_add-names : goal.overflow_add-names
-overflow_add-names c = omega arith
-
-pub bounds-names-from : goal.bounds-names-from
-bounds-names-from c = omega arith
-
-pub overflow_add-i : goal.overflow_add-i
-overflow_add-i c = omega arith
-
-pub loop-i-smaller : goal.loop-i-smaller
-loop-i-smaller c = omega arith
-
-pub loop-i-preserved : goal.loop-i-preserved
-loop-i-preserved c =
-    let name = c.args.name.now in
-    let names₀ = c.args.names.now in
-    let from = c.args.stream * 8 in
-    let i = c.loop-i.i in
-    (omega arith, ap (λ l. set l (from + i) (get_or name i 0)) c.loop-i.invariant.1 ∙ sym (sets_more names₀ from name i (omega arith)))
-
-pub overflow_cast-lengths : goal.overflow_cast-lengths
-overflow_cast-lengths c = omega arith
-
-pub bounds-lengths-stream : goal.bounds-lengths-stream
-bounds-lengths-stream c = omega arith
+copied : (a k : ℕ) (l new vs : List ℕ) → new ≡ vs → k ≡ length vs → a + length vs ≤ length l → put_mid a k l new ≡ sets l a vs
+copied a k l new vs e n h = ap₂ (λ m w. put_mid a m l w) n e ∙ ap (λ t. take a l ++ (vs ++ t)) (drop-drop (length vs) a l) ∙ sym (append_assoc (take a l) vs (drop (a + length vs) l)) ∙ sym (sets-eq vs l a h)
 
 pub returns : goal.returns
-returns c =
-    let name = c.args.name.now in
-    let names₀ = c.args.names.now in
-    (c.loop-i.invariant.1 ∙ ap (sets names₀ (c.args.stream * 8)) (take_all c.loop-i.i name (omega arith)), refl)
+returns c = (copied _ _ c.args.names.now c.copy_from_slice.new.self c.args.name.now c.copy_from_slice.ensures.after (omega arith) (omega arith), refl)

@@ -2,6 +2,7 @@
 use Prim.Native.Nat.{ℕ}
 use mathlib.Core.Path.{refl, subst}
 use native.Mathlib.Omega.{arith}
+use Rattle.std.proofs.Common.{rules}
 use Rattle.text.specs.Bytes.{tokens}
 use Rattle.header.specs.Streams.{KindsOutcome}
 use Rattle.header.proofs.read_header.Goals as goal
@@ -18,12 +19,12 @@ pub read_streams-streams-requires : goal.read_streams-streams-requires
 read_streams-streams-requires c = record { names_line_len_bound = omega (arith, c.if-token_count-gt8.false, c.token_count.ensures); highs_value = refl }
 
 pub read_kinds-said-requires : goal.read_kinds-said-requires
-read_kinds-said-requires c = (omega (arith, c.fewer.ensures), refl)
+read_kinds-said-requires c = (omega arith, refl)
 
 pub returns : goal.returns
 returns c =
     record {
       many = λ h. absurd (omega (arith, h, c.if-token_count-gt8.false, c.token_count.ensures));
       streams = λ h. c.read_streams-streams.ensures;
-      kinds = λ h. subst (λ (n : ℕ). KindsOutcome (tokens c.args.kinds_line.now) n c.read_kinds-said.result c.read_kinds-said.new.stream_kinds) c.fewer.ensures c.read_kinds-said.ensures;
+      kinds = λ h. subst (λ (n : ℕ). KindsOutcome (tokens c.args.kinds_line.now) n c.read_kinds-said.result c.read_kinds-said.new.stream_kinds) (search rules) c.read_kinds-said.ensures;
     }

@@ -8,32 +8,20 @@ use Rattle.held_lines.proofs.Sums.{no_sum, sum_more}
 use Rattle.held_lines.proofs.sum_block.Goals as goal
 
 pub loop-i-init : goal.loop-i-init
-loop-i-init c = (omega arith, no_sum _)
+loop-i-init c = no_sum _
 
 pub overflow_add-from : goal.overflow_add-from
 overflow_add-from c = omega (arith, c.requires)
-
-pub count_at-requires : goal.count_at-requires
-count_at-requires c = tt
-
-pub add_lines-sum-requires : goal.add_lines-sum-requires
-add_lines-sum-requires c = tt
-
-pub overflow_add-i : goal.overflow_add-i
-overflow_add-i c = omega (arith, c.ranges.size)
-
-pub loop-i-smaller : goal.loop-i-smaller
-loop-i-smaller c = omega arith
 
 pub loop-i-preserved : goal.loop-i-preserved
 loop-i-preserved c =
     let t = c.loop-i in
     let s = c in
-    (omega arith, sum_more (λ j. get_or s.args.counts.now (s.args.from + j) 0) t.i c.count_at.result t.invariant.1 (ap cut_lines c.count_at.ensures) c.add_lines-sum.ensures)
+    sum_more (λ j. get_or s.args.counts.now (s.args.from + j) 0) t.i c.count_at.result t.invariant (ap cut_lines c.count_at.ensures) c.add_lines-sum.ensures
 
 pub returns : goal.returns
 returns c =
     let t = c.loop-i in
     let s = c.args in
     let e : t.i ≡ s.size = omega arith in
-    t.invariant.1 ∙ ap (λ n. cut_lines (block_lines s.counts.now s.from n)) e
+    t.invariant ∙ ap (λ n. cut_lines (block_lines s.counts.now s.from n)) e

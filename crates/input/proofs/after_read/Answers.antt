@@ -20,15 +20,15 @@ pub overflow_cast-got : goal.overflow_cast-got
 overflow_cast-got c = let s = c in number_cast s.args.got s.ranges.got c.if-got-lt0.false
 
 pub overflow_add-result : goal.overflow_add-result
-overflow_add-result c = omega (arith, c.fewer-count.ensures, c.requires, c.ranges.room)
+overflow_add-result c = omega (arith, c.min-count.ensures, c.requires, c.ranges.room)
 
 pub overflow_sub-room-3 : goal.overflow_sub-room-3
-overflow_sub-room-3 c = omega (arith, c.fewer-count.ensures)
+overflow_sub-room-3 c = omega (arith, c.min-count.ensures)
 
 pub returns : goal.returns
 returns c =
     let s = c in
     let left = s.args.room - s.args.size in
-    ap (λ m. came (s.args.size + c.fewer-count.result) (ltb 0 m)) c.fewer.ensures
-    ∙ ap (λ n. came (s.args.size + n) (ltb 0 (min n (left - n)))) c.fewer-count.ensures
+    ap (λ m. came (s.args.size + c.min-count.result) (ltb 0 m)) c.min.ensures
+    ∙ ap (λ n. came (s.args.size + n) (ltb 0 (min n (left - n)))) c.min-count.ensures
     ∙ sym (ap (λ z. after_read z s.args.size s.args.room) (number-natural s.args.got s.ranges.got c.if-got-lt0.false))

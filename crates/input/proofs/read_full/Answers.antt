@@ -20,13 +20,13 @@ loop-size-preserved g c =
 pub returns-after-loop-size : goal.returns-after-loop-size
 returns-after-loop-size g c = c.loop-size.invariant
 
-pub returns-then-count-eq0 : goal.returns-then-count-eq0
-returns-then-count-eq0 g c =
+pub returns-in-Ok-eq0 : goal.returns-in-Ok-eq0
+returns-in-Ok-eq0 g c =
     let l = c.loop-size in
-    let nothing : take l.size l.bytes ++ take c.in-Ok.count c.read.new.buf ≡ take l.size l.bytes = ap (λ n. take l.size l.bytes ++ take n c.read.new.buf) c.if-count-eq0.true ∙ append-nil _ in
+    let nothing : take l.size l.bytes ++ take c.in-Ok-eq0.field-0 c.read.new.buf ≡ take l.size l.bytes = ap (λ n. take l.size l.bytes ++ take n c.read.new.buf) c.in-Ok-eq0.field-0-test ∙ append-nil _ in
     record {
       within = search rules;
-      next = subst (Consumes _ _) (nothing ∙ front_kept l.size (length l.bytes - l.size) l.bytes c.read.new.buf l.invariant.within) (Consumes-trans _ _ _ _ _ l.invariant.next c.in-Ok.ensures.bytes.0);
+      next = subst (Consumes _ _) (nothing ∙ front_kept l.size (length l.bytes - l.size) l.bytes c.read.new.buf l.invariant.within) (Consumes-trans _ _ _ _ _ l.invariant.next c.in-Ok-eq0.ensures.bytes.0);
     }
 
 pub returns-in-Err : goal.returns-in-Err

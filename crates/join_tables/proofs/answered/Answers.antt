@@ -8,12 +8,12 @@ use Rattle.pair_outcome.specs.Outcome.{pair_answer}
 use Rattle.join_tables.specs.Outcome.{refused_join, told_by}
 use Rattle.join_tables.proofs.answered.Goals as goal
 
-pub returns-then-refusal-ne0 : goal.returns-then-refusal-ne0
-returns-then-refusal-ne0 c =
+pub returns-then-refusal-eq0 : goal.returns-then-refusal-eq0
+returns-then-refusal-eq0 c =
     let a = c.args in
-    c.refused.ensures ∙ sym (ap (λ b. cond b (told_by (pair_answer a.rows (min a.pairs situation_bound) a.table) a.streams) (refused_join a.refusal)) (ne_eqb a.refusal 0 c.if-refusal-ne0.true))
+    c.made.ensures ∙ sym (ap (λ b. cond b (told_by (pair_answer a.rows (min a.pairs situation_bound) a.table) a.streams) (refused_join a.refusal)) (eq-eqb a.refusal 0 c.if-refusal-eq0.true))
 
-pub returns : goal.returns
-returns c =
+pub returns-else-refusal-eq0 : goal.returns-else-refusal-eq0
+returns-else-refusal-eq0 c =
     let a = c.args in
-    c.made.ensures ∙ sym (ap (λ b. cond b (told_by (pair_answer a.rows (min a.pairs situation_bound) a.table) a.streams) (refused_join a.refusal)) (eq-eqb a.refusal 0 c.if-refusal-ne0.false))
+    c.refused.ensures ∙ sym (ap (λ b. cond b (told_by (pair_answer a.rows (min a.pairs situation_bound) a.table) a.streams) (refused_join a.refusal)) (ne_eqb a.refusal 0 c.if-refusal-eq0.false))

@@ -11,64 +11,27 @@ use Rattle.joined_streams.proofs.Places.{set_below}
 use Rattle.joined_streams.proofs.Cuts.{cut_below}
 use Rattle.joined_streams.proofs.cuts_of.Goals as goal
 
-pub places_of-places-requires : goal.places_of-places-requires
-places_of-places-requires c = c.requires.0
-
 pub loop-letter-init : goal.loop-letter-init
-loop-letter-init c = (omega arith, length-replicate {A = ℕ} 1024 0, (λ a l. absurd (omega arith)), λ a l. zeros 1024 a)
-
-pub overflow_cast-at : goal.overflow_cast-at
-overflow_cast-at c =
-    let known : c.loop-letter.letter < c.args.letters = c.loop-letter-test.true in
-    omega (arith, known, c.requires.1, c.requires.0.joined_letters)
-
-pub cut_of-requires : goal.cut_of-requires
-cut_of-requires c =
-    let known : c.loop-letter.letter < c.args.letters = c.loop-letter-test.true in
-    let s = c in (s.requires.0, c.places_of-places.ensures, omega (arith, known, s.requires.1))
+loop-letter-init c = (length-replicate {A = ℕ} 1024 0, (λ a l. absurd (omega arith)), λ a l. zeros 1024 a)
 
 pub overflow_cast-cuts : goal.overflow_cast-cuts
 overflow_cast-cuts c =
     let known : c.loop-letter.letter < c.args.letters = c.loop-letter-test.true in
-    let small : c.cut_of.result < 1025 = (let s = c in
-    let below = cut_below s.requires.0.covers c.loop-letter.letter (omega (arith, known, s.requires.1)) in
-    omega (arith, c.cut_of.ensures, below, s.requires.0.own_letters)) in
-    omega (arith, small)
-
-pub offset_bounds-cuts-at : goal.offset_bounds-cuts-at
-offset_bounds-cuts-at c =
-    let known : c.loop-letter.letter < c.args.letters = c.loop-letter-test.true in
-    omega (arith, known, c.requires.1, c.requires.0.joined_letters)
-
-pub bounds-cuts-at : goal.bounds-cuts-at
-bounds-cuts-at c =
-    let known : c.loop-letter.letter < c.args.letters = c.loop-letter-test.true in
-    omega (arith, known, c.requires.1, c.requires.0.joined_letters)
-
-pub overflow_add-letter : goal.overflow_add-letter
-overflow_add-letter c =
-    let known : c.loop-letter.letter < c.args.letters = c.loop-letter-test.true in
-    omega (arith, known, c.requires.1, c.requires.0.joined_letters)
-
-pub loop-letter-smaller : goal.loop-letter-smaller
-loop-letter-smaller c =
-    let known : c.loop-letter.letter < c.args.letters = c.loop-letter-test.true in
-    omega (arith, known)
+    let below = cut_below c.requires.0.covers c.loop-letter.letter (omega (arith, known, c.requires.1)) in
+    omega (arith, c.cut_of.ensures, below, c.requires.0.own_letters)
 
 pub loop-letter-preserved : goal.loop-letter-preserved
 loop-letter-preserved c =
     let known : c.loop-letter.letter < c.args.letters = c.loop-letter-test.true in
     let loop = c.loop-letter in
-    let s = c in
-    let room : loop.letter < length loop.cuts = omega (arith, known, s.requires.1, s.requires.0.joined_letters, loop.invariant.1) in (
-      omega (arith, known),
-      length-set loop.cuts loop.letter c.cut_of.result ∙ loop.invariant.1,
-      set_below (λ a v. v ≡ cut_number (description_of s.args.joined) (description_of s.args.own) a) loop.cuts loop.letter c.cut_of.result room c.cut_of.ensures loop.invariant.2,
-      λ a l. get_or-set_other loop.cuts loop.letter a c.cut_of.result 0 (omega arith) ∙ loop.invariant.3 a (omega arith),
+    let room : loop.letter < length loop.cuts = omega (arith, known, c.requires.1, c.requires.0.joined_letters, loop.invariant.0) in (
+      length-set loop.cuts loop.letter c.cut_of.result ∙ loop.invariant.0,
+      set_below (λ a v. v ≡ cut_number (description_of c.args.joined.now) (description_of c.args.own.now) a) loop.cuts loop.letter c.cut_of.result room c.cut_of.ensures loop.invariant.1,
+      λ a l. get_or-set_other loop.cuts loop.letter a c.cut_of.result 0 (omega arith) ∙ loop.invariant.2 a (omega arith),
     )
 
 pub returns : goal.returns
 returns c =
     let loop = c.loop-letter in
     let letters = c.requires.1 in
-    record { long = loop.invariant.1; cuts = λ a h. loop.invariant.2 a (omega (arith, c.loop-letter-test.false, letters)); beyond = λ a h. loop.invariant.3 a (omega (arith, loop.invariant.0, letters)) }
+    record { long = loop.invariant.0; cuts = λ a h. loop.invariant.1 a (omega (arith, c.loop-letter-test.false, letters)); beyond = λ a h. loop.invariant.2 a (omega (arith, letters)) }

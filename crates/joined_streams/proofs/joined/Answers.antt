@@ -1,9 +1,7 @@
 -- `joined` meets its contract: the joined streams are described and their letters counted, and where neither is too many the cuts are listed (Bounds).
 use Prim.Native.Nat.{◌≤◌}
 use mathlib.Core.Path.{◌≡◌, refl, sym, ap, subst, ◌∙◌}
-use native.Mathlib.Omega.{arith}
 use lib.ListN.{length}
-use lib.Seq.{length-take-le}
 use borrow.Author.Rules.{rules}
 use Rattle.meaning.specs.Letter.{letter_count}
 use Rattle.streams.specs.Description.{description_of}
@@ -22,26 +20,6 @@ returns-then-count-gt8 c =
     let right-long : length c.args.right.names ≡ 64 = search rules in
     let s = c in
     subst (BoundsOutcome s.args.left s.args.right) (sym c.refused.ensures) (over_bounds (many-together (left-long) (right-long) s.requires c.joined_description-streams.ensures c.if-count-gt8.true))
-
-pub slice_bounds-lows-end : goal.slice_bounds-lows-end
-slice_bounds-lows-end c =
-    let lows-long : length c.joined_description-streams.result.lows ≡ 8 = search rules in
-    omega (arith, lows-long, c.if-count-gt8.false)
-
-pub slice_bounds-letter_count-end : goal.slice_bounds-letter_count-end
-slice_bounds-letter_count-end c =
-    let lows-long : length c.joined_description-streams.result.lows ≡ 8 = search rules in
-    sym (length-take-le _ _ (omega (arith, lows-long, c.if-count-gt8.false)))
-
-pub slice_bounds-highs-end : goal.slice_bounds-highs-end
-slice_bounds-highs-end c =
-    let highs-long : length c.joined_description-streams.result.highs ≡ 8 = search rules in
-    omega (arith, highs-long, c.if-count-gt8.false)
-
-pub slice_bounds-letter_count-end-2 : goal.slice_bounds-letter_count-end-2
-slice_bounds-letter_count-end-2 c =
-    let highs-long : length c.joined_description-streams.result.highs ≡ 8 = search rules in
-    sym (length-take-le _ _ (omega (arith, highs-long, c.if-count-gt8.false)))
 
 pub returns-then-letters-gt1024 : goal.returns-then-letters-gt1024
 returns-then-letters-gt1024 c =

@@ -22,23 +22,16 @@ one_more values places found i v room here before k l = by (ℕ_discrete k i)
     by (no e) = get_or-set_other found i k v (pos 0) e ∙ before k (omega arith)
 
 pub loop-i-init : goal.loop-i-init
-loop-i-init c = (omega arith, search rules, λ k l. absurd (omega arith))
-
-pub offset_bounds-values-place : goal.offset_bounds-values-place
-offset_bounds-values-place c = omega (arith, c.requires c.loop-i.i)
-
-pub bounds-values-place : goal.bounds-values-place
-bounds-values-place c = omega (arith, c.requires c.loop-i.i)
+loop-i-init c = (search rules, λ k l. absurd (omega arith))
 
 pub loop-i-preserved : goal.loop-i-preserved
 loop-i-preserved c =
     let loop = c.loop-i in
     let a = c.args in
     let value = to_z-of_z w64 (get_or a.values (get_or a.places loop.i 0) (pos 0)) (record { sfits = c.found-1.given }) in (
-      omega (arith, c.loop-i-test.true),
-      length-set loop.found loop.i _ ∙ loop.invariant.1,
-      one_more a.values a.places loop.found loop.i _ (omega (arith, c.loop-i-test.true, loop.invariant.1)) value loop.invariant.2,
+      length-set loop.found loop.i _ ∙ loop.invariant.0,
+      one_more a.values a.places loop.found loop.i _ (omega (arith, c.loop-i-test.true, loop.invariant.0)) value loop.invariant.1,
     )
 
 pub returns : goal.returns
-returns c = record { long = c.loop-i.invariant.1; each = λ k h. c.loop-i.invariant.2 k (omega (arith, c.loop-i-test.false)) }
+returns c = record { long = c.loop-i.invariant.0; each = λ k h. c.loop-i.invariant.1 k (omega (arith, c.loop-i-test.false)) }

@@ -5,4 +5,4 @@ use Rattle.joined_streams.specs.Outcome.{refused_streams}
 use Rattle.joined_streams.proofs.refused.Goals as goal
 
 pub returns : goal.returns
-returns c = let n = c.args.refusal in ap (λ (s : StreamsDescription). record { refusal = n; letters = 0; streams = s; left = (refused_streams n).left; right = (refused_streams n).right }) c.no_streams.ensures
+returns c = let n = c.args.refusal in ap (λ (s : StreamsDescription). record { refusal = n; letters = 0; streams = s; left = (refused_streams n).left; right = (refused_streams n).right }) c.none.ensures

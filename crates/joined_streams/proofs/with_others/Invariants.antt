@@ -5,7 +5,4 @@ use Rattle.joined_streams.specs.Describing.{with_others}
 use Rattle.joined_streams.proofs.with_others.Given as goal
 
 abbrev pub invariant-loop-stream : goal.invariant-loop-stream
-invariant-loop-stream l = (l.stream ≤ l.from.count) × (l.all.count ≤ 8 + l.stream) × (with_others l.known l.from l.all l.stream (l.from.count - l.stream) ≡ with_others l.known l.from l.initial.all 0 l.from.count)
-
-abbrev pub decreases-loop-stream : goal.decreases-loop-stream
-decreases-loop-stream l = l.from.count - l.stream
+invariant-loop-stream l = (l.all.count ≤ 8 + l.stream) × (with_others l.known l.from l.all l.stream (l.from.count - l.stream) ≡ with_others l.known l.from l.initial.all 0 l.from.count)

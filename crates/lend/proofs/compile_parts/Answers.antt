@@ -17,6 +17,6 @@ overflow_mul-room c =
 pub returns : goal.returns
 returns c =
     let fits : c.rows_lent-rows.result * c.args.letters ≤ 32768 = subst (λ n. n * c.args.letters ≤ 32768) (sym c.rows_lent-rows.ensures) (lent-entries c.args.letters) in
-    let entries : c.rows_lent-rows.result * c.args.letters ≡ length (take (c.rows_lent-rows.result * c.args.letters) c.clear_entries.new.list) = sym (length-take-le _ _ (omega (arith, fits, c.clear_entries.auto.list, c.requires.0))) in
-    let finals : c.rows_lent-rows.result ≡ length (take c.rows_lent-rows.result c.clear_bytes.new.list) = sym (length-take-le _ _ (search rules)) in
-    parts-lent c.args.letters c.rows_lent-rows.ensures c.requires.0 c.requires.1 c.clear_entries.ensures c.clear_bytes.ensures entries finals c.compile_in_rows.auto.entries c.compile_in_rows.auto.finals c.compile_in_rows.ensures
+    let entries : c.rows_lent-rows.result * c.args.letters ≡ length (take (c.rows_lent-rows.result * c.args.letters) c.clear_from.new.list) = sym (length-take-le _ _ (omega (arith, fits, c.clear_from.auto.list, c.requires.0))) in
+    let finals : c.rows_lent-rows.result ≡ length (take c.rows_lent-rows.result c.clear_from-2.new.list) = sym (length-take-le _ _ (search rules)) in
+    parts-lent c.args.letters c.rows_lent-rows.ensures c.requires.0 c.requires.1 c.clear_from.ensures c.clear_from-2.ensures entries finals c.compile_in_rows.auto.entries c.compile_in_rows.auto.finals c.compile_in_rows.ensures

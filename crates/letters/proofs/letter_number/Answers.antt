@@ -1,6 +1,6 @@
 -- `letters::letter_number` meets its contract, from the first stream to the last. The loop's invariant is `Counted`: the values before i are in
 -- their ranges, and the number so far counts the letters of the streams before i. Its products and sums fit 32 bits by the law for any width (Widths).
-use Prim.Native.Nat.{◌+◌, ◌-◌, ◌*◌, ◌≤◌, ◌<◌, min}
+use Prim.Native.Nat.{◌+◌, ◌*◌, ◌≤◌, ◌<◌, min}
 use native.Mathlib.Omega.{arith}
 use native.Mathlib.Numerals.{add-one}
 use mathlib.Core.Path.{◌≡◌, refl, sym, ◌∙◌, ap, ap₂, subst}
@@ -11,11 +11,11 @@ use lib.Signed.{le_z}
 use Rattle.meaning.specs.Letter.{size}
 use Rattle.arithmetic.proofs.Machine.{held_both}
 use Rattle.letters.specs.Described.{ranged}
-use Rattle.letters.proofs.Above.{lt_z_false}
 use Rattle.letters.proofs.Counts.{below_no, below_yes, count_from}
 use Rattle.letters.proofs.Numbers.{size_exact, Counted, counted_start, counted-again, next_small, value_low, value-high, digit-exact, no_letters, letters-above, other_length, no_value, some-letters, all-counted}
 use Rattle.letters.proofs.Widths.{count_fits}
 use Rattle.letters.proofs.letter_number.Goals as goal
+use Rattle.letters.proofs.letter_number.Goals.{then-count-eq0-via-then-count-eq0, then-count-eq0-via-else-count-eq0+then-count-gt1024, then-count-eq0-via-else-count-eq0+else-count-gt1024+then-letter-n, then-value-low-via-then-value-low, then-value-low-via-else-value-low+then-high-value}
 
 -- In a turn whose value is in its range: the two tests, and what `values` answers.
 record Turn (c : goal.After-distance-digit) : Type 0 where
@@ -28,64 +28,43 @@ record Turn (c : goal.After-distance-digit) : Type 0 where
   size_is : c.values-size.result ≡ size (ranged (get_or c.args.lows.now c.loop-i.i (pos 0)) (get_or c.args.highs.now c.loop-i.i (pos 0))).range
 
 pub returns-then-count-eq0 : goal.returns-then-count-eq0
-returns-then-count-eq0 c = let s = c in no_letters s.args.lows.now s.args.highs.now s.args.letter.now c.letter_count-count.ensures c.if-count-eq0.true
-
-pub returns-then-count-gt1024 : goal.returns-then-count-gt1024
-returns-then-count-gt1024 c = let s = c in letters-above s.args.lows.now s.args.highs.now s.args.letter.now c.letter_count-count.ensures c.if-count-gt1024.true
-
-pub returns-then-letter-n : goal.returns-then-letter-n
-returns-then-letter-n c = let s = c in other_length s.args.lows.now s.args.highs.now s.args.letter.now c.letter_count-count.ensures c.fewer-n.ensures refl c.if-letter-n.true
+returns-then-count-eq0 c =
+    let a = c.args in
+    elim c.then-count-eq0.branch [
+      | then-count-eq0-via-then-count-eq0 w ↦ no_letters a.lows.now a.highs.now a.letter.now c.letter_count-count.ensures w.if-count-eq0.true
+      | then-count-eq0-via-else-count-eq0+then-count-gt1024 w ↦ letters-above a.lows.now a.highs.now a.letter.now c.letter_count-count.ensures w.if-count-gt1024.true
+      | then-count-eq0-via-else-count-eq0+else-count-gt1024+then-letter-n w ↦ other_length a.lows.now a.highs.now a.letter.now c.letter_count-count.ensures c.min-n.ensures refl w.if-letter-n.true
+    ]
 
 pub loop-i-init : goal.loop-i-init
 loop-i-init c = let s = c in counted_start s.args.lows.now s.args.highs.now s.args.letter.now
 
-pub offset_bounds-lows-i : goal.offset_bounds-lows-i
-offset_bounds-lows-i c = omega (arith, c.loop-i-test.true, c.fewer-n.ensures, c.if-letter-n.false, c.well_formed)
-
-pub bounds-lows-i : goal.bounds-lows-i
-bounds-lows-i c = omega (arith, c.loop-i-test.true, c.fewer-n.ensures, c.if-letter-n.false)
-
-pub offset_bounds-highs-i : goal.offset_bounds-highs-i
-offset_bounds-highs-i c = omega (arith, c.loop-i-test.true, c.fewer-n.ensures, c.if-letter-n.false, c.well_formed)
-
-pub bounds-highs-i : goal.bounds-highs-i
-bounds-highs-i c = omega (arith, c.loop-i-test.true, c.fewer-n.ensures, c.if-letter-n.false)
-
-pub offset_bounds-letter-i : goal.offset_bounds-letter-i
-offset_bounds-letter-i c = omega (arith, c.loop-i-test.true, c.fewer-n.ensures, c.if-letter-n.false, c.well_formed)
-
-pub bounds-letter-i : goal.bounds-letter-i
-bounds-letter-i c = omega (arith, c.loop-i-test.true, c.fewer-n.ensures, c.if-letter-n.false)
-
 pub returns-then-value-low : goal.returns-then-value-low
 returns-then-value-low c =
-    let s = c in
+    let a = c.args in
     let i = c.loop-i.i in
-    no_value s.args.lows.now s.args.highs.now s.args.letter.now c.letter_count-count.ensures
-    (value_low s.args.lows.now s.args.highs.now s.args.letter.now i (omega (arith, c.loop-i-test.true, c.fewer-n.ensures)) (c.if-letter-n.false ∙ c.fewer-n.ensures) c.loop-i.invariant
-    (below_no (get_or s.args.letter.now (i) (pos 0)) (get_or s.args.lows.now (i) (pos 0)) (record { sfits = c.value-1.given }) (record { sfits = c.low-1.given }) c.if-value-low.true))
-
-pub returns-then-high-value : goal.returns-then-high-value
-returns-then-high-value c =
-    let s = c in
-    let i = c.loop-i.i in
-    no_value s.args.lows.now s.args.highs.now s.args.letter.now c.letter_count-count.ensures
-    (value-high s.args.lows.now s.args.highs.now s.args.letter.now i (omega (arith, c.loop-i-test.true, c.fewer-n.ensures)) (c.if-letter-n.false ∙ c.fewer-n.ensures) c.loop-i.invariant
-    (below_yes (get_or s.args.letter.now (i) (pos 0)) (get_or s.args.lows.now (i) (pos 0)) (record { sfits = c.value-1.given }) (record { sfits = c.low-1.given }) c.if-value-low.false)
-    (below_no (get_or s.args.highs.now (i) (pos 0)) (get_or s.args.letter.now (i) (pos 0)) (record { sfits = c.high-1.given }) (record { sfits = c.value-1.given }) c.if-high-value.true))
-
-pub distance-digit-requires : goal.distance-digit-requires
-distance-digit-requires c = lt_z_false _ _ c.if-value-low.false
+    let below : i < min (length a.lows.now) (length a.highs.now) = omega (arith, c.loop-i-test.true, c.if-letter-n.false, c.min-n.ensures) in
+    let low = get_or a.lows.now i (pos 0) in
+    let high = get_or a.highs.now i (pos 0) in
+    let value = get_or a.letter.now i (pos 0) in
+    no_value a.lows.now a.highs.now a.letter.now c.letter_count-count.ensures
+    (elim c.then-value-low.branch [
+      | then-value-low-via-then-value-low w ↦ value_low a.lows.now a.highs.now a.letter.now i below (c.if-letter-n.false ∙ c.min-n.ensures) c.loop-i.invariant
+          (below_no value low (record { sfits = c.value-1.given }) (record { sfits = c.low-1.given }) w.if-value-low.true)
+      | then-value-low-via-else-value-low+then-high-value w ↦ value-high a.lows.now a.highs.now a.letter.now i below (c.if-letter-n.false ∙ c.min-n.ensures) c.loop-i.invariant
+          (below_yes value low (record { sfits = c.value-1.given }) (record { sfits = c.low-1.given }) w.if-value-low.false)
+          (below_no high value (record { sfits = c.high-1.given }) (record { sfits = c.value-1.given }) w.if-high-value.true)
+    ])
 
 pub overflow_mul-number : goal.overflow_mul-number
 overflow_mul-number c =
     let turn : Turn c = (let s = c in
     let i = c.loop-i.i in
-    let b : i < min (length s.args.lows.now) (length s.args.highs.now) = omega (arith, c.loop-i-test.true, c.fewer-n.ensures) in
+    let b : i < min (length s.args.lows.now) (length s.args.highs.now) = omega (arith, c.loop-i-test.true, c.min-n.ensures) in
     let p = some-letters s.args.lows.now s.args.highs.now s.args.letter.now c.letter_count-count.ensures c.if-count-eq0.false c.if-count-gt1024.false in
     record {
       below = b;
-      long = c.if-letter-n.false ∙ c.fewer-n.ensures;
+      long = c.if-letter-n.false ∙ c.min-n.ensures;
       positive = p.0;
       few = p.1;
       above_low = below_yes (get_or c.args.letter.now c.loop-i.i (pos 0)) (get_or c.args.lows.now c.loop-i.i (pos 0)) (record { sfits = c.value-1.given }) (record { sfits = c.low-1.given }) c.if-value-low.false;
@@ -105,11 +84,11 @@ pub overflow_add-number : goal.overflow_add-number
 overflow_add-number c =
     let turn : Turn c = (let s = c in
     let i = c.loop-i.i in
-    let b : i < min (length s.args.lows.now) (length s.args.highs.now) = omega (arith, c.loop-i-test.true, c.fewer-n.ensures) in
+    let b : i < min (length s.args.lows.now) (length s.args.highs.now) = omega (arith, c.loop-i-test.true, c.min-n.ensures) in
     let p = some-letters s.args.lows.now s.args.highs.now s.args.letter.now c.letter_count-count.ensures c.if-count-eq0.false c.if-count-gt1024.false in
     record {
       below = b;
-      long = c.if-letter-n.false ∙ c.fewer-n.ensures;
+      long = c.if-letter-n.false ∙ c.min-n.ensures;
       positive = p.0;
       few = p.1;
       above_low = below_yes (get_or c.args.letter.now c.loop-i.i (pos 0)) (get_or c.args.lows.now c.loop-i.i (pos 0)) (record { sfits = c.value-1.given }) (record { sfits = c.low-1.given }) c.if-value-low.false;
@@ -125,21 +104,15 @@ overflow_add-number c =
     omega (arith, next_small s.args.lows.now s.args.highs.now s.args.letter.now loop.i t.below t.long loop.invariant t.positive t.few t.above_low t.below-high, ap (λ x. loop.number * x) t.size_is, digit-exact s.args.lows.now s.args.highs.now s.args.letter.now loop.i t.below t.long loop.invariant t.positive t.few t.above_low t.below-high digit)) in
     record { fits = count_fits 32 (omega arith) (omega (arith, next-below)) }
 
-pub overflow_add-i : goal.overflow_add-i
-overflow_add-i c = omega (arith, c.loop-i-test.true, c.fewer-n.ensures, c.well_formed)
-
-pub loop-i-smaller : goal.loop-i-smaller
-loop-i-smaller c = omega (arith, c.loop-i-test.true)
-
 pub loop-i-preserved : goal.loop-i-preserved
 loop-i-preserved c =
     let turn : Turn c = (let s = c in
     let i = c.loop-i.i in
-    let b : i < min (length s.args.lows.now) (length s.args.highs.now) = omega (arith, c.loop-i-test.true, c.fewer-n.ensures) in
+    let b : i < min (length s.args.lows.now) (length s.args.highs.now) = omega (arith, c.loop-i-test.true, c.min-n.ensures) in
     let p = some-letters s.args.lows.now s.args.highs.now s.args.letter.now c.letter_count-count.ensures c.if-count-eq0.false c.if-count-gt1024.false in
     record {
       below = b;
-      long = c.if-letter-n.false ∙ c.fewer-n.ensures;
+      long = c.if-letter-n.false ∙ c.min-n.ensures;
       positive = p.0;
       few = p.1;
       above_low = below_yes (get_or c.args.letter.now c.loop-i.i (pos 0)) (get_or c.args.lows.now c.loop-i.i (pos 0)) (record { sfits = c.value-1.given }) (record { sfits = c.low-1.given }) c.if-value-low.false;
@@ -156,5 +129,5 @@ pub returns : goal.returns
 returns c =
     let s = c in
     let inv = c.loop-i.invariant in
-    all-counted s.args.lows.now s.args.highs.now s.args.letter.now c.letter_count-count.ensures c.if-count-gt1024.false {i = c.loop-i.i} (omega (arith, inv.within, c.loop-i-test.false, c.fewer-n.ensures))
-    (c.if-letter-n.false ∙ c.fewer-n.ensures) inv
+    all-counted s.args.lows.now s.args.highs.now s.args.letter.now c.letter_count-count.ensures c.if-count-gt1024.false {i = c.loop-i.i} (omega (arith, inv.within, c.loop-i-test.false, c.min-n.ensures))
+    (c.if-letter-n.false ∙ c.min-n.ensures) inv

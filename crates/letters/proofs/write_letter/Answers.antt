@@ -30,33 +30,12 @@ room-there s = omega (arith, (there s).fits, length-described s.args.lows.now s.
 pub loop-i-init : goal.loop-i-init
 loop-i-init c =
     let s = c in
-    let n = c.fewer-i.ensures in
-    (omega arith, refl, written_start s.args.lows.now s.args.highs.now s.args.number s.args.out.now n, rest-start s.args.lows.now s.args.highs.now s.args.number n)
-
-pub overflow_sub-i : goal.overflow_sub-i
-overflow_sub-i c = omega arith
-
-pub offset_bounds-lows-i : goal.offset_bounds-lows-i
-offset_bounds-lows-i c = omega (arith, c.loop-i.invariant.0, c.well_formed)
-
-pub bounds-lows-i : goal.bounds-lows-i
-bounds-lows-i c = omega (arith, c.loop-i.invariant.0)
-
-pub offset_bounds-highs-i : goal.offset_bounds-highs-i
-offset_bounds-highs-i c = omega (arith, c.loop-i.invariant.0, c.well_formed)
-
-pub bounds-highs-i : goal.bounds-highs-i
-bounds-highs-i c = omega (arith, c.loop-i.invariant.0)
-
-pub offset_bounds-lows-i-in-loop-i : goal.offset_bounds-lows-i-in-loop-i
-offset_bounds-lows-i-in-loop-i c = omega (arith, c.loop-i.invariant.0, c.well_formed)
-
-pub bounds-lows-i-in-loop-i : goal.bounds-lows-i-in-loop-i
-bounds-lows-i-in-loop-i c = omega (arith, c.loop-i.invariant.0)
+    let n = c.min-i.ensures in
+    (refl, written_start s.args.lows.now s.args.highs.now s.args.number s.args.out.now n, rest-start s.args.lows.now s.args.highs.now s.args.number n)
 
 pub nonzero_rem-rest : goal.nonzero_rem-rest
 nonzero_rem-rest c =
-    let stream-there : c.loop-i.i - 1 < min (length c.args.lows.now) (length c.args.highs.now) = omega (arith, c.loop-i.invariant.0, c.loop-i-test.true) in
+    let stream-there : c.loop-i.i - 1 < min (length c.args.lows.now) (length c.args.highs.now) = omega (arith, c.loop-i-test.true) in
     let exact : (c.values-size.result ≡ size (ranged (get_or c.args.lows.now (c.loop-i.i - 1) (pos 0)) (get_or c.args.highs.now (c.loop-i.i - 1) (pos 0))).range) × (0 < c.values-size.result) = (let s = c in
     let t = c in
     size_exact s.args.lows.now s.args.highs.now (some_letter (goal.at.nonzero_rem-rest c).Start) (there (goal.at.nonzero_rem-rest c).Start).few (c.loop-i.i - 1) (stream-there) (record { sfits = c.values-arg-1.given })
@@ -65,7 +44,7 @@ nonzero_rem-rest c =
 
 pub raised-requires : goal.raised-requires
 raised-requires c =
-    let stream-there : c.loop-i.i - 1 < min (length c.args.lows.now) (length c.args.highs.now) = omega (arith, c.loop-i.invariant.0, c.loop-i-test.true) in
+    let stream-there : c.loop-i.i - 1 < min (length c.args.lows.now) (length c.args.highs.now) = omega (arith, c.loop-i-test.true) in
     let exact : (c.values-size.result ≡ size (ranged (get_or c.args.lows.now (c.loop-i.i - 1) (pos 0)) (get_or c.args.highs.now (c.loop-i.i - 1) (pos 0))).range) × (0 < c.values-size.result) = (let s = c in
     let t = c in
     size_exact s.args.lows.now s.args.highs.now (some_letter (goal.at.raised-requires c).Start) (there (goal.at.raised-requires c).Start).few (c.loop-i.i - 1) (stream-there) (record { sfits = c.values-arg-1.given })
@@ -77,27 +56,21 @@ raised-requires c =
     (digit-fits s.args.lows.now s.args.highs.now (some_letter (goal.at.raised-requires c).Start) i (stream-there) fl (record { sfits = c.values-arg-in-loop-i-1.given }) c.loop-i.rest
     (exact).0)
 
-pub offset_bounds-out-i : goal.offset_bounds-out-i
-offset_bounds-out-i c = omega (arith, c.loop-i.invariant.0, c.well_formed)
-
 pub bounds-out-i : goal.bounds-out-i
-bounds-out-i c = omega (arith, c.loop-i.invariant.0, c.loop-i.invariant.1, room-there (goal.at.bounds-out-i c).Start)
+bounds-out-i c = omega (arith, c.loop-i.invariant.0, room-there (goal.at.bounds-out-i c).Start)
 
 pub nonzero_div-rest : goal.nonzero_div-rest
 nonzero_div-rest c =
-    let stream-there : c.loop-i.i - 1 < min (length c.args.lows.now) (length c.args.highs.now) = omega (arith, c.loop-i.invariant.0, c.loop-i-test.true) in
+    let stream-there : c.loop-i.i - 1 < min (length c.args.lows.now) (length c.args.highs.now) = omega (arith, c.loop-i-test.true) in
     let exact : (c.values-size.result ≡ size (ranged (get_or c.args.lows.now (c.loop-i.i - 1) (pos 0)) (get_or c.args.highs.now (c.loop-i.i - 1) (pos 0))).range) × (0 < c.values-size.result) = (let s = c in
     let t = c in
     size_exact s.args.lows.now s.args.highs.now (some_letter (goal.at.nonzero_div-rest c).Start) (there (goal.at.nonzero_div-rest c).Start).few (c.loop-i.i - 1) (stream-there) (record { sfits = c.values-arg-1.given })
     (record { sfits = c.values-arg-in-loop-i-1.given }) c.values-size.ensures) in
     (exact).1
 
-pub loop-i-smaller : goal.loop-i-smaller
-loop-i-smaller c = omega arith
-
 pub loop-i-preserved : goal.loop-i-preserved
 loop-i-preserved c =
-    let stream-there : c.loop-i.i - 1 < min (length c.args.lows.now) (length c.args.highs.now) = omega (arith, c.loop-i.invariant.0, c.loop-i-test.true) in
+    let stream-there : c.loop-i.i - 1 < min (length c.args.lows.now) (length c.args.highs.now) = omega (arith, c.loop-i-test.true) in
     let exact : (c.values-size.result ≡ size (ranged (get_or c.args.lows.now (c.loop-i.i - 1) (pos 0)) (get_or c.args.highs.now (c.loop-i.i - 1) (pos 0))).range) × (0 < c.values-size.result) = (let s = c in
     let t = c in
     size_exact s.args.lows.now s.args.highs.now (some_letter (goal.at.loop-i-preserved c).Start) (there (goal.at.loop-i-preserved c).Start).few (c.loop-i.i - 1) (stream-there) (record { sfits = c.values-arg-1.given })
@@ -106,14 +79,13 @@ loop-i-preserved c =
     let loop = c.loop-i in
     let i = loop.i - 1 in
     let t = c in
-    let n : loop.i ≡ suc i = omega (arith, t.loop-i-test.true) in
+    let n : loop.i ≡ suc i = omega arith in
     let low = get_or s.args.lows.now i (pos 0) in
     let size = (exact).0 in
-    let rest = loop.invariant.3 ∙ ap (λ k. s.args.number / count_from s.args.lows.now s.args.highs.now k) n in (
-      omega (arith, loop.invariant.0),
-      length-set loop.out i _ ∙ loop.invariant.1,
+    let rest = loop.invariant.2 ∙ ap (λ k. s.args.number / count_from s.args.lows.now s.args.highs.now k) n in (
+      length-set loop.out i _ ∙ loop.invariant.0,
       written-again s.args.lows.now s.args.highs.now s.args.number s.args.out.now (some_letter (goal.at.loop-i-preserved c).Start) i (stream-there)
-          (room-there (goal.at.loop-i-preserved c).Start) (loop.invariant.2 ∙ ap (written s.args.lows.now s.args.highs.now s.args.number s.args.out.now) n) rest size
+          (room-there (goal.at.loop-i-preserved c).Start) (loop.invariant.1 ∙ ap (written s.args.lows.now s.args.highs.now s.args.number s.args.out.now) n) rest size
           (to_z-of_z w64 c.raised.result (record { sfits = c.raised.type_inv }) ∙ c.raised.ensures
           ∙ ap (λ z. z +ℤ pos (loop.rest % c.values-size.result)) (to_z-of_z w64 low (record { sfits = c.values-arg-1.given }))),
       rest-again s.args.lows.now s.args.highs.now s.args.number i (stream-there) rest size,
@@ -122,4 +94,4 @@ loop-i-preserved c =
 pub returns : goal.returns
 returns c =
     let s = c in
-    all-written s.args.lows.now s.args.highs.now s.args.number s.args.out.now s.requires {i = c.loop-i.i} (omega arith) c.loop-i.invariant.2
+    all-written s.args.lows.now s.args.highs.now s.args.number s.args.out.now s.requires {i = c.loop-i.i} (omega arith) c.loop-i.invariant.1

@@ -1,11 +1,7 @@
--- `marks::has_marked` meets its contract: none of the first `a` entries names a marked row.
-use Prim.Native.Nat.{ℕ, ◌≤◌, ◌<◌, ◌-◌, ◌+◌}
-use lib.ListN.{get_or}
+-- `marks::has_marked` meets its contract: none of the entries before `entry` names a marked row.
+use Rattle.std.proofs.Common.{ℕ, ◌<◌, ◌+◌, get_or}
 use Rattle.marks.specs.Marks.{Marked}
 use Rattle.marks.proofs.has_marked.Given as goal
 
-abbrev pub invariant-loop-a : goal.invariant-loop-a
-invariant-loop-a l = (l.a ≤ l.letters) × ((b : ℕ) → b < l.a → ¬ Marked l.marks (get_or l.entries (l.start + b) 0))
-
-abbrev pub decreases-loop-a : goal.decreases-loop-a
-decreases-loop-a l = l.letters - l.a
+abbrev pub invariant-loop-entry : goal.invariant-loop-entry
+invariant-loop-entry l = (b : ℕ) → b < l.entry-index → ¬ Marked l.marks (get_or l.entries (l.start + b) 0)

@@ -5,7 +5,4 @@ use Rattle.marks.specs.Sweeps.{Swept}
 use Rattle.marks.proofs.sweep_down.Given as goal
 
 abbrev pub invariant-loop-row : goal.invariant-loop-row
-invariant-loop-row l = (l.row ≤ length l.initial.marks) × Swept l.to l.letters l.entries (λ s. (l.row ≤ s) × (s < length l.initial.marks)) l.initial.marks l.marks l.changed
-
-abbrev pub decreases-loop-row : goal.decreases-loop-row
-decreases-loop-row l = l.row
+invariant-loop-row l = Swept l.to l.letters l.entries (λ s. (l.row ≤ s) × (s < length l.initial.marks)) l.initial.marks l.marks l.changed

@@ -5,8 +5,8 @@ use lib.ListN.{length}
 use Rattle.marks.specs.Sweeps.{rows_left, Turns}
 use Rattle.marks.proofs.sweeps.Given as goal
 
-abbrev pub invariant-loop-marks : goal.invariant-loop-marks
-invariant-loop-marks l = (length l.marks ≡ length l.initial.marks) × Turns l.to l.letters l.entries l.initial.marks l.marks
+abbrev pub invariant-sweeps : goal.invariant-sweeps
+invariant-sweeps l = (length l.marks ≡ length l.initial.marks) × Turns l.to l.letters l.entries l.initial.marks l.marks
 
-abbrev pub decreases-loop-marks : goal.decreases-loop-marks
-decreases-loop-marks l = rows_left l.to l.marks
+abbrev pub decreases-sweeps : goal.decreases-sweeps
+decreases-sweeps l = rows_left l.to l.marks

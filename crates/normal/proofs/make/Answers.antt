@@ -5,7 +5,6 @@ use mathlib.Core.List.{List}
 use native.Mathlib.Omega.{arith}
 use lib.ListN.{length, replicate}
 use Rattle.std.proofs.lemmas.List.Edits.{sets}
-use Rattle.basics.proofs.Clearing.{cleared-all}
 use Rattle.normal_entries.specs.declared.Made.{Made}
 use Rattle.normal.specs.Table.{WroteLines, ends_up_to}
 use Rattle.nodes.specs.Evaluate.{stored}
@@ -23,7 +22,7 @@ returns-then-room-rows c =
     let wrote = subst (λ (t : List ℕ). WroteLines ls 0 (length a.relations.now) (length a.lows.now) t c.write_lines-written.new.table c.write_lines-written.result) zeros c.write_lines-written.ensures in
     let long : length c.write_lines-written.new.table ≡ 30944 = omega (arith, c.write_lines-written.array_long) in
     made-short ls (length a.lows.now) count wrote (range_before (stored a.kinds.now a.values.now a.starts.now) a.lows.now a.highs.now) a.spans.now a.room c.if-room-rows.true
-    (refusal-put c.requires.zeros c.refused_answer-made.ensures (cleared-all c.clear_entries.ensures ∙ ap (λ n. replicate n 0) long))
+    (refusal-put c.requires.zeros c.refused_answer-made.ensures (c.fill.ensures.after (λ y e. e) ∙ ap (λ n. replicate n 0) long))
 
 pub overflow_sub-made : goal.overflow_sub-made
 overflow_sub-made c =

@@ -8,7 +8,7 @@ use mir.ValLaws.{to_z-of_z}
 use lib.Seq.{sets}
 use Rattle.nodes.specs.Evaluate.{stored}
 use Rattle.normal.specs.Stored.{range_before}
-use Rattle.normal.specs.Table.{ends_up_to}
+use Rattle.normal.specs.Table.{range_or_zeros, ends_up_to}
 use Rattle.normal.proofs.Ends.{no_ends, more-ends}
 use Rattle.normal.proofs.write_ends.Goals as goal
 
@@ -30,20 +30,14 @@ bounds-numbers-i c = let s = c in omega (arith, s.requires)
 pub put_range-requires : goal.put_range-requires
 put_range-requires c = let s = c in omega (arith, s.requires)
 
-pub overflow_add-i-in-loop-i : goal.overflow_add-i-in-loop-i
-overflow_add-i-in-loop-i c = let s = c in omega (arith, s.requires)
-
-pub loop-i-smaller : goal.loop-i-smaller
-loop-i-smaller c = omega arith
-
 pub loop-i-preserved : goal.loop-i-preserved
 loop-i-preserved c =
     let s = c in
     let o = c.loop-i in
-    let r = c.range_before-range.result in
+    let r = c.unwrap_or-range.result in
     let range = range_before (stored s.args.kinds.now s.args.values.now s.args.starts.now) s.args.lows.now s.args.highs.now in (
       omega arith,
-      more-ends range s.args.numbers.now s.args.ends.now o.i o.invariant.1 (c.range_before-range.ensures ∙ ap range c.wide-source.ensures) (c.put_range.ensures
+      more-ends range s.args.numbers.now s.args.ends.now o.i o.invariant.1 (c.unwrap_or-range.ensures ∙ ap range_or_zeros (c.range_before.ensures ∙ ap range c.from-source.ensures)) (c.put_range.ensures
           ∙ ap₂ (λ x y. sets o.ends (o.i * 2) (x ∷ y ∷ [])) (to_z-of_z w64 r.low (record { sfits = omega arith })) (to_z-of_z w64 r.high (record { sfits = omega arith }))),
     )
 

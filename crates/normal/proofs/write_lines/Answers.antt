@@ -44,12 +44,6 @@ write_line-next-requires c =
     let is = lines_at s.args.kinds.now s.args.starts.now s.args.relations.now s.args.lefts.now s.args.rights.now j below s.requires.has_lines.left_count s.requires.has_lines.right_count in
     (s.requires.has_lines.left j below, s.requires.has_lines.right j below, s.requires.has_lines.nodes, omega (arith, o.invariant.1), lines-first (stored_line s.args.kinds.now s.args.starts.now (get_or s.args.relations.now j 0) (get_or s.args.lefts.now j 0) (get_or s.args.rights.now j 0)) (stored_lines s.args.kinds.now s.args.starts.now (drop (j + 1) s.args.relations.now) (drop (j + 1) s.args.lefts.now) (drop (j + 1) s.args.rights.now)) (subst (λ ls. LinesHaveRoom ls o.row o.stream) is o.invariant.2))
 
-pub overflow_add-j : goal.overflow_add-j
-overflow_add-j c = omega arith
-
-pub loop-j-smaller : goal.loop-j-smaller
-loop-j-smaller c = omega arith
-
 pub loop-j-preserved : goal.loop-j-preserved
 loop-j-preserved c =
     let s = c in

@@ -1,5 +1,5 @@
 -- `normal::write_lines` meets its contract. The invariant: whatever the lines that are left write completes what all lines write.
-use Prim.Native.Nat.{ℕ, ◌-◌, ◌≤◌}
+use Prim.Native.Nat.{ℕ, ◌≤◌}
 use mathlib.Core.List.{List}
 use lib.ListN.{length, drop}
 use Rattle.normal.specs.Rows.{Line}
@@ -16,6 +16,3 @@ abbrev pub invariant-loop-j : goal.invariant-loop-j
 invariant-loop-j l = (l.j ≤ length l.relations) × (length l.relations ≤ l.row) × LinesHaveRoom (rest l.kinds l.starts l.relations l.lefts l.rights l.j) l.row l.stream
     × ((new : List ℕ) (r : RowsWritten) → WroteLines (rest l.kinds l.starts l.relations l.lefts l.rights l.j) l.j l.row l.stream l.table new r
     → WroteLines (stored_lines l.kinds l.starts l.relations l.lefts l.rights) 0 (length l.relations) l.streams l.initial.table new r)
-
-abbrev pub decreases-loop-j : goal.decreases-loop-j
-decreases-loop-j l = length l.relations - l.j

@@ -23,7 +23,7 @@ returns c =
     let row = row_in numbers a.i in
     let is-left = c.left_is_node-is_left.ensures in
     let is_right = c.right_is_node-is_right.ensures in
-    let before-left : c.behind_node-before_left.result ≡ left_behind row = c.behind_node-before_left.ensures ∙ (λ k. cond (is-left k) (suc row.left) (c.wide.ensures k)) in
+    let before-left : c.behind_node-before_left.result ≡ left_behind row = c.behind_node-before_left.ensures ∙ (λ k. cond (is-left k) (suc row.left) (c.from.ensures k)) in
     let before-right : c.behind_node-before_right.result ≡ right_behind row = c.behind_node-before_right.ensures ∙ (λ k. cond (is_right k) (suc row.right) 0) in
     (λ k. record {
       kind = row.kind;

@@ -18,7 +18,7 @@ loop-i-preserved c =
     let loop = c.loop-i in
     record {
       inside = omega (arith, c.loop-i-test.true, length-set loop.list loop.i c.entry_at.result);
-      stored = subst (λ (k : ℕ). take k (set loop.list loop.i c.entry_at.result) ≡ listed f k) (sym (add-one loop.i)) (listed_more f loop.list loop.i c.entry_at.result c.loop-i-test.true loop.invariant.stored c.entry_at.ensures);
+      stored = subst (λ (k : ℕ). take k (set loop.list loop.i c.entry_at.result) ≡ listed f k) (sym (add-one loop.i)) (listed_more f loop.list loop.i c.entry_at.result (omega arith) loop.invariant.stored c.entry_at.ensures);
     }
 
 pub returns : goal.returns

@@ -1,5 +1,5 @@
 -- `normal_entries::fill` meets its contract: before each turn the first i elements are the entries with the numbers below i.
-use Prim.Native.Nat.{◌-◌, ◌≤◌}
+use Prim.Native.Nat.{◌≤◌}
 use mathlib.Core.Path.{◌≡◌}
 use lib.ListN.{length, take}
 use Rattle.normal_entries.specs.Entries.{stored_entry, listed}
@@ -10,6 +10,3 @@ invariant-loop-i l = record {
   inside : l.i ≤ length l.list;
   stored : take l.i l.list ≡ listed (stored_entry l.numbers l.ends) l.i;
 }
-
-abbrev pub decreases-loop-i : goal.decreases-loop-i
-decreases-loop-i l = length l.initial.list - l.i

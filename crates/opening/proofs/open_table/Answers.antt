@@ -3,23 +3,23 @@ use native.Mathlib.Omega.{arith}
 use Rattle.lend.proofs.Outcome.{few_states}
 use Rattle.opening.specs.Start.{start_text}
 use Rattle.opening.proofs.Opening.{sheet-refused, start-refused, sheet-opened}
-use borrow.Author.Tests.{not-true, not-false}
+use borrow.Author.Rules.{rules}
 use Rattle.opening.proofs.open_table.Goals as goal
 
-pub returns-then-refusal-ne0 : goal.returns-then-refusal-ne0
-returns-then-refusal-ne0 c =
+pub returns-then-compiled-ne0 : goal.returns-then-compiled-ne0
+returns-then-compiled-ne0 c =
     let a = c.args in
-    sheet-refused a.text.now (start_text a.given a.start.now) c.read-reading.ensures c.compile_lent-compiled.ensures (omega (arith, c.if-refusal-ne0.true))
+    sheet-refused a.text.now (start_text a.given a.start.now) c.read.ensures c.compile_lent-compiled.ensures (omega (arith, c.if-compiled-ne0.true))
 
-pub judge_start-judged-requires : goal.judge_start-judged-requires
-judge_start-judged-requires c = omega (arith, few_states c.compile_lent-compiled.ensures c.if-refusal-ne0.false)
+pub judge_start-requires : goal.judge_start-requires
+judge_start-requires c = omega (arith, few_states c.compile_lent-compiled.ensures c.if-compiled-ne0.false)
 
 pub returns : goal.returns
 returns c =
     let a = c.args in
-    sheet-opened a.text.now (start_text a.given a.start.now) c.read-reading.ensures c.compile_lent-compiled.ensures c.if-refusal-ne0.false c.judge_start-judged.ensures (not-false _ c.if-not-judged.false)
+    sheet-opened a.text.now (start_text a.given a.start.now) c.read.ensures c.compile_lent-compiled.ensures c.if-compiled-ne0.false c.judge_start.ensures c.in-Some.is
 
-pub returns-then-not-judged : goal.returns-then-not-judged
-returns-then-not-judged c =
+pub returns-in_default : goal.returns-in_default
+returns-in_default c =
     let a = c.args in
-    start-refused a.text.now (start_text a.given a.start.now) c.read-reading.ensures c.compile_lent-compiled.ensures c.if-refusal-ne0.false c.judge_start-judged.ensures (not-true _ c.if-not-judged.true) c.clear_entries.ensures c.clear_bytes.ensures
+    start-refused a.text.now (start_text a.given a.start.now) c.read.ensures c.compile_lent-compiled.ensures c.if-compiled-ne0.false c.judge_start.ensures (search rules) (search rules) (search rules)

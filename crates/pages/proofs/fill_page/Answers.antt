@@ -1,53 +1,21 @@
 -- `pages::fill_page` meets its contract: before each turn the bytes hold the lines from `from` to before the place (Lines).
+use Prim.Native.Nat.{◌+◌, ◌≤◌}
 use native.Mathlib.Omega.{arith}
-use mathlib.Core.Path.{refl, sym, ◌∙◌}
-use Rattle.pages.proofs.Lines.{no_lines, same-room, copied-line, page_full, page_last}
+use mathlib.Core.Path.{refl, ◌∙◌}
+use lib.ListN.{length, take}
+use lib.Seq.{length-take-le}
+use Rattle.print.proofs.Append.{text-copied}
+use Rattle.pages.proofs.Lines.{no_lines, same-room, copied-line}
 use Rattle.pages.proofs.fill_page.Goals as goal
 
-pub place_count-count-requires : goal.place_count-count-requires
-place_count-count-requires c = tt
-
 pub loop-place-init : goal.loop-place-init
-loop-place-init c = (no_lines _, refl)
-
-pub slice_bounds-line_at-end : goal.slice_bounds-line_at-end
-slice_bounds-line_at-end c = sym c.loop-place.invariant.1
-
-pub line_at-length-requires : goal.line_at-length-requires
-line_at-length-requires c = c.loop-place.invariant.1
-
-pub overflow_sub-out : goal.overflow_sub-out
-overflow_sub-out c = let t = c.loop-place.invariant.0 in omega (arith, same-room _ t, t.room)
-
-pub fewer-requires : goal.fewer-requires
-fewer-requires c = tt
-
-pub slice_bounds-copy-end : goal.slice_bounds-copy-end
-slice_bounds-copy-end c = sym c.loop-place.invariant.1 ∙ sym c.line_at-length.auto.line
-
-pub copy-requires : goal.copy-requires
-copy-requires c =
-    let t = c.loop-place.invariant in
-    (omega (arith, c.line_at-length.auto.line, t.1, c.fewer.ensures, c.if-fewer-length.false), omega (arith, same-room _ t.0, t.0.room, c.fewer.ensures, c.if-fewer-length.false))
-
-pub overflow_add-size : goal.overflow_add-size
-overflow_add-size c =
-    let t = c.loop-place.invariant in
-    omega (arith, same-room _ t.0, t.0.room, c.fewer.ensures, c.if-fewer-length.false, c.well_formed)
-
-pub overflow_add-place : goal.overflow_add-place
-overflow_add-place c = omega (arith, c.loop-place-test.true)
-
-pub loop-place-smaller : goal.loop-place-smaller
-loop-place-smaller c = omega (arith, c.loop-place-test.true)
+loop-place-init g c = (no_lines _, refl)
 
 pub loop-place-preserved : goal.loop-place-preserved
-loop-place-preserved c =
+loop-place-preserved g c =
     let t = c.loop-place.invariant in
-    (copied-line _ t.0 (c.line_at-length.ensures c.args.states) c.fewer.ensures c.loop-place-test.true c.if-fewer-length.false c.copy.ensures, c.line_at-length.auto.line ∙ t.1)
-
-pub returns-after-loop-place : goal.returns-after-loop-place
-returns-after-loop-place c = page_last _ c.loop-place.invariant.0 c.place_count-count.ensures c.loop-place-test.false
-
-pub returns-then-fewer-length : goal.returns-then-fewer-length
-returns-then-fewer-length c = page_full _ c.loop-place.invariant.0 (c.line_at-length.ensures c.args.states) c.fewer.ensures c.place_count-count.ensures c.if-fewer-length.true
+    let line = c.line_at-length.new.out in
+    let n = length-take-le c.line_at-length.result line (omega (arith, c.line_at-length.auto.out)) in
+    let fits : c.loop-place.size + length (take c.line_at-length.result line) ≤ length c.loop-place.out = omega (arith, n, same-room _ t.0, t.0.room) in
+    let placed = (text-copied c.loop-place.out (take c.line_at-length.result line) (omega (arith, n)) c.copy_from_slice.ensures.after fits).written fits in
+    (copied-line _ t.0 c.line_at-length.ensures c.min.ensures c.loop-place-test.true (omega arith) placed.0, c.line_at-length.auto.out ∙ t.1)

@@ -1,14 +1,8 @@
 -- `pages::fill_page` meets its contract: before each turn the bytes hold the lines from `from` to before the place (Lines).
-use Prim.Native.Nat.{◌-◌}
 use mathlib.Core.Path.{◌≡◌}
 use lib.ListN.{length}
 use Rattle.pages.specs.Lines.{HoldsLines}
-use Rattle.pages.specs.Output.{output_at}
 use Rattle.pages.proofs.fill_page.Given as goal
 
 abbrev pub invariant-loop-place : goal.invariant-loop-place
-invariant-loop-place l = HoldsLines (output_at (record { refusal = l.refusal; states = l.states; names = l.names; lengths = l.lengths; lows = l.lows; highs = l.highs; entries = l.entries; finals = l.finals })) l.count l.from l.initial.out l.out l.size l.place
-    × (length l.line ≡ 256)
-
-abbrev pub decreases-loop-place : goal.decreases-loop-place
-decreases-loop-place l = l.count - l.place
+invariant-loop-place g l = HoldsLines (g.T.PlacedText.line l.text) l.count l.from l.initial.out l.out l.size l.place × (length l.line ≡ 256)

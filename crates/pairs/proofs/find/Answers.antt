@@ -1,7 +1,6 @@
 -- `find` meets its contract. The loop goes along one chain: every row that holds the key is below the row that the loop has come to.
 use Prim.Native.Nat.{◌-◌}
 use native.Mathlib.Omega.{arith}
-use native.Mathlib.Nat.{not-suc-le-zero}
 use Rattle.key_chains.proofs.Chains.{chain_first, chain_next}
 use Rattle.pairs.proofs.find.Goals as goal
 
@@ -21,4 +20,4 @@ pub loop-j-preserved : goal.loop-j-preserved
 loop-j-preserved c = chain_next _ _ _ _ _ c.requires.0.chained _ c.loop-j.invariant (omega (arith, c.loop-j-test.true)) c.if-keys-i.false
 
 pub returns : goal.returns
-returns c = record { here = λ h. absurd (not-suc-le-zero h); nowhere = λ e i h q. omega (arith, c.loop-j.invariant.all i h q, c.loop-j-test.false) }
+returns c = λ i h q. omega (arith, c.loop-j.invariant.all i h q, c.loop-j-test.false)

@@ -1,13 +1,10 @@
 -- `parse::part`, `parse::expression` and `parse::conditional` meet their contracts. The measure follows the number of unread tokens: twice that
 -- number for a part, one more for an expression and for what stands after `if`, since these begin with a part of the same tokens.
 -- What the functions that `conditional` calls ask and give.
-use Prim.Native.Nat.{ℕ, ◌+◌, ◌*◌, ◌<◌}
 use mathlib.Core.Path.{refl, sym, ap, ◌∙◌}
-use mathlib.Core.Bool.{◌||◌}
 use mathlib.Core.List.{cons≢nil}
 use native.Mathlib.Omega.{arith}
 use lib.ListN.{length}
-use borrow.Author.Rules.{rules}
 use borrow.Author.Tests.{not-true, not-false}
 use Rattle.vocabulary.proofs.Codes.{no_prefix}
 use Rattle.text.specs.Bytes.{bytes_of, tokens}
@@ -238,9 +235,7 @@ conditional-returns t c =
     let at-part3 = c.part-last in
     let at-if5 = c.if-not-last in
     let at-put = c.put in
-    let at-either = c.either in
-    let at-either2 = c.either-2 in
-    reading-found refl (last_found (tokens at-start.args.names.now) _ _ _ (at_part.ensures.found (not-false at_part.result.ok at-if1.false)) at-token-at.ensures (sym at-is-then.ensures ∙ at-if2.false) (at-part2.ensures.found (not-false at-part2.result.ok at-if3.false)) at-token-at2.ensures (sym at-is-else.ensures ∙ at-if4.false) (at-part3.ensures.found (not-false at-part3.result.ok at-if5.false)) at-put.ensures (at-either2.ensures ∙ ap (λ b. at_part.result.beyond || b) at-either.ensures))
+    reading-found refl (last_found (tokens at-start.args.names.now) _ _ _ (at_part.ensures.found (not-false at_part.result.ok at-if1.false)) at-token-at.ensures (sym at-is-then.ensures ∙ at-if2.false) (at-part2.ensures.found (not-false at-part2.result.ok at-if3.false)) at-token-at2.ensures (sym at-is-else.ensures ∙ at-if4.false) (at-part3.ensures.found (not-false at-part3.result.ok at-if5.false)) at-put.ensures refl)
 
 pub expression-token_at-token-requires : goal.expression-token_at-token-requires
 expression-token_at-token-requires t c =
@@ -406,8 +401,7 @@ expression-returns t c =
     let at-part2 = c.part-right in
     let at-if4 = c.if-not-right in
     let at-put = c.put in
-    let at-either = c.either in
-    reading-found refl (second-found (tokens at-start.args.names.now) _ _ _ at-token-at.ensures (sym at-is-if.ensures ∙ at-if1.false) (at_part.ensures.found (not-false at_part.result.ok at-if2.false)) at-token-at2.ensures (operator_at at-token-at2.ensures at-operator-code.ensures at-if3.false) (at-part2.ensures.found (not-false at-part2.result.ok at-if4.false)) at-put.ensures at-either.ensures)
+    reading-found refl (second-found (tokens at-start.args.names.now) _ _ _ at-token-at.ensures (sym at-is-if.ensures ∙ at-if1.false) (at_part.ensures.found (not-false at_part.result.ok at-if2.false)) at-token-at2.ensures (operator_at at-token-at2.ensures at-operator-code.ensures at-if3.false) (at-part2.ensures.found (not-false at-part2.result.ok at-if4.false)) at-put.ensures refl)
 
 pub part-token_at-token-requires : goal.part-token_at-token-requires
 part-token_at-token-requires t c =

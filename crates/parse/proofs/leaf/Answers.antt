@@ -1,5 +1,7 @@
 -- `parse::leaf` meets its contract: an integer first, else a name that is not reserved.
-use mathlib.Core.Path.{sym, ap, subst, ◌∙◌}
+use mathlib.Core.Path.{◌≡◌, sym, ap, subst, ◌∙◌}
+use Rattle.std.proofs.Common.{rules}
+use Rattle.scan.specs.Integer.{no_integer}
 use mathlib.Core.Bool.{not}
 use mathlib.Core.List.{[], ◌∷◌}
 use native.Mathlib.Omega.{arith}
@@ -15,20 +17,25 @@ use Rattle.parse.specs.Stored.{store}
 use Rattle.parse.proofs.Store.{below_refl}
 use Rattle.parse.proofs.Leaves.{an_integer, no_integer_lem, integer-fits, leaf_integer, leaf_name, leaf_missing, reserved_no_name, not-a-name, place-length}
 use Rattle.parse.proofs.leaf.Goals as goal
+use Rattle.parse.proofs.leaf.Goals.{then-is_reserved-via-then-is_reserved, then-is_reserved-via-else-is_reserved+then-not-is_name}
 
-pub returns-then-integer : goal.returns-then-integer
-returns-then-integer c =
+pub returns-then-ne : goal.returns-then-ne
+returns-then-ne c =
     let before : Nodes = stored c.args.kinds.now c.args.values.now c.args.starts.now in
     let word = c.args.word.now in
-    let is = an_integer word c.read_integer-integer.ensures c.if-integer.true in
+    let some : c.read_integer-integer.result ≡ no_integer → ⊥ = λ e. search rules in
+    let is = an_integer word c.read_integer-integer.ensures some c.is_err.ensures.value c.unwrap_or-value.ensures in
     let n = c.args.nodes in
-    leaf_integer (tokens c.args.names.now) word c.args.next is (c.put.ensures ∙ ap (λ z. store (before) n (node 0 z n ∷ [])) (to_z-of_z w64 c.read_integer-integer.result.value (integer-fits is)))
+    leaf_integer (tokens c.args.names.now) word c.args.next is (c.put.ensures ∙ ap (λ z. store (before) n (node 0 z n ∷ [])) (to_z-of_z w64 c.unwrap_or-value.result (integer-fits is)))
 
 pub returns-then-is_reserved : goal.returns-then-is_reserved
-returns-then-is_reserved c = leaf_missing (tokens c.args.names.now) c.args.word.now c.args.next c.nothing.ensures (no_integer_lem c.args.word.now c.read_integer-integer.ensures c.if-integer.false) (reserved_no_name c.args.word.now (sym c.is_reserved.ensures ∙ c.if-is_reserved.true)) (below_refl _ _)
-
-pub returns-then-not-is_name : goal.returns-then-not-is_name
-returns-then-not-is_name c = leaf_missing (tokens c.args.names.now) c.args.word.now c.args.next c.nothing-then-not-is_name.ensures (no_integer_lem c.args.word.now c.read_integer-integer.ensures c.if-integer.false) (not-a-name c.args.word.now (sym c.is_name.ensures ∙ c.if-not-is_name.true)) (below_refl _ _)
+returns-then-is_reserved c =
+    let none : c.read_integer-integer.result ≡ no_integer = search rules in
+    let missing = no_integer_lem c.args.word.now c.read_integer-integer.ensures none in
+    elim c.then-is_reserved.branch [
+      | then-is_reserved-via-then-is_reserved w ↦ leaf_missing (tokens c.args.names.now) c.args.word.now c.args.next c.nothing.ensures missing (reserved_no_name c.args.word.now (sym c.is_reserved.ensures ∙ w.if-is_reserved.true)) (below_refl _ _)
+      | then-is_reserved-via-else-is_reserved+then-not-is_name w ↦ leaf_missing (tokens c.args.names.now) c.args.word.now c.args.next c.nothing.ensures missing (not-a-name c.args.word.now (sym w.is_name.ensures ∙ w.if-not-is_name.true)) (below_refl _ _)
+    ]
 
 pub value_of-place-requires : goal.value_of-place-requires
 value_of-place-requires c = let few = place-length c.args.names.now c.args.word.now in omega (arith, c.place_of.ensures, c.well_formed)

@@ -13,6 +13,7 @@ use Rattle.scan.proofs.Starts.{token-starts-length}
 use Rattle.parse.specs.Reading.{Fits, are_kept, is_too_long, are_stored}
 use Rattle.parse.proofs.Filled.{stored-starts}
 use Rattle.parse.proofs.parse_constraint.Goals as goal
+use Rattle.parse.proofs.parse_constraint.Goals.{then-from-gt1024-via-then-from-gt1024, then-from-gt1024-via-else-from-gt1024+then-firsts-gt1024, then-from-gt1024-via-else-from-gt1024+else-firsts-gt1024+then-not-tokens_fit}
 
 -- What the test of the room says.
 module _ (line : List ℕ) (n f : ℕ) {b : Bool} (e : b ≡ leb (length (tokens line)) (1024 - n)) where
@@ -23,15 +24,14 @@ module _ (line : List ℕ) (n f : ℕ) {b : Bool} (e : b ≡ leb (length (tokens
   room h l = let few = from_true (leb_reflects (length (tokens line)) (1024 - n)) (sym e ∙ h) in omega arith
 
 pub returns-then-from-gt1024 : goal.returns-then-from-gt1024
-returns-then-from-gt1024 c = record { starts_outcome = are_kept (λ w. omega (arith, c.if-from-gt1024.true, w.nodes)) refl; constraint_outcome = is_too_long (λ w. omega (arith, c.if-from-gt1024.true, w.nodes)) c.unread.ensures refl }
-
-pub returns-then-firsts-gt1024 : goal.returns-then-firsts-gt1024
-returns-then-firsts-gt1024 c = record { starts_outcome = are_kept (λ w. omega (arith, c.if-firsts-gt1024.true, w.firsts)) refl; constraint_outcome = is_too_long (λ w. omega (arith, c.if-firsts-gt1024.true, w.firsts)) c.unread-then-firsts-gt1024.ensures refl }
-
-pub returns-then-not-tokens_fit : goal.returns-then-not-tokens_fit
-returns-then-not-tokens_fit c =
+returns-then-from-gt1024 c =
     let a = c.args in
-    record { starts_outcome = are_kept (no_room a.line.now a.from a.firsts c.tokens_fit.ensures c.if-not-tokens_fit.true) refl; constraint_outcome = is_too_long (no_room a.line.now a.from a.firsts c.tokens_fit.ensures c.if-not-tokens_fit.true) c.unread-then-not-tokens_fit.ensures refl }
+    let long : Fits a.line.now a.from a.firsts → ⊥ = elim c.then-from-gt1024.branch [
+      | then-from-gt1024-via-then-from-gt1024 w ↦ (λ f. omega (arith, w.if-from-gt1024.true, f.nodes))
+      | then-from-gt1024-via-else-from-gt1024+then-firsts-gt1024 w ↦ (λ f. omega (arith, w.if-firsts-gt1024.true, f.firsts))
+      | then-from-gt1024-via-else-from-gt1024+else-firsts-gt1024+then-not-tokens_fit w ↦ no_room a.line.now a.from a.firsts w.tokens_fit.ensures w.if-not-tokens_fit.true
+    ] in
+    record { starts_outcome = are_kept long refl; constraint_outcome = is_too_long long c.unread.ensures refl }
 
 pub store_token_starts-last-requires : goal.store_token_starts-last-requires
 store_token_starts-last-requires c =

@@ -1,6 +1,5 @@
 -- `parse::put_prefixes` meets its contract: before each turn the part is read that begins with the token of the loop's number, and the prefixes
 -- before it are still to be stored.
-use Prim.Native.Nat.{◌-◌}
 use mathlib.Core.Path.{ap, ◌∙◌}
 use native.Mathlib.Omega.{arith}
 use lib.ListN.{length}

@@ -1,5 +1,5 @@
 -- `parse::sides` meets its contract: both sides are read as expressions, a relation stands between them, and no token is left.
-use mathlib.Core.Path.{sym, ap, ◌∙◌}
+use mathlib.Core.Path.{refl, sym, ap, ◌∙◌}
 use native.Mathlib.Omega.{arith}
 use lib.ListN.{length}
 use borrow.Author.Tests.{not-true, not-false}
@@ -159,5 +159,4 @@ returns c =
     let at-if3 = c.if-not-right in
     let at-token-at2 = c.token_at-after in
     let at-if4 = c.if-after in
-    let at-either = c.either in
-    line_read at-start.args.names.now at-start.args.line.now _ (line_first at-start.args.line.now at-start.requires.nodes_le_last.2) at-start.requires.fits (at-expression.ensures.found (not-false at-expression.result.ok at-if1.false)) at-token-at.ensures (relation-at at-token-at.ensures at-relation-code.ensures at-if2.false) (at-expression2.ensures.found (not-false at-expression2.result.ok at-if3.false)) (token-empty at-token-at2.ensures at-if4.false) at-either.ensures
+    line_read at-start.args.names.now at-start.args.line.now _ (line_first at-start.args.line.now at-start.requires.nodes_le_last.2) at-start.requires.fits (at-expression.ensures.found (not-false at-expression.result.ok at-if1.false)) at-token-at.ensures (relation-at at-token-at.ensures at-relation-code.ensures at-if2.false) (at-expression2.ensures.found (not-false at-expression2.result.ok at-if3.false)) (token-empty at-token-at2.ensures at-if4.false) refl

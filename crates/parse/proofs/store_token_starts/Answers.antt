@@ -1,8 +1,6 @@
 -- `parse::store_token_starts` meets its contract: the starts below the loop's place are stored, and at the end these are all starts of the
 -- line's tokens.
-use Prim.Native.Nat.{◌-◌}
 use mathlib.Core.Path.{sym, ◌∙◌}
-use mathlib.Core.Logic.{⊎_elim}
 use native.Mathlib.Omega.{arith}
 use Rattle.parse.proofs.Filled.{filled-start, filled-end, filled-count, begins-room, filled-begins, filled-passes}
 use Rattle.parse.proofs.store_token_starts.Goals as goal
@@ -19,9 +17,6 @@ bounds-token_starts-count c = begins-room c.loop-i.invariant c.loop-i-test.true 
 
 pub overflow_add-count : goal.overflow_add-count
 overflow_add-count c = let room = begins-room c.loop-i.invariant c.loop-i-test.true (sym c.begins_token.ensures ∙ c.if-begins_token.true) in omega arith
-
-pub loop-i-smaller : goal.loop-i-smaller
-loop-i-smaller c = let more = c.loop-i-test.true in omega arith
 
 pub returns : goal.returns
 returns c = (filled-count c.loop-i.invariant c.loop-i-test.false, filled-end c.loop-i.invariant c.loop-i-test.false)

@@ -1,6 +1,6 @@
 -- `parse::tokens_fit` meets its contract: a line has at most as many tokens as bytes.
 use Prim.Native.Nat.{◌≤◌}
-use mathlib.Core.Path.{sym, ap}
+use mathlib.Core.Path.{sym, ap, ◌∙◌}
 use native.Mathlib.Omega.{arith}
 use lib.Dec.{leb}
 use lib.ListN.{length}
@@ -13,7 +13,7 @@ pub returns-then-line-room : goal.returns-then-line-room
 returns-then-line-room c =
     let a = c.args in
     let few : length (tokens a.line.now) ≤ a.room = omega (arith, tokens-length a.line.now, c.if-line-room.true) in
-    sym (le-leb (length (tokens a.line.now)) a.room few)
+    le-leb _ _ c.if-line-room.true ∙ sym (le-leb (length (tokens a.line.now)) a.room few)
 
-pub returns : goal.returns
-returns c = ap (λ n. leb n c.args.room) c.token_count.ensures
+pub returns-else-line-room : goal.returns-else-line-room
+returns-else-line-room c = ap (λ n. leb n c.args.room) c.token_count.ensures

@@ -1,5 +1,4 @@
 -- `prepare::lower_all` meets its contract: before each turn the places passed hold the numbers, lowered.
-use Prim.Native.Nat.{◌≤◌, ◌-◌}
 use mathlib.Core.Path.{◌≡◌}
 use mathlib.Core.List.{map}
 use lib.ListN.{length}
@@ -9,7 +8,4 @@ use Rattle.sizes.specs.Room.{window_room}
 use Rattle.prepare.proofs.lower_all.Given as goal
 
 abbrev pub invariant-loop-i : goal.invariant-loop-i
-invariant-loop-i l = (l.i ≤ length l.numbers) × (l.prepared ≡ paste l.initial.prepared window_room (map lowered l.numbers) l.i) × (length l.prepared ≡ length l.initial.prepared)
-
-abbrev pub decreases-loop-i : goal.decreases-loop-i
-decreases-loop-i l = length l.numbers - l.i
+invariant-loop-i l = (l.prepared ≡ paste l.initial.prepared window_room (map lowered l.numbers) l.i) × (length l.prepared ≡ length l.initial.prepared)

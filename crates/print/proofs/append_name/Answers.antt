@@ -2,8 +2,5 @@
 use Rattle.print.proofs.Append.{appends_then}
 use Rattle.print.proofs.append_name.Goals as goal
 
-pub append_byte-requires : goal.append_byte-requires
-append_byte-requires c = tt
-
 pub returns : goal.returns
-returns c = appends_then c.append_stored-to.ensures c.append_byte.ensures
+returns c = appends_then c.append_stored-to.ensures c.append_bytes.ensures

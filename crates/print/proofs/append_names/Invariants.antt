@@ -1,12 +1,8 @@
 -- `print::append_names` meets its contract: after i turns the first i names are appended.
-use Prim.Native.Nat.{◌≤◌, ◌-◌}
 use Rattle.print.specs.Append.{Appends}
 use Rattle.print.specs.Text.{spaced}
 use Rattle.print.specs.Lines.{stored_names}
 use Rattle.print.proofs.append_names.Given as goal
 
 abbrev pub invariant-loop-i : goal.invariant-loop-i
-invariant-loop-i l = (l.i ≤ l.count) × Appends l.at (spaced (stored_names l.names l.lengths l.i)) l.initial.out l.out l.to
-
-abbrev pub decreases-loop-i : goal.decreases-loop-i
-decreases-loop-i l = l.count - l.i
+invariant-loop-i l = Appends l.at (spaced (stored_names l.names l.lengths l.i)) l.initial.out l.out l.to

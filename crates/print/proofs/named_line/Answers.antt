@@ -3,25 +3,13 @@ use Rattle.print.proofs.Append.{appends_then, appends_same, reached}
 use Rattle.print.proofs.Lines.{named-parts}
 use Rattle.print.proofs.named_line.Goals as goal
 
-pub append_bytes-name_end-requires : goal.append_bytes-name_end-requires
-append_bytes-name_end-requires c = tt
-
-pub append_byte-values_at-requires : goal.append_byte-values_at-requires
-append_byte-values_at-requires c = tt
-
 pub append_values-count_at-requires : goal.append_values-count_at-requires
-append_values-count_at-requires c = reached c.append_byte-values_at.ensures
-
-pub append_natural-end-requires : goal.append_natural-end-requires
-append_natural-end-requires c = tt
-
-pub append_byte-requires : goal.append_byte-requires
-append_byte-requires c = tt
+append_values-count_at-requires c = reached c.append_bytes-values_at.ensures
 
 pub returns : goal.returns
 returns c =
     let a = c.args in
     appends_same
-    (appends_then (appends_then (appends_then (appends_then c.append_bytes-name_end.ensures c.append_byte-values_at.ensures) c.append_values-count_at.ensures) c.append_natural-end.ensures)
-    c.append_byte.ensures)
+    (appends_then (appends_then (appends_then (appends_then c.append_bytes-name_end.ensures c.append_bytes-values_at.ensures) c.append_values-count_at.ensures) c.append_natural-end.ensures)
+    c.append_bytes.ensures)
     (named-parts a.name.now a.values.now a.count)

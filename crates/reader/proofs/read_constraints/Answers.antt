@@ -1,7 +1,6 @@
 -- `reader::read_constraints` meets its contract: the tables and counts are those after the lines before the loop's place.
-use Prim.Native.Nat.{◌-◌}
+use mathlib.Core.Path.{refl}
 use native.Mathlib.Omega.{arith}
-use mathlib.Core.Bool.{false}
 use lib.Dec.{eqb}
 use borrow.Author.Tests.{not-true, not-false}
 use Rattle.scan.proofs.Lines.{line-within}
@@ -49,7 +48,7 @@ pub loop-at-preserved : goal.loop-at-preserved
 loop-at-preserved c =
     let line = c in
     let put = c.put_constraint.ensures in
-    sofar_step line.loop-at.invariant line.loop-at-test.true line.next_line-line.ensures (line_read c.parse_constraint-read.ensures.constraint_outcome (not-false _ c.if-not-read.false)) put.0 put.1 put.2 c.until_count-untils.ensures c.either-beyond.ensures
+    sofar_step line.loop-at.invariant line.loop-at-test.true line.next_line-line.ensures (line_read c.parse_constraint-read.ensures.constraint_outcome (not-false _ c.if-not-read.false)) put.0 put.1 put.2 c.until_count-untils.ensures refl
 
 pub put_constraint-requires : goal.put_constraint-requires
 put_constraint-requires c =

@@ -1,5 +1,4 @@
 -- `reader::restate` meets its contract: the kinds before the loop's place are restated, the others are as they were.
-use Prim.Native.Nat.{◌-◌}
 use mathlib.Core.Path.{sym, ap, ◌∙◌}
 use native.Mathlib.Omega.{arith}
 use native.Mathlib.Numerals.{add-one}
@@ -11,26 +10,14 @@ use Rattle.reader.proofs.restate.Goals as goal
 pub returns-then-not-floors : goal.returns-then-not-floors
 returns-then-not-floors c = let kinds = c.args.kinds.now in ap (λ b. meant_kinds b kinds) (sym c.if-not-floors.true)
 
-pub loop-i-init : goal.loop-i-init
-loop-i-init c = (omega arith, up_to-none c.args.kinds.now)
+pub loop-kind-init : goal.loop-kind-init
+loop-kind-init c = (omega arith, up_to-none c.args.kinds.now)
 
-pub bounds-kinds-i : goal.bounds-kinds-i
-bounds-kinds-i c = omega arith
-
-pub bounds-kinds-i-in-loop-i : goal.bounds-kinds-i-in-loop-i
-bounds-kinds-i-in-loop-i c = omega arith
-
-pub overflow_add-i : goal.overflow_add-i
-overflow_add-i c = omega arith
-
-pub loop-i-smaller : goal.loop-i-smaller
-loop-i-smaller c = omega arith
-
-pub loop-i-preserved : goal.loop-i-preserved
-loop-i-preserved c =
-    let loop = c.loop-i in
+pub loop-kind-preserved : goal.loop-kind-preserved
+loop-kind-preserved c =
+    let loop = c.loop-kind in
     let kinds = c.args.kinds.now in
-    let i = loop.i in (
+    let i = loop.kind-index in (
       omega arith,
       ap (set loop.kinds i) c.floored_kind.ensures ∙ ap (λ l. set l i (floored_kind (get_or l i 0))) loop.invariant.1 ∙ up_to-more i kinds ∙ ap (λ n. floored_up_to n kinds) (sym (add-one i)),
     )
@@ -39,4 +26,4 @@ pub returns : goal.returns
 returns c =
     let start = c in
     let kinds = start.args.kinds.now in
-    c.loop-i.invariant.1 ∙ up_to-all c.loop-i.i kinds (omega (arith, start.requires, c.loop-i-test.false)) ∙ ap (λ b. meant_kinds b kinds) (sym c.if-not-floors.false)
+    c.loop-kind.invariant.1 ∙ up_to-all c.loop-kind.kind-index kinds (omega (arith, start.requires, c.loop-kind-test.false)) ∙ ap (λ b. meant_kinds b kinds) (sym c.if-not-floors.false)

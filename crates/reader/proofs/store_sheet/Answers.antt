@@ -1,5 +1,5 @@
 -- `reader::store_sheet` meets its contract: the tests decide what the answer to the sheet is that the tables hold.
-use mathlib.Core.Path.{sym, ◌∙◌}
+use mathlib.Core.Path.{refl, sym, ◌∙◌}
 use native.Mathlib.Omega.{arith}
 use lib.Seq.{length-take-le}
 use Rattle.reader.proofs.Held.{sizes, stored-fits, firsts-fit, told, refused-reading, sheet-reading}
@@ -51,7 +51,7 @@ pub test_stored-told-requires : goal.test_stored-told-requires
 test_stored-told-requires c = stored-fits c.requires.held
 
 pub returns-then-told-ne0 : goal.returns-then-told-ne0
-returns-then-told-ne0 c = record { gives = λ s h. c.refused.ensures ∙ refused-reading h (told h c.either.ensures c.test_stored-told.ensures) c.if-told-ne0.true }
+returns-then-told-ne0 c = record { gives = λ s h. c.refused.ensures ∙ refused-reading h (told h refl c.test_stored-told.ensures) c.if-told-ne0.true }
 
 pub slice_bounds-kinds-end-2 : goal.slice_bounds-kinds-end-2
 slice_bounds-kinds-end-2 c = let z = sizes c.requires.held in omega arith
@@ -68,7 +68,7 @@ slice_bounds-find_firsts-end-2 c = let z = sizes c.requires.held in sym (length-
 pub find_firsts-requires : goal.find_firsts-requires
 find_firsts-requires c =
     let held = c.requires.held in
-    firsts-fit held (told held c.either.ensures c.test_stored-told.ensures) c.if-told-ne0.false
+    firsts-fit held (told held refl c.test_stored-told.ensures) c.if-told-ne0.false
 
 pub returns : goal.returns
-returns c = record { gives = λ s h. sheet-reading h (told h c.either.ensures c.test_stored-told.ensures) c.if-told-ne0.false c.find_firsts.ensures }
+returns c = record { gives = λ s h. sheet-reading h (told h refl c.test_stored-told.ensures) c.if-told-ne0.false c.find_firsts.ensures }

@@ -10,16 +10,16 @@ pub returns-then-is_inside : goal.returns-then-is_inside
 unfolding names_byte
 returns-then-is_inside c =
     let s = c in
-    at-inside names_from (name_byte (name_in s.args.names.now s.args.lengths.now)) (name_end (name_in s.args.names.now s.args.lengths.now)) (name_reading s.args.line) s.args.byte (c.either-barred.ensures ∙ ap (λ t. s.args.line.barred || not t) c.is_plain.ensures) (sym c.is_inside.ensures ∙ c.if-is_inside.true) c.name_byte.ensures
+    at-inside names_from (name_byte (name_in s.args.names.now s.args.lengths.now)) (name_end (name_in s.args.names.now s.args.lengths.now)) (name_reading s.args.line) s.args.byte (ap (λ t. s.args.line.barred || not t) c.is_plain.ensures) (sym c.is_inside.ensures ∙ c.if-is_inside.true) c.name_byte.ensures
 
 pub returns-then-is_bracket : goal.returns-then-is_bracket
 unfolding names_byte
 returns-then-is_bracket c =
     let s = c in
-    at_bracket names_from (name_byte (name_in s.args.names.now s.args.lengths.now)) (name_end (name_in s.args.names.now s.args.lengths.now)) (name_reading s.args.line) s.args.byte (c.either-barred.ensures ∙ ap (λ t. s.args.line.barred || not t) c.is_plain.ensures) (sym c.is_bracket.ensures ∙ c.if-is_bracket.true) c.end_name-ended.ensures c.name_byte-then-is_bracket.ensures c.name_end.ensures
+    at_bracket names_from (name_byte (name_in s.args.names.now s.args.lengths.now)) (name_end (name_in s.args.names.now s.args.lengths.now)) (name_reading s.args.line) s.args.byte (ap (λ t. s.args.line.barred || not t) c.is_plain.ensures) (sym c.is_bracket.ensures ∙ c.if-is_bracket.true) c.end_name-ended.ensures c.name_byte-then-is_bracket.ensures c.name_end.ensures
 
 pub returns : goal.returns
 unfolding names_byte
 returns c =
     let s = c in
-    at-between names_from (name_byte (name_in s.args.names.now s.args.lengths.now)) (name_end (name_in s.args.names.now s.args.lengths.now)) (name_reading s.args.line) s.args.byte (c.either-barred.ensures ∙ ap (λ t. s.args.line.barred || not t) c.is_plain.ensures) (sym c.is_inside.ensures ∙ c.if-is_inside.false) (sym c.is_bracket.ensures ∙ c.if-is_bracket.false) c.end_name-ended.ensures
+    at-between names_from (name_byte (name_in s.args.names.now s.args.lengths.now)) (name_end (name_in s.args.names.now s.args.lengths.now)) (name_reading s.args.line) s.args.byte (ap (λ t. s.args.line.barred || not t) c.is_plain.ensures) (sym c.is_inside.ensures ∙ c.if-is_inside.false) (sym c.is_bracket.ensures ∙ c.if-is_bracket.false) c.end_name-ended.ensures

@@ -19,18 +19,18 @@ pub returns-then-is_inside : goal.returns-then-is_inside
 unfolding line_byte
 returns-then-is_inside c =
     let s = c in
-    at-inside line_from value_byte (value_end (described s.args.lows.now s.args.highs.now)) (value_reading s.args.line) s.args.byte (c.either-barred.ensures ∙ ap (λ t. s.args.line.barred || not t) c.is_plain.ensures) (sym c.is_inside.ensures ∙ c.if-is_inside.true) c.value_byte-then-is_inside.ensures
+    at-inside line_from value_byte (value_end (described s.args.lows.now s.args.highs.now)) (value_reading s.args.line) s.args.byte (ap (λ t. s.args.line.barred || not t) c.is_plain.ensures) (sym c.is_inside.ensures ∙ c.if-is_inside.true) c.value_byte-then-is_inside.ensures
 
 pub returns-then-is_bracket : goal.returns-then-is_bracket
 unfolding line_byte
 returns-then-is_bracket c =
     let p = c in
     let s = p in
-    at_bracket line_from value_byte (value_end (described s.args.lows.now s.args.highs.now)) (value_reading s.args.line) s.args.byte (p.either-barred.ensures ∙ ap (λ t. s.args.line.barred || not t) p.is_plain.ensures) (sym c.is_bracket.ensures ∙ c.if-is_bracket.true) c.end_value-ended.ensures c.value_byte-then-is_bracket.ensures c.value_end.ensures
+    at_bracket line_from value_byte (value_end (described s.args.lows.now s.args.highs.now)) (value_reading s.args.line) s.args.byte (ap (λ t. s.args.line.barred || not t) p.is_plain.ensures) (sym c.is_bracket.ensures ∙ c.if-is_bracket.true) c.end_value-ended.ensures c.value_byte-then-is_bracket.ensures c.value_end.ensures
 
 pub returns : goal.returns
 unfolding line_byte
 returns c =
     let p = c in
     let s = p in
-    at-between line_from value_byte (value_end (described s.args.lows.now s.args.highs.now)) (value_reading s.args.line) s.args.byte (p.either-barred.ensures ∙ ap (λ t. s.args.line.barred || not t) p.is_plain.ensures) (sym c.is_inside.ensures ∙ c.if-is_inside.false) (sym c.is_bracket.ensures ∙ c.if-is_bracket.false) c.end_value-ended.ensures
+    at-between line_from value_byte (value_end (described s.args.lows.now s.args.highs.now)) (value_reading s.args.line) s.args.byte (ap (λ t. s.args.line.barred || not t) p.is_plain.ensures) (sym c.is_inside.ensures ∙ c.if-is_inside.false) (sym c.is_bracket.ensures ∙ c.if-is_bracket.false) c.end_value-ended.ensures

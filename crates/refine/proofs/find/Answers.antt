@@ -4,7 +4,6 @@ use native.Mathlib.Omega.{arith}
 use Rattle.basics.proofs.Answers.{says_yes, says_no}
 use Rattle.refine.specs.Splitting.{here}
 use Rattle.refine.proofs.Chains.{searching_start, searching_next, searching_end}
-use borrow.Author.Rules.{rules}
 use Rattle.refine.proofs.find.Goals as goal
 
 pub loop-j-init : goal.loop-j-init
@@ -17,13 +16,8 @@ same_row-requires c =
 
 pub returns-then-same_row : goal.returns-then-same_row
 returns-then-same_row c =
-    let loop = c.loop-j in (
-      loop.invariant.most,
-      record {
-        hit = λ h. (loop.invariant.part (loop.j - 1) (here (omega arith)), says_yes c.if-same_row.true c.same_row.ensures);
-        miss = λ e. absurd (c.loop-j-test.true e);
-      },
-    )
+    let loop = c.loop-j in
+    (omega (arith, loop.invariant.most, c.loop-j-test.true), loop.invariant.part (loop.j - 1) (here (omega (arith, c.loop-j-test.true))), says_yes c.if-same_row.true c.same_row.ensures)
 
 pub overflow_cast-j : goal.overflow_cast-j
 overflow_cast-j c = omega (arith, c.type_inv.links (c.loop-j.j - 1))
@@ -37,7 +31,4 @@ loop-j-preserved c =
     searching_next c.requires.falling loop.j (loop.j - 1) (omega (arith, c.loop-j-test.true)) loop.invariant (says_no c.if-same_row.false c.same_row.ensures)
 
 pub returns : goal.returns
-returns c = (
-  search rules,
-  record { hit = λ h. absurd (omega arith); miss = λ e. searching_end c.loop-j-test.false c.loop-j.invariant },
-)
+returns c = searching_end c.loop-j-test.false c.loop-j.invariant

@@ -1,11 +1,6 @@
 -- `refine::first_classes` meets its contract. What a turn does to the two classes is in `FirstClasses`.
-use Prim.Native.Nat.{◌-◌}
-use lib.ListN.{length}
 use Rattle.refine.proofs.FirstClasses.{Naming}
 use Rattle.refine.proofs.first_classes.Given as goal
 
 abbrev pub invariant-loop-row : goal.invariant-loop-row
 invariant-loop-row l = Naming l.live l.finals l.class l.row l.done l.pending
-
-abbrev pub decreases-loop-row : goal.decreases-loop-row
-decreases-loop-row l = length l.live - l.row

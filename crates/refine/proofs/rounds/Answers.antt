@@ -10,51 +10,40 @@ use Rattle.basics.proofs.Clearing.{zeros}
 use Rattle.refine.proofs.Refinement.{slack, Going, going_start, going_ready, next_same, going_next, round_rises, round_refined, round_refined_before}
 use Rattle.refine.proofs.rounds.Goals as goal
 
-pub first_classes-requires : goal.first_classes-requires
-first_classes-requires c = let sizes = c.requires.sizes in (sizes.few, sizes.finals_fit, sizes.class_fits)
-
-pub loop-next-init : goal.loop-next-init
-loop-next-init c =
+pub rounds-init : goal.rounds-init
+rounds-init c =
     let first = c.first_classes in
     let fill = c.fill in
-    going_start c.requires first.new.class fill.new.list first.auto.class fill.auto.list (λ s. rw fill.ensures (zeros (length c.args.links.now) s)) first.ensures
+    going_start c.requires first.new.class fill.new.self first.auto.class fill.auto.self (λ s. rw (fill.ensures.after (λ y e. e)) (zeros (length c.args.links.now) s)) first.ensures
 
 pub round-requires : goal.round-requires
-round-requires c = going_ready c.loop-next.invariant c.requires.sizes.few c.requires.sizes.entries_fit
+round-requires c = going_ready c.rounds.invariant c.requires.sizes.few c.requires.sizes.entries_fit
 
-pub round-requires-in-loop-next : goal.round-requires-in-loop-next
-round-requires-in-loop-next c =
-    let first-turn : Going c.args.letters c.args.entries.now c.args.live.now c.args.finals.now c.args.envelopes.now c.round.new.next c.loop-next.class c.round.new.heads c.round.new.links = (let round = c.round in
-    going_next c.loop-next.invariant round.auto.next round.auto.heads round.auto.links round.ensures.0 round.ensures.1) in
-    going_ready (first-turn) c.requires.sizes.few c.requires.sizes.entries_fit
-
-pub loop-next-smaller : goal.loop-next-smaller
-loop-next-smaller c =
-    let first-turn : Going c.args.letters c.args.entries.now c.args.live.now c.args.finals.now c.args.envelopes.now c.round.new.next c.loop-next.class c.round.new.heads c.round.new.links = (let round = c.round in
-    going_next c.loop-next.invariant round.auto.next round.auto.heads round.auto.links round.ensures.0 round.ensures.1) in
-    let first-rises : c.round.result ≡ true → slack (length c.args.live.now) c.round.new.next < slack (length c.args.live.now) c.loop-next.class = λ q. let going = c.loop-next.invariant in round_rises going.classes (c.round.auto.next ∙ next_same going) c.round.ensures.0 q in
-    let going = first-turn in
-    let round = c.round-in-loop-next in
-    omega (arith, first-rises c.if-not-round.false, round_rises going.classes (round.auto.next ∙ next_same going) round.ensures.0 c.if-not-round-2.false)
-
-pub loop-next-preserved : goal.loop-next-preserved
-loop-next-preserved c =
-    let first-turn : Going c.args.letters c.args.entries.now c.args.live.now c.args.finals.now c.args.envelopes.now c.round.new.next c.loop-next.class c.round.new.heads c.round.new.links = (let round = c.round in
-    going_next c.loop-next.invariant round.auto.next round.auto.heads round.auto.links round.ensures.0 round.ensures.1) in
-    let second-turn : Going c.args.letters c.args.entries.now c.args.live.now c.args.finals.now c.args.envelopes.now c.round-in-loop-next.new.next c.round.new.next c.round-in-loop-next.new.heads c.round-in-loop-next.new.links = (let round = c.round-in-loop-next in
-    going_next (first-turn) round.auto.next round.auto.heads round.auto.links round.ensures.0 round.ensures.1) in
-    second-turn
-
-pub returns-then-not-round : goal.returns-then-not-round
-returns-then-not-round c =
-    let going = c.loop-next.invariant in
+pub round-requires-in-rounds : goal.round-requires-in-rounds
+round-requires-in-rounds c =
     let round = c.round in
-    round_refined_before going.classes (round.auto.next ∙ next_same going) round.ensures.0 c.if-not-round.true
+    going_ready (going_next c.rounds.invariant round.auto.next round.auto.heads round.auto.links round.ensures.0 round.ensures.1) c.requires.sizes.few c.requires.sizes.entries_fit
 
-pub returns-then-not-round-2 : goal.returns-then-not-round-2
-returns-then-not-round-2 c =
-    let first-turn : Going c.args.letters c.args.entries.now c.args.live.now c.args.finals.now c.args.envelopes.now c.round.new.next c.loop-next.class c.round.new.heads c.round.new.links = (let round = c.round in
-    going_next c.loop-next.invariant round.auto.next round.auto.heads round.auto.links round.ensures.0 round.ensures.1) in
-    let going = first-turn in
-    let round = c.round-in-loop-next in
-    round_refined going.classes (round.auto.next ∙ next_same going) round.ensures.0 c.if-not-round-2.true
+pub rounds-smaller : goal.rounds-smaller
+rounds-smaller c =
+    let round = c.round in
+    let first-turn : Going c.args.letters c.args.entries.now c.args.live.now c.args.finals.now c.args.envelopes.now round.new.next c.rounds.class round.new.heads round.new.links = going_next c.rounds.invariant round.auto.next round.auto.heads round.auto.links round.ensures.0 round.ensures.1 in
+    let first-rises : round.result ≡ true → slack (length c.args.live.now) round.new.next < slack (length c.args.live.now) c.rounds.class = λ q. round_rises c.rounds.invariant.classes (round.auto.next ∙ next_same c.rounds.invariant) round.ensures.0 q in
+    let second = c.round-in-rounds in
+    omega (arith, first-rises c.rounds-test.true, round_rises first-turn.classes (second.auto.next ∙ next_same first-turn) second.ensures.0 c.if-round.true)
+
+pub rounds-preserved : goal.rounds-preserved
+rounds-preserved c =
+    let round = c.round in
+    let second = c.round-in-rounds in
+    going_next (going_next c.rounds.invariant round.auto.next round.auto.heads round.auto.links round.ensures.0 round.ensures.1) second.auto.next second.auto.heads second.auto.links second.ensures.0 second.ensures.1
+
+pub returns-after-rounds : goal.returns-after-rounds
+returns-after-rounds c = round_refined_before c.rounds.invariant.classes (c.round.auto.next ∙ next_same c.rounds.invariant) c.round.ensures.0 c.rounds-test.false
+
+pub returns-else-round : goal.returns-else-round
+returns-else-round c =
+    let round = c.round in
+    let first-turn : Going c.args.letters c.args.entries.now c.args.live.now c.args.finals.now c.args.envelopes.now round.new.next c.rounds.class round.new.heads round.new.links = going_next c.rounds.invariant round.auto.next round.auto.heads round.auto.links round.ensures.0 round.ensures.1 in
+    let second = c.round-in-rounds in
+    round_refined first-turn.classes (second.auto.next ∙ next_same first-turn) second.ensures.0 c.if-round.false

@@ -5,8 +5,8 @@ use lib.ListN.{length}
 use Rattle.refine.proofs.Refinement.{slack, Going}
 use Rattle.refine.proofs.rounds.Given as goal
 
-abbrev pub invariant-loop-next : goal.invariant-loop-next
-invariant-loop-next l = Going l.letters l.entries l.live l.finals l.envelopes l.class l.next l.heads l.links
+abbrev pub invariant-rounds : goal.invariant-rounds
+invariant-rounds l = Going l.letters l.entries l.live l.finals l.envelopes l.class l.next l.heads l.links
 
-abbrev pub decreases-loop-next : goal.decreases-loop-next
-decreases-loop-next l = slack (length l.live) l.class
+abbrev pub decreases-rounds : goal.decreases-rounds
+decreases-rounds l = slack (length l.live) l.class

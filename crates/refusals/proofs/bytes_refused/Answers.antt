@@ -1,23 +1,16 @@
--- `refusals::bytes_refused` meets its contract: the bytes before the loop's place are allowed, so that the rest decides.
-use Prim.Native.Nat.{◌-◌}
-use mathlib.Core.Path.{refl, sym, ◌∙◌}
-use native.Mathlib.Omega.{arith}
-use mathlib.Core.Bool.{not}
+-- `refusals::bytes_refused` meets its contract: the number of bytes and each byte are tested.
+use Rattle.std.proofs.Common.{rules, ◌≡◌, slice_index_or, IsTrue, EachIndex, ◌↔◌, true}
+use Rattle.std.proofs.iter.runs.Made.{chains}
+use mathlib.Core.Path.{◌∙◌}
+use borrow.Author.Tests.{lt-ltb}
 use Rattle.sheet.specs.Refusal.{is_allowed}
-use Rattle.refusals.proofs.Lines.{allowed_step, barred_here, allowed_end, refuses1-long, refuses1-short}
+use Rattle.refusals.proofs.Lines.{allowed_told, refuses1-long, refuses1-short}
 use Rattle.refusals.proofs.bytes_refused.Goals as goal
 
 pub returns-then-text-gt16384 : goal.returns-then-text-gt16384
-returns-then-text-gt16384 c = refuses1-long c.args.text.now c.if-text-gt16384.true
+returns-then-text-gt16384 c = lt-ltb _ _ c.if-text-gt16384.true ∙ refuses1-long c.args.text.now c.if-text-gt16384.true
 
-pub loop-i-init : goal.loop-i-init
-loop-i-init c = (omega arith, refl)
-
-pub returns-then-not-is_allowed : goal.returns-then-not-is_allowed
-returns-then-not-is_allowed c = refuses1-short c.args.text.now c.if-text-gt16384.false (c.loop-i.invariant.1 ∙ barred_here c.args.text.now c.loop-i.i c.loop-i-test.true (sym c.is_allowed.ensures ∙ c.if-not-is_allowed.true))
-
-pub loop-i-preserved : goal.loop-i-preserved
-loop-i-preserved c = (omega arith, c.loop-i.invariant.1 ∙ allowed_step c.args.text.now c.loop-i.i c.loop-i-test.true (sym c.is_allowed.ensures ∙ c.if-not-is_allowed.false))
-
-pub returns : goal.returns
-returns c = refuses1-short c.args.text.now c.if-text-gt16384.false (c.loop-i.invariant.1 ∙ allowed_end c.args.text.now c.loop-i.i c.loop-i-test.false)
+pub returns-else-text-gt16384 : goal.returns-else-text-gt16384
+returns-else-text-gt16384 c =
+    let each : IsTrue c.all.result ↔ EachIndex c.args.text.now (λ k. is_allowed (slice_index_or c.args.text.now k 0) ≡ true) = search (rules, chains) in
+    refuses1-short c.args.text.now c.if-text-gt16384.false (allowed_told c.args.text.now c.all.result each)

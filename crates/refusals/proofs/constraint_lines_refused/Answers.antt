@@ -1,5 +1,4 @@
 -- `refusals::constraint_lines_refused` meets its contract: what the lines before the loop's place gave is counted, and none of them is too deep.
-use Prim.Native.Nat.{◌-◌}
 use mathlib.Core.Path.{sym, ap, ◌∙◌}
 use native.Mathlib.Omega.{arith}
 use borrow.Author.Tests.{lt-ltb, le-ltb}
@@ -59,8 +58,8 @@ loop-at-preserved c =
     let line = c in
     counted_step line.loop-at.invariant line.loop-at-test.true line.next_line-line.ensures (sym c.if-too_deep.false ∙ c.too_deep.ensures) c.token_count-tokens.ensures
 
-pub returns-then-count-gt32 : goal.returns-then-count-gt32
-returns-then-count-gt32 c = sym (ap (λ t. t || ltb 1024 c.loop-at.tokens) (lt-ltb _ _ c.if-count-gt32.true)) ∙ counted-end c.loop-at.invariant c.loop-at-test.false
+pub returns-then-count-gt-MOST_LINES : goal.returns-then-count-gt-MOST_LINES
+returns-then-count-gt-MOST_LINES c = lt-ltb _ _ c.if-count-gt-MOST_LINES.true ∙ sym (ap (λ t. t || ltb 1024 c.loop-at.tokens) (lt-ltb _ _ c.if-count-gt-MOST_LINES.true)) ∙ counted-end c.loop-at.invariant c.loop-at-test.false
 
-pub returns : goal.returns
-returns c = sym (ap (λ t. t || ltb 1024 c.loop-at.tokens) (le-ltb _ _ c.if-count-gt32.false)) ∙ counted-end c.loop-at.invariant c.loop-at-test.false
+pub returns-else-count-gt-MOST_LINES : goal.returns-else-count-gt-MOST_LINES
+returns-else-count-gt-MOST_LINES c = sym (ap (λ t. t || ltb 1024 c.loop-at.tokens) (le-ltb _ _ c.if-count-gt-MOST_LINES.false)) ∙ counted-end c.loop-at.invariant c.loop-at-test.false

@@ -1,5 +1,5 @@
 -- `scan::next_line` meets its contract: no byte before the loop's place ends a line.
-use Prim.Native.Nat.{◌≤◌, ◌<◌, ◌-◌}
+use Prim.Native.Nat.{◌≤◌, ◌<◌}
 use lib.Dec.{T}
 use lib.ListN.{length}
 use Rattle.text.specs.Token.{all_bytes}
@@ -9,6 +9,3 @@ use Rattle.scan.proofs.next_line.Given as goal
 
 abbrev pub invariant-loop-i : goal.invariant-loop-i
 invariant-loop-i l = (l.at ≤ l.i) × (l.at < length l.text → l.i ≤ length l.text) × T (all_bytes is_of_line (between l.text l.at l.i))
-
-abbrev pub decreases-loop-i : goal.decreases-loop-i
-decreases-loop-i l = length l.text - l.i

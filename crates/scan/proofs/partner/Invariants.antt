@@ -10,6 +10,3 @@ use Rattle.scan.proofs.partner.Given as goal
 abbrev pub invariant-loop-i : goal.invariant-loop-i
 invariant-loop-i l = (l.at ≤ l.i) × (l.at < length l.text → l.i ≤ length l.text) × (l.opened ≤ l.i - l.at) × (l.closed ≤ l.i - l.at)
     × (l.opened ≡ occurrences 40 (between l.text l.at l.i)) × (l.closed ≡ occurrences 41 (between l.text l.at l.i)) × NeverMore (drop l.at l.text) (l.i - l.at)
-
-abbrev pub decreases-loop-i : goal.decreases-loop-i
-decreases-loop-i l = length l.text - l.i

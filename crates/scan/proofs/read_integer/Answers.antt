@@ -1,18 +1,22 @@
 -- `scan::read_integer` meets its contract: a `-` before digits that are not `0`, or digits.
-use mathlib.Core.Path.{sym, ap, ◌∙◌}
+use mathlib.Core.Path.{ap, ◌∙◌}
 use mathlib.Core.Bool.{true, false}
-use Rattle.scan.specs.Integer.{signed_read}
+use Rattle.std.proofs.Common.{rules, ◌≡◌, length, Some}
+use Rattle.scan.specs.Integer.{signed_read, natural_read}
+use Rattle.scan.specs.Place.{between}
 use Rattle.scan.proofs.Integers.{integer-none, integer-minus-zero, integer-minus, integer_plain}
 use Rattle.scan.proofs.read_integer.Goals as goal
 
-pub returns-then-token-eq0 : goal.returns-then-token-eq0
-returns-then-token-eq0 c = integer-none c.args.token.now c.if-token-eq0.true
+pub returns-then-is_empty : goal.returns-then-is_empty
+returns-then-is_empty c = integer-none c.args.token.now (search rules)
 
-pub returns-then-value-eq0 : goal.returns-then-value-eq0
-returns-then-value-eq0 c = integer-minus-zero c.args.token.now c.if-token-eq0.false c.if-token-eq45.true (sym (ap (λ n. n.value) c.read_natural-natural.ensures) ∙ c.if-value-eq0.true)
+pub returns-then-eq : goal.returns-then-eq
+returns-then-eq c = let zero : natural_read (between c.args.token.now 1 (length c.args.token.now)) ≡ Some 0 = search rules in integer-minus-zero c.args.token.now (search rules) c.if-token-ne45.false zero
 
-pub returns-then-token-eq45 : goal.returns-then-token-eq45
-returns-then-token-eq45 c = c.integer_read.ensures ∙ ap (signed_read true) c.read_natural-natural.ensures ∙ integer-minus c.args.token.now c.if-token-eq0.false c.if-token-eq45.true (λ z. c.if-value-eq0.false (ap (λ n. n.value) c.read_natural-natural.ensures ∙ z))
+pub returns-then-token-ne45 : goal.returns-then-token-ne45
+returns-then-token-ne45 c = c.integer_read.ensures ∙ ap (signed_read false) c.read_natural.ensures ∙ integer_plain c.args.token.now (search rules) c.if-token-ne45.true
 
 pub returns : goal.returns
-returns c = c.integer_read-2.ensures ∙ ap (signed_read false) c.read_natural-natural-2.ensures ∙ integer_plain c.args.token.now c.if-token-eq0.false c.if-token-eq45.false
+returns c =
+    let other : natural_read (between c.args.token.now 1 (length c.args.token.now)) ≡ Some 0 → ⊥ = λ z. search rules in
+    c.integer_read-2.ensures ∙ ap (signed_read true) c.read_natural-natural.ensures ∙ integer-minus c.args.token.now (search rules) c.if-token-ne45.false other

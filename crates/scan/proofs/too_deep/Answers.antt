@@ -7,35 +7,35 @@ use Rattle.sheet.specs.Reading.{too_deep_from}
 use Rattle.scan.proofs.Partners.{deep-now, deep-later, deep-never, one_at_most}
 use Rattle.scan.proofs.too_deep.Goals as goal
 
-pub loop-i-init : goal.loop-i-init
-loop-i-init c = (omega arith, omega arith, omega arith, omega arith, refl)
+pub loop-byte-init : goal.loop-byte-init
+loop-byte-init c = (omega arith, omega arith, omega arith, omega arith, refl)
 
 pub overflow_add-opened : goal.overflow_add-opened
-overflow_add-opened c = let o = one_at_most (get_or c.args.line.now c.loop-i.i 0) 40 c.count_of-opened.ensures in omega arith
+overflow_add-opened c = let o = one_at_most (get_or c.args.line.now c.loop-byte.byte-index 0) 40 c.count_of-opened.ensures in omega arith
 
 pub overflow_add-closed : goal.overflow_add-closed
-overflow_add-closed c = let d = one_at_most (get_or c.args.line.now c.loop-i.i 0) 41 c.count_of-closed.ensures in omega arith
+overflow_add-closed c = let d = one_at_most (get_or c.args.line.now c.loop-byte.byte-index 0) 41 c.count_of-closed.ensures in omega arith
 
-pub overflow_add-closed-in-loop-i : goal.overflow_add-closed-in-loop-i
-overflow_add-closed-in-loop-i c = let d = one_at_most (get_or c.args.line.now c.loop-i.i 0) 41 c.count_of-closed.ensures in omega (arith, c.well_formed)
+pub overflow_add-closed-in-loop-byte : goal.overflow_add-closed-in-loop-byte
+overflow_add-closed-in-loop-byte c = let d = one_at_most (get_or c.args.line.now c.loop-byte.byte-index 0) 41 c.count_of-closed.ensures in omega (arith, c.well_formed)
 
 pub returns-then-closed-opened : goal.returns-then-closed-opened
 returns-then-closed-opened c =
-    let o = c.loop-i.opened in
-    sym (c.loop-i.invariant.4 ∙ deep-later o c.loop-i.closed c.args.line.now c.loop-i.i c.loop-i.invariant.3 c.loop-i-test.true
-    ∙ ap₂ (λ a b. too_deep_from (o + a) (c.loop-i.closed + b) (drop (c.loop-i.i + 1) c.args.line.now)) (sym c.count_of-opened.ensures) (sym c.count_of-closed.ensures) ∙ deep-now _ _ _ c.if-closed-opened.true)
+    let o = c.loop-byte.opened in
+    sym (c.loop-byte.invariant.4 ∙ deep-later o c.loop-byte.closed c.args.line.now c.loop-byte.byte-index c.loop-byte.invariant.3 c.loop-byte-test.true
+    ∙ ap₂ (λ a b. too_deep_from (o + a) (c.loop-byte.closed + b) (drop (c.loop-byte.byte-index + 1) c.args.line.now)) (sym c.count_of-opened.ensures) (sym c.count_of-closed.ensures) ∙ deep-now _ _ _ c.if-closed-opened.true)
 
-pub loop-i-preserved : goal.loop-i-preserved
-loop-i-preserved c =
-    let o = one_at_most (get_or c.args.line.now c.loop-i.i 0) 40 c.count_of-opened.ensures in
-    let d = one_at_most (get_or c.args.line.now c.loop-i.i 0) 41 c.count_of-closed.ensures in (
+pub loop-byte-preserved : goal.loop-byte-preserved
+loop-byte-preserved c =
+    let o = one_at_most (get_or c.args.line.now c.loop-byte.byte-index 0) 40 c.count_of-opened.ensures in
+    let d = one_at_most (get_or c.args.line.now c.loop-byte.byte-index 0) 41 c.count_of-closed.ensures in (
       omega arith,
       omega arith,
       omega arith,
       omega arith,
-      c.loop-i.invariant.4 ∙ deep-later c.loop-i.opened c.loop-i.closed c.args.line.now c.loop-i.i c.loop-i.invariant.3 c.loop-i-test.true
-          ∙ ap₂ (λ a b. too_deep_from (c.loop-i.opened + a) (c.loop-i.closed + b) (drop (c.loop-i.i + 1) c.args.line.now)) (sym c.count_of-opened.ensures) (sym c.count_of-closed.ensures),
+      c.loop-byte.invariant.4 ∙ deep-later c.loop-byte.opened c.loop-byte.closed c.args.line.now c.loop-byte.byte-index c.loop-byte.invariant.3 c.loop-byte-test.true
+          ∙ ap₂ (λ a b. too_deep_from (c.loop-byte.opened + a) (c.loop-byte.closed + b) (drop (c.loop-byte.byte-index + 1) c.args.line.now)) (sym c.count_of-opened.ensures) (sym c.count_of-closed.ensures),
     )
 
 pub returns : goal.returns
-returns c = sym (c.loop-i.invariant.4 ∙ deep-never c.loop-i.opened c.loop-i.closed c.args.line.now c.loop-i.i c.loop-i.invariant.3 (omega arith))
+returns c = sym (c.loop-byte.invariant.4 ∙ deep-never c.loop-byte.opened c.loop-byte.closed c.args.line.now c.loop-byte.byte-index c.loop-byte.invariant.3 (omega arith))

@@ -4,7 +4,7 @@ use Rattle.show.proofs.Answer.{shown_of}
 use Rattle.show.proofs.show.Goals as goal
 
 pub show_sheet-requires : goal.show_sheet-requires
-show_sheet-requires g c = read_ranges _ c.read-reading.ensures
+show_sheet-requires g c = read_ranges _ c.read.ensures
 
 pub returns : goal.returns
-returns g c = shown_of _ c.read-reading.ensures c.show_sheet.ensures
+returns g c = shown_of _ c.read.ensures c.show_sheet.ensures

@@ -4,12 +4,6 @@ use Rattle.opening.proofs.Sizes.{opened-sizes, rows_fit}
 use Rattle.show_counts.proofs.Printing.{early_found, counted-found, counted_lack}
 use Rattle.show_counts.proofs.find_figures.Goals as goal
 
-pub open_table-table-requires : goal.open_table-table-requires
-open_table-table-requires c = tt
-
-pub early_refusal-refusal-requires : goal.early_refusal-refusal-requires
-early_refusal-refusal-requires c = tt
-
 pub returns-then-refusal-ne0 : goal.returns-then-refusal-ne0
 returns-then-refusal-ne0 c = early_found _ c.args.number _ _ c.open_table-table.ensures c.early_refusal-refusal.ensures c.if-refusal-ne0.true
 
@@ -25,9 +19,9 @@ count_used-requires c = rows_fit c.open_table-table.ensures
 pub returns-then-count_used : goal.returns-then-count_used
 returns-then-count_used c =
     let start = c in
-    counted-found _ start.args.number _ _ c.open_table-table.ensures c.early_refusal-refusal.ensures c.if-refusal-ne0.false start.requires.0 start.requires.1 c.if-count_used.true c.count_used.ensures
+    counted-found _ start.args.number _ _ c.open_table-table.ensures c.early_refusal-refusal.ensures c.if-refusal-ne0.false c.unwrap_or-most.ensures start.requires.0 start.requires.1 c.if-count_used.true c.count_used.ensures
 
 pub returns : goal.returns
 returns c =
     let start = c in
-    counted_lack _ start.args.number _ _ c.open_table-table.ensures c.early_refusal-refusal.ensures c.if-refusal-ne0.false start.requires.0 start.requires.1 c.if-count_used.false c.count_used.ensures
+    counted_lack _ start.args.number _ _ c.open_table-table.ensures c.early_refusal-refusal.ensures c.if-refusal-ne0.false c.unwrap_or-most.ensures start.requires.0 start.requires.1 c.if-count_used.false c.count_used.ensures

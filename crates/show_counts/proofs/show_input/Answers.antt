@@ -9,5 +9,5 @@ use Rattle.show_counts.proofs.show_input.Goals as goal
 pub returns : goal.returns
 returns g c =
     let read = c.take_input-read in
-    let shown = subst (λ t. ShowsRecordCounts (number_given (number_line_end t.line)) (take t.size read.new.sheet) c.show_taken-handed.result) c.or_nothing-kept.ensures c.show_taken-handed.ensures in
+    let shown = subst (λ t. ShowsRecordCounts (number_given (number_line_end t.line)) (take t.size read.new.sheet) c.show_taken.result) c.or_nothing-kept.ensures c.show_taken.ensures in
     input-shown (replicate 16385 0) (length-replicate {A = ℕ} 16385 0) read.ensures refl shown

@@ -19,12 +19,12 @@ printout_to x n counted counts =
     record { refusal = counted.refusal; total = counted.total; names = x.names; lengths = take n x.lengths; lows = take n x.lows; highs = take n x.highs; counts = counts }
 
 pub write_pages-handed-requires : goal.write_pages-handed-requires
-write_pages-handed-requires g c = (fit-take c.fewer-streams.result c.args.sheet.lows c.requires.lows, fit-take c.fewer-streams.result c.args.sheet.highs c.requires.highs)
+write_pages-handed-requires g c = (fit-take c.min-streams.result c.args.sheet.lows c.requires.lows, fit-take c.min-streams.result c.args.sheet.highs c.requires.highs)
 
 pub returns : goal.returns
 returns g c =
     let x = c.args.sheet in
-    let n = c.fewer-streams.ensures in
+    let n = c.min-streams.ensures in
     let f = c.count_file-file in
     let w = c.write_pages-handed in
     record {

@@ -7,7 +7,7 @@ use Rattle.show_join.specs.Shows.{first_is, second_is, both}
 use Rattle.show_join.proofs.show_both.Goals as goal
 
 pub returns-then-first-ne0 : goal.returns-then-first-ne0
-returns-then-first-ne0 g c = record { bytes = _; prints = first_is c.if-first-ne0.true; hands = c.write_refusal.ensures c.if-first-ne0.true }
+returns-then-first-ne0 g c = record { bytes = _; prints = first_is c.if-first-ne0.true; hands = c.write_refusal.ensures }
 
 pub returns : goal.returns
 returns g c =
@@ -28,4 +28,4 @@ returns g c =
     }
 
 pub returns-then-second-ne0 : goal.returns-then-second-ne0
-returns-then-second-ne0 g c = record { bytes = _; prints = second_is c.if-first-ne0.false c.if-second-ne0.true; hands = c.write_refusal-then-second-ne0.ensures c.if-second-ne0.true }
+returns-then-second-ne0 g c = record { bytes = _; prints = second_is c.if-first-ne0.false c.if-second-ne0.true; hands = c.write_refusal-then-second-ne0.ensures }

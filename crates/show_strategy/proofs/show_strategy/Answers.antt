@@ -18,7 +18,7 @@ show_in_rows-requires g c =
       read_ranges _ c.read-reading.ensures,
       omega (arith, c.rows_lent-rows.ensures),
       subst (λ n. n ≤ 32768) (sym (length-take-le _ _ (omega (arith, fits, length-replicate {A = ℕ} 32768 0)))) fits,
-      subst (λ n. n ≤ 32768) (sym (length-take-le _ _ (omega (arith, c.fewer-play_room.ensures, length-replicate {A = ℕ} 32768 0)))) (omega (arith, c.fewer-play_room.ensures)),
+      subst (λ n. n ≤ 32768) (sym (length-take-le _ _ (omega (arith, c.min-play_room.ensures, length-replicate {A = ℕ} 32768 0)))) (omega (arith, c.min-play_room.ensures)),
     )
 
 pub returns : goal.returns
@@ -28,4 +28,4 @@ returns g c =
     shown_strategy _ c.read-reading.ensures c.rows_lent-rows.ensures (subst (λ s. ChoicesCounted s c.choice_count-choices.result) c.stored_streams.ensures c.choice_count-choices.ensures)
     (length-take-le _ _ (omega (arith, fits, length-replicate {A = ℕ} 32768 0)))
     (length-take-le _ _ (omega (arith, c.rows_lent-rows.ensures, length-replicate {A = ℕ} 256 0)))
-    (length-take-le _ _ (omega (arith, c.fewer-play_room.ensures, length-replicate {A = ℕ} 32768 0)) ∙ c.fewer-play_room.ensures) c.show_in_rows.ensures
+    (length-take-le _ _ (omega (arith, c.min-play_room.ensures, length-replicate {A = ℕ} 32768 0)) ∙ c.min-play_room.ensures) c.show_in_rows.ensures

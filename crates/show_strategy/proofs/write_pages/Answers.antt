@@ -1,26 +1,23 @@
--- From the laws of pages (pages, Handed) and of the lines that are printed.
-use Rattle.std.proofs.Common.{arith}
-use borrow.Author.Tests.{not-false}
-use Rattle.pages.proofs.Handed.{handed_none, handed_all, handed_cut, handed_onward, handed_more, handed_few}
-use Rattle.show_strategy.specs.Shows.{play_printout}
-use Rattle.show_strategy.proofs.Pages.{lines-short, few-lines}
+-- The ranges cut to the streams are numbers of the machine, and there are so few lines (Pages) that the bytes handed over are counted exactly.
+use native.Mathlib.Omega.{arith}
+use mathlib.Core.Path.{subst}
+use Rattle.output.specs.Output.{Hands}
+use Rattle.play_text.specs.Output.{play_output}
+use Rattle.show_strategy.proofs.Pages.{cut_to, lines-short, few-lines}
 use Rattle.show_strategy.proofs.write_pages.Goals as goal
 
-pub pages-init : goal.pages-init
-pages-init g c = handed_none _ _
+pub write_pages-requires-clause-short : goal.write_pages-requires-clause-short
+write_pages-requires-clause-short g c =
+    let a = c.args in
+    lines-short a.states a.choices a.entries.now a.finals.now a.play.now c.min-streams.result c.requires.0 (omega arith) (λ i. omega (arith, c.type_inv.entries i)) (λ i. omega (arith, c.type_inv.finals i)) c.requires.1
 
-pub returns-then-count-eq0 : goal.returns-then-count-eq0
-returns-then-count-eq0 g c = handed_all _ _ c.pages.invariant c.next_page-filled.ensures (lines-short c.args.states c.args.choices c.args.entries.now c.args.finals.now c.args.play.now c.requires.0 (omega arith) (λ i. omega (arith, c.type_inv.entries i)) (λ i. omega (arith, c.type_inv.finals i)) c.requires.1) (omega arith) c.if-count-eq0.true
+pub write_pages-requires-clause-few : goal.write_pages-requires-clause-few
+write_pages-requires-clause-few g c =
+    let a = c.args in
+    omega (arith, few-lines (cut_to a.sheet a.refusal a.states a.choices a.entries.now a.finals.now a.play.now c.min-streams.result) c.requires.2)
 
-pub returns-then-not-handed : goal.returns-then-not-handed
-returns-then-not-handed g c = handed_cut _ _ c.pages.invariant c.next_page-filled.ensures c.if-count-eq0.false
-
-pub overflow_add-size : goal.overflow_add-size
-overflow_add-size g c =
-    omega (arith, handed_few _ _ c.pages.invariant c.next_page-filled.ensures c.write_front-handed.ensures.hands (not-false _ c.if-not-handed.false) (lines-short c.args.states c.args.choices c.args.entries.now c.args.finals.now c.args.play.now c.requires.0 (omega arith) (λ i. omega (arith, c.type_inv.entries i)) (λ i. omega (arith, c.type_inv.finals i)) c.requires.1) (few-lines (play_printout c.args.sheet c.args.refusal c.args.states c.args.choices c.args.entries.now c.args.finals.now c.args.play.now) c.requires.2))
-
-pub pages-smaller : goal.pages-smaller
-pages-smaller g c = omega (arith, handed_onward _ _ c.pages.invariant c.next_page-filled.ensures c.if-count-eq0.false, c.next_page-filled.ensures.holds.inside c.pages.invariant.inside)
-
-pub pages-preserved : goal.pages-preserved
-pages-preserved g c = handed_more _ _ c.pages.invariant c.next_page-filled.ensures c.write_front-handed.ensures.hands (not-false _ c.if-not-handed.false)
+pub returns : goal.returns
+returns g c =
+    let a = c.args in
+    let r = c.write_pages.result in
+    subst (λ n. Hands (play_output (cut_to a.sheet a.refusal a.states a.choices a.entries.now a.finals.now a.play.now n)) r.size r.whole) c.min-streams.ensures c.write_pages.ensures

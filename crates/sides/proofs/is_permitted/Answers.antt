@@ -5,8 +5,8 @@ use Rattle.nodes.specs.Evaluate.{stored, view}
 use Rattle.sides.proofs.Values.{value-given}
 use Rattle.sides.proofs.is_permitted.Goals as goal
 
-pub returns : goal.returns
-returns c =
+pub returns-else-done : goal.returns-else-done
+returns-else-done c =
     let value = c.evaluate in
     let a = c.args in
     c.truth.ensures

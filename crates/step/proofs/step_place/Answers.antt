@@ -7,7 +7,7 @@ pub returns-then-answer-lt-REFUSED : goal.returns-then-answer-lt-REFUSED
 returns-then-answer-lt-REFUSED c =
     record {
       answers = c.step-answer.ensures;
-      place = place-changed (answer-moves c.step-answer.ensures c.if-answer-lt-REFUSED.true) c.moved-after.ensures.0 c.moved-after.ensures.1;
+      place = place-changed (answer-moves c.step-answer.ensures c.if-answer-lt-REFUSED.true) c.moved.ensures.0 c.moved.ensures.1;
     }
 
 pub returns-else-answer-lt-REFUSED : goal.returns-else-answer-lt-REFUSED

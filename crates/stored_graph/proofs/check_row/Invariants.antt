@@ -1,10 +1,7 @@
 -- `stored_graph::check_row` meets its contract: the places of the row before letter `letter` are as in a graph.
-use Prim.Native.Nat.{◌≤◌, ◌<◌, ◌-◌}
+use Rattle.std.proofs.Common.{◌<◌}
 use Rattle.stored_graph.specs.Checking.{Checked}
 use Rattle.stored_graph.proofs.check_row.Given as goal
 
 abbrev pub invariant-loop-letter : goal.invariant-loop-letter
-invariant-loop-letter l = (l.letter ≤ l.letters) × (l.row < l.met) × Checked l.entries l.flags l.letters l.rows l.row l.letter l.met
-
-abbrev pub decreases-loop-letter : goal.decreases-loop-letter
-decreases-loop-letter l = l.letters - l.letter
+invariant-loop-letter l = (l.row < l.met) × Checked l.entries l.flags l.letters l.rows l.row l.letter l.met

@@ -1,52 +1,28 @@
 -- `streams::streams_fit` meets its contract: the streams are tested one by one, and their letters are counted.
 use Prim.Native.Nat.{◌≤◌}
 use native.Mathlib.Omega.{arith}
-use mathlib.Core.Path.{◌≡◌, sym}
+use mathlib.Core.Path.{◌≡◌}
 use lib.ListN.{length}
-use lib.Seq.{length-take-le}
 use borrow.Author.Rules.{rules}
 use borrow.Author.Tests.{eqb-true, eqb-false}
 use Rattle.basics.proofs.Answers.{says_yes, says_no, says_either}
 use Rattle.streams.proofs.Fit.{no_streams, many-streams, each-not, letters-fit, letters-unfit}
 use Rattle.streams.proofs.streams_fit.Goals as goal
+use Rattle.streams.proofs.streams_fit.Goals.{then-count-eq0-via-then-count-eq0, then-count-eq0-via-else-count-eq0+then-count-gt8, then-count-eq0-via-else-count-eq0+else-count-gt8+then-letters-gt-MOST_LETTERS, then-count-eq0-via-else-count-eq0+else-count-gt8+else-letters-gt-MOST_LETTERS+then-not-each_fits}
 
 pub returns-then-count-eq0 : goal.returns-then-count-eq0
-returns-then-count-eq0 c = no_streams c.args.streams c.if-count-eq0.true
-
-pub returns-then-count-gt8 : goal.returns-then-count-gt8
-returns-then-count-gt8 c = many-streams c.args.streams c.if-count-gt8.true
-
-pub returns-then-not-each_fits : goal.returns-then-not-each_fits
-returns-then-not-each_fits c = each-not c.args.streams (says_no {b = c.each_fits.result} c.if-not-each_fits.true c.each_fits.ensures)
-
-pub slice_bounds-lows-end : goal.slice_bounds-lows-end
-slice_bounds-lows-end c =
-    let lows-long : length c.args.streams.lows ≡ 8 = search rules in
-    omega (arith, lows-long, c.if-count-gt8.false)
-
-pub slice_bounds-letter_count-end : goal.slice_bounds-letter_count-end
-slice_bounds-letter_count-end c =
-    let lows-long : length c.args.streams.lows ≡ 8 = search rules in
-    sym (length-take-le _ _ (omega (arith, lows-long, c.if-count-gt8.false)))
-
-pub slice_bounds-highs-end : goal.slice_bounds-highs-end
-slice_bounds-highs-end c =
-    let highs-long : length c.args.streams.highs ≡ 8 = search rules in
-    omega (arith, highs-long, c.if-count-gt8.false)
-
-pub slice_bounds-letter_count-end-2 : goal.slice_bounds-letter_count-end-2
-slice_bounds-letter_count-end-2 c =
-    let highs-long : length c.args.streams.highs ≡ 8 = search rules in
-    sym (length-take-le _ _ (omega (arith, highs-long, c.if-count-gt8.false)))
+returns-then-count-eq0 c = elim c.then-count-eq0.branch [
+  | then-count-eq0-via-then-count-eq0 w ↦ no_streams c.args.streams w.if-count-eq0.true
+  | then-count-eq0-via-else-count-eq0+then-count-gt8 w ↦ many-streams c.args.streams w.if-count-gt8.true
+  | then-count-eq0-via-else-count-eq0+else-count-gt8+then-letters-gt-MOST_LETTERS w ↦ λ f. let few = f.few_letters in omega arith
+  | then-count-eq0-via-else-count-eq0+else-count-gt8+else-letters-gt-MOST_LETTERS+then-not-each_fits w ↦ each-not c.args.streams (says_no {b = w.each_fits.result} w.if-not-each_fits.true w.each_fits.ensures)
+]
 
 pub returns : goal.returns
 returns c =
     let lows-long : length c.args.streams.lows ≡ 8 = search rules in
     let highs-long : length c.args.streams.highs ≡ 8 = search rules in
-    let start = c in
-    let some = c.if-count-eq0.false in
-    let few = c.if-count-gt8.false in
-    let bounded : start.args.letters ≤ 1024 = omega arith in
+    let bounded : c.args.letters ≤ 1024 = omega arith in
     let each = says_yes {b = c.each_fits.result} c.if-not-each_fits.false c.each_fits.ensures in
-    says_either _ (λ e. letters-fit start.args.streams (lows-long) (highs-long) some few bounded each c.letter_count.ensures (eqb-true _ _ e))
-    (λ e. letters-unfit start.args.streams (lows-long) (highs-long) some few bounded each c.letter_count.ensures (eqb-false _ _ e))
+    says_either _ (λ e. letters-fit c.args.streams lows-long highs-long c.if-count-eq0.false c.if-count-gt8.false bounded each c.letter_count.ensures (eqb-true _ _ e))
+    (λ e. letters-unfit c.args.streams lows-long highs-long c.if-count-eq0.false c.if-count-gt8.false bounded each c.letter_count.ensures (eqb-false _ _ e))

@@ -34,7 +34,6 @@ slice_bounds-values-end c =
     let h = few_streams a.lows.now a.highs.now a.entries.now a.finals.now a.place c.letter_count-count.ensures (sym c.letter_values.ensures.0 ∙ c.if-not-letter_values.false) in
     let d = length-described a.lows.now a.highs.now in
     let k : length c.letter_values.new.out ≡ 8 = c.letter_values.auto.out in
-    let f = c.fewer-streams.ensures in
     omega arith
 
 pub slice_bounds-entry_line-end : goal.slice_bounds-entry_line-end
@@ -43,11 +42,10 @@ slice_bounds-entry_line-end c =
     let h = few_streams a.lows.now a.highs.now a.entries.now a.finals.now a.place c.letter_count-count.ensures (sym c.letter_values.ensures.0 ∙ c.if-not-letter_values.false) in
     let d = length-described a.lows.now a.highs.now in
     let k : length c.letter_values.new.out ≡ 8 = c.letter_values.auto.out in
-    let f = c.fewer-streams.ensures in
     sym (length-take-le _ _ (omega arith))
 
 pub returns : goal.returns
 returns c =
     let a = c.args in
     appends_same c.entry_line.ensures
-    (line-there a.lows.now a.highs.now a.entries.now a.finals.now a.place c.letter_count-count.ensures (sym c.letter_values.ensures.0 ∙ c.if-not-letter_values.false) c.if-entries-place.false c.if-next.false c.fewer-streams.ensures (replicate 8 (pos 0)) refl c.letter_values.ensures.1 c.byte_at.ensures)
+    (line-there a.lows.now a.highs.now a.entries.now a.finals.now a.place c.letter_count-count.ensures (sym c.letter_values.ensures.0 ∙ c.if-not-letter_values.false) c.if-entries-place.false c.if-next.false c.min-streams.ensures (replicate 8 (pos 0)) refl c.letter_values.ensures.1 c.byte_at.ensures)

@@ -1,12 +1,7 @@
--- `tables::are_rows` meets its contract: the entries before `i` are rows or none exactly if `all` is true.
-use Prim.Native.Nat.{◌≤◌, ◌-◌}
-use lib.ListN.{length}
-use Rattle.basics.proofs.Reflects.{Reflects}
+-- `tables::are_rows` meets its contract: `all` says whether the entries before `entry` are rows or none.
+use Rattle.basics.specs.Answers.{Says}
 use Rattle.tables.specs.Parts.{AreRows}
 use Rattle.tables.proofs.are_rows.Given as goal
 
-abbrev pub invariant-loop-i : goal.invariant-loop-i
-invariant-loop-i l = (l.i ≤ length l.entries) × Reflects (AreRows l.entries l.rows l.i) l.all
-
-abbrev pub decreases-loop-i : goal.decreases-loop-i
-decreases-loop-i l = length l.entries - l.i
+abbrev pub invariant-loop-entry : goal.invariant-loop-entry
+invariant-loop-entry l = Says l.all (AreRows l.entries l.rows l.entry-index)

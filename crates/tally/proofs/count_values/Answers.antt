@@ -9,35 +9,17 @@ use Rattle.tally.proofs.count_values.Goals as goal
 pub loop-at-init : goal.loop-at-init
 loop-at-init c = (λ ns ls. nothing_read _ _ _ _ (omega (arith, c.requires)), refl)
 
-pub run_values-run-requires : goal.run_values-run-requires
-run_values-run-requires c = tt
-
 pub overflow_add-at : goal.overflow_add-at
 overflow_add-at c = omega (arith, c.if-at-chunk.true)
 
-pub line_end-end-requires : goal.line_end-end-requires
-line_end-end-requires c = tt
-
-pub part_to-requires : goal.part_to-requires
-part_to-requires c = tt
-
-pub returns-then-refusal-ne0 : goal.returns-then-refusal-ne0
-returns-then-refusal-ne0 c =
+pub returns-then-end-ne0 : goal.returns-then-end-ne0
+returns-then-end-ne0 c =
     let t = c.loop-at in
     let u = c.run_values-run in
     λ ns ls.
     let p = t.invariant.0 ns ls in
     read-part _ _ c.part_to.ensures (omega (arith, p.onward, u.ensures.0.onward))
-    (values-refused _ _ p u.ensures.0 u.ensures.1 c.if-at-chunk.true c.line_end-end.ensures c.if-refusal-ne0.true)
-
-pub raise-requires : goal.raise-requires
-raise-requires c = tt
-
-pub line_start-line-requires : goal.line_start-line-requires
-line_start-line-requires c = tt
-
-pub one_more-total-requires : goal.one_more-total-requires
-one_more-total-requires c = tt
+    (values-refused _ _ p u.ensures.0 u.ensures.1 c.if-at-chunk.true c.line_end-end.ensures c.if-end-ne0.true)
 
 pub loop-at-smaller-then-at-chunk : goal.loop-at-smaller-then-at-chunk
 loop-at-smaller-then-at-chunk c = let l = c.run_values-run.ensures.0 in omega (arith, l.onward, c.if-at-chunk.true)
@@ -49,7 +31,7 @@ loop-at-preserved-then-at-chunk c =
     let raised-to = c.raise.ensures in (
       λ ns ls.
           values-counted _ _ (t.invariant.0 ns ls) u.ensures.0 u.ensures.1 c.if-at-chunk.true c.line_end-end.ensures
-          c.if-refusal-ne0.false raised-to c.line_start-line.ensures c.one_more-total.ensures,
+          c.if-end-ne0.false raised-to c.line_start-line.ensures c.one_more-total.ensures,
       ap length raised-to ∙ raised-length t.counts c.line_end-end.result.letter ∙ t.invariant.1,
     )
 
@@ -61,9 +43,6 @@ loop-at-preserved c =
     let t = c.loop-at in
     let u = c.run_values-run in
     (λ ns ls. values_on _ _ (t.invariant.0 ns ls) u.ensures.0 u.ensures.1 c.loop-at-test.true c.if-at-chunk.false, t.invariant.1)
-
-pub part_to-requires-2 : goal.part_to-requires-2
-part_to-requires-2 c = tt
 
 pub returns : goal.returns
 returns c = λ ns ls. read-part _ _ c.part_to-2.ensures (omega (arith, c.loop-at-test.false, c.requires)) (c.loop-at.invariant.0 ns ls)

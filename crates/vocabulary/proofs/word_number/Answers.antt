@@ -3,7 +3,7 @@ use Prim.Native.Nat.{◌-◌, ◌+◌, ◌*◌, ◌<◌}
 use mathlib.Core.Path.{◌≡◌, sym, ap, ap₂, subst, ◌∙◌}
 use mathlib.Core.List.{◌∷◌}
 use native.Mathlib.Omega.{arith}
-use lib.ListN.{length, drop, get_or, length-drop}
+use lib.ListN.{drop, get_or, length-drop}
 use lib.Seq.{get_or-drop}
 use Rattle.vocabulary.specs.Word.{word_number, TellsWord}
 use Rattle.scan.proofs.Tokens.{drop_at, drop-end}
@@ -42,7 +42,7 @@ loop-i-preserved c =
     let i = c.loop-i.i in
     let back : i - 1 + 1 ≡ i = omega arith in
     let rest = drop_at token (i - 1) (omega arith) ∙ ap (λ n. get_or token (i - 1) 0 ∷ drop n token) back in
-    (omega arith, ap₂ (λ n b. n * 256 + b) c.loop-i.invariant.1 c.wide.ensures ∙ sym (ap word_number rest))
+    (omega arith, ap₂ (λ n b. n * 256 + b) c.loop-i.invariant.1 c.from.ensures ∙ sym (ap word_number rest))
 
 pub returns : goal.returns
 returns c =

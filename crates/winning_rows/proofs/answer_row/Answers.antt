@@ -2,46 +2,26 @@
 use Prim.Native.Nat.{◌-◌, ◌<◌}
 use mathlib.Core.Path.{refl, sym, ◌∙◌}
 use native.Mathlib.Omega.{arith}
-use lib.ListN.{length, length-set}
+use lib.ListN.{length}
 use Rattle.winning_rows.proofs.Answers.{answers-none, answers_skip, answers-store, answers-all}
+use Rattle.winning_rows.proofs.answer_row.Goals.{else-rank-ne0-via-then-rank-ne0+else-rank-highest, else-rank-ne0-via-else-rank-ne0}
 use Rattle.winning_rows.proofs.answer_row.Goals as goal
 
 pub loop-letter-init : goal.loop-letter-init
-loop-letter-init c =
-    (omega arith, refl, answers-none (length c.args.answers.now) c.fill_entries.ensures)
-
-pub overflow_cast-to : goal.overflow_cast-to
-overflow_cast-to c = omega (arith, c.type_inv.choice (c.loop-letter.letter - 1))
-
-pub overflow_cast-answers : goal.overflow_cast-answers
-overflow_cast-answers c =
-    omega (arith, c.requires.1.few, c.requires.0, c.loop-letter.invariant.0)
-
-pub offset_bounds-answers-to : goal.offset_bounds-answers-to
-offset_bounds-answers-to c = omega (arith, c.type_inv.choice (c.loop-letter.letter - 1))
-
-pub bounds-answers-to : goal.bounds-answers-to
-bounds-answers-to c =
-    omega (arith, c.requires.1.below (c.loop-letter.letter - 1) (omega arith), c.loop-letter.invariant.1, c.fill_entries.auto.list)
+loop-letter-init c = answers-none (length c.args.answers.now) (c.fill.ensures.after (λ y e. e))
 
 pub loop-letter-preserved-then-rank-highest : goal.loop-letter-preserved-then-rank-highest
 loop-letter-preserved-then-rank-highest c =
     let loop = c.loop-letter in
-    let start = c in
-    let is_letter : loop.letter - 1 < length start.args.row.now = omega arith in (
-      omega arith,
-      simp length-set loop.invariant.1,
-      answers-store (omega (arith, start.requires.1.below (loop.letter - 1) (omega arith), loop.invariant.1, c.fill_entries.auto.list))
-          (record { is_letter = is_letter; has_choice = refl; ranked = λ z. c.if-rank-ne0.true (c.number_at-rank.ensures ∙ z); low = rw (← c.number_at-rank.ensures) c.if-rank-highest.true }) loop.invariant.2,
-    )
-
-pub loop-letter-preserved-else-rank-highest : goal.loop-letter-preserved-else-rank-highest
-loop-letter-preserved-else-rank-highest c =
-    (omega arith, c.loop-letter.invariant.1, answers_skip (λ k x. omega (arith, x.low, c.number_at-rank.ensures, c.if-rank-highest.false)) c.loop-letter.invariant.2)
+    let is_letter : loop.letter - 1 < length c.args.row.now = omega (arith, loop.auto.letter, c.loop-letter-test.true) in
+    answers-store (omega (arith, c.requires.1.below (loop.letter - 1) (omega (arith, c.requires.0, is_letter)), loop.auto.answers, c.fill.auto.self))
+    (record { is_letter = is_letter; has_choice = refl; ranked = λ z. c.if-rank-ne0.true (c.number_at-rank.ensures ∙ z); low = rw (← c.number_at-rank.ensures) c.if-rank-highest.true }) loop.invariant
 
 pub loop-letter-preserved : goal.loop-letter-preserved
-loop-letter-preserved c =
-    (omega arith, c.loop-letter.invariant.1, answers_skip (λ k x. x.ranked (sym c.number_at-rank.ensures ∙ c.if-rank-ne0.false)) c.loop-letter.invariant.2)
+loop-letter-preserved c = elim c.else-rank-ne0.branch [
+  | else-rank-ne0-via-then-rank-ne0+else-rank-highest w ↦ answers_skip (λ k x. omega (arith, x.low, c.number_at-rank.ensures, w.if-rank-highest.false)) c.loop-letter.invariant
+  | else-rank-ne0-via-else-rank-ne0 w ↦ answers_skip (λ k x. x.ranked (sym c.number_at-rank.ensures ∙ w.if-rank-ne0.false)) c.loop-letter.invariant
+]
 
 pub returns : goal.returns
-returns c = answers-all (omega (arith, c.loop-letter-test.false)) c.loop-letter.invariant.2
+returns c = answers-all (omega arith) c.loop-letter.invariant

@@ -6,7 +6,7 @@ use native.Mathlib.Omega.{arith}
 use lib.ListN.{length, take, drop, length-append, length-drop}
 use lib.Seq.{length-take-le}
 use Rattle.basics.proofs.Answers.{says_yes, says_no}
-use Rattle.basics.proofs.Clearing.{zeroed}
+use Rattle.basics.proofs.Clearing.{zeros, zeroed}
 use Rattle.basics.proofs.Lists.{row_fits}
 use Rattle.winning_rows.specs.Play.{PlayFits}
 use Rattle.winning_rows.proofs.Sweeping.{fits-sized}
@@ -15,8 +15,11 @@ use Rattle.winning_rows.proofs.find_play.Goals as goal
 
 pub returns-then-not-can_play : goal.returns-then-not-can_play
 returns-then-not-can_play c =
-    let args = c.args in
-    (unfit-cleared args.entries.now args.finals.now args.choice.now args.choices (length args.ranks.now) (length args.play.now) (says_no c.if-not-can_play.true c.can_play.ensures) refl c.clear_entries.ensures, c.fill.ensures)
+    let args = c.args in (
+      unfit-cleared args.entries.now args.finals.now args.choice.now args.choices (length args.ranks.now) (length args.play.now) (says_no c.if-not-can_play.true c.can_play.ensures) refl
+          (record { same = c.fill.ensures.len; below = λ i h. absurd (omega arith); beyond = λ i h. rw (c.fill.ensures.after (λ y e. e)) (zeros (length args.play.now) i) }),
+      c.fill-then-not-can_play.ensures.after (λ y e. e),
+    )
 
 pub slice_bounds-rank_rows-end : goal.slice_bounds-rank_rows-end
 slice_bounds-rank_rows-end c =
@@ -82,6 +85,6 @@ returns c =
     let inside = c in
     let ranked = c in (
       play-outcome args.entries.now args.finals.now args.choice.now args.choices (length args.ranks.now) (length args.play.now) (row-choices) c.rank_rows.auto.ranks (fits) c.rank_rows.ensures
-          (c.fill_play.auto.play ∙ back-length) c.fill_play.ensures c.numbers_kept-kept.ensures c.clear_entries-2.ensures,
-      zeroed c.fill-2.ensures c.rank_rows.auto.ranks,
+          (c.fill_play.auto.play ∙ back-length) c.fill_play.ensures c.numbers_kept-kept.ensures c.clear_from.ensures,
+      zeroed (c.fill-2.ensures.after (λ y e. e)) c.rank_rows.auto.ranks,
     )

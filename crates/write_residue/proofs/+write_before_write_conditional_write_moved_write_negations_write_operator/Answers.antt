@@ -1,6 +1,6 @@
 -- The functions that write the residue of a part by recursion meet their contracts. Each way out writes what the last node makes of the residues of
 -- the parts (Recursion, Answers).
-use Rattle.std.proofs.Common.{arith, ℕ, ◌≡◌, ◌-◌, refl, sym, ◌∙◌, ap, true, cond, w64}
+use Rattle.std.proofs.Common.{arith, ℕ, ◌≡◌, ◌+◌, ◌-◌, refl, sym, ◌∙◌, ap, true, cond, w64}
 use mir.Val.{SFits}
 use mir.ValLaws.{to_z-of_z}
 use Rattle.meaning.specs.Value.{nonzero}
@@ -78,8 +78,8 @@ write_conditional-returns t c =
     (wrote_as (choose-varying c.write_before-test.ensures c.write_before-then.ensures c.write_before-other.ensures c.requires.asked.at_within c.if-test.false c.append.ensures) arm)
     c.varying.ensures
 
-pub write_negations-loop-left-init : goal.write_negations-loop-left-init
-write_negations-loop-left-init t c =
+pub write_negations-loop-passed-init : goal.write_negations-loop-passed-init
+write_negations-loop-passed-init t c =
     negated-none
 
 pub write_negations-negate_last-last-requires : goal.write_negations-negate_last-last-requires
@@ -91,12 +91,15 @@ write_negations-negate_last-last-requires t c =
     let before : ℕ → Residue = λ d. residue_before N U c.args.older.letters d p in
     let d = c.past_negations-inner.result in
     let start = stored c.args.new_kinds.now c.args.new_values.now c.args.new_starts.now in
-    let wrote = c.loop-left.invariant.wrote start (before d) (residue_decodes N U c.args.older.letters d p) c.write_before-last.ensures in
+    let wrote = c.loop-passed.invariant.wrote start (before d) (residue_decodes N U c.args.older.letters d p) c.write_before-last.ensures in
     wrote-behind wrote c.requires.asked.at_within
 
-pub write_negations-loop-left-preserved : goal.write_negations-loop-left-preserved
-write_negations-loop-left-preserved t c =
-    negated-more c.loop-left.invariant c.loop-left-test.true c.negate_last-last.ensures
+pub write_negations-loop-passed-preserved : goal.write_negations-loop-passed-preserved
+write_negations-loop-passed-preserved t c =
+    let some : c.args.part.end - c.loop-passed._passed ≡ 0 → ⊥ = λ z. omega arith in
+    let less : c.args.part.end - c.loop-passed._passed - 1 ≡ c.args.part.end - (c.loop-passed._passed + 1) = omega arith in
+    let more = negated-more c.loop-passed.invariant some c.negate_last-last.ensures in
+    rw less at more
 
 pub write_negations-returns : goal.write_negations-returns
 write_negations-returns t c =
@@ -107,8 +110,8 @@ write_negations-returns t c =
     let before : ℕ → Residue = λ d. residue_before N U c.args.older.letters d p in
     let d = c.past_negations-inner.result in
     let start = stored c.args.new_kinds.now c.args.new_values.now c.args.new_starts.now in
-    let wrote = c.loop-left.invariant.wrote start (before d) (residue_decodes N U c.args.older.letters d p) c.write_before-last.ensures in
-    let z : e - d - c.loop-left.left ≡ e - d = omega (arith, c.loop-left-test.false) in
+    let wrote = c.loop-passed.invariant.wrote start (before d) (residue_decodes N U c.args.older.letters d p) c.write_before-last.ensures in
+    let z : e - d - (e - c.loop-passed._passed) ≡ e - d = omega (arith, c.loop-passed-test.false) in
     wrote_as wrote
     (ap (λ n. negated_times n (before d)) z
     ∙ all-negated c.past_negations-inner.ensures (λ z. omega (arith, c.requires.end_nonzero.0)) N U c.args.older.letters p refl c.requires.end_nonzero.1)

@@ -21,9 +21,6 @@ decreases-write_negations l = 2 * l.part.end - 1
 abbrev pub decreases-write_operator : goal.decreases-write_operator
 decreases-write_operator l = 2 * l.part.end - 1
 
-abbrev pub invariant-write_negations-loop-left : goal.invariant-write_negations-loop-left
-invariant-write_negations-loop-left l =
-    NegatedUpTo (stored l.initial.new_kinds l.initial.new_values l.initial.new_starts) (stored l.new_kinds l.new_values l.new_starts) l.at l.initial.last l.last l.initial.left l.left
-
-abbrev pub decreases-write_negations-loop-left : goal.decreases-write_negations-loop-left
-decreases-write_negations-loop-left l = l.left
+abbrev pub invariant-write_negations-loop-passed : goal.invariant-write_negations-loop-passed
+invariant-write_negations-loop-passed l =
+    NegatedUpTo (stored l.initial.new_kinds l.initial.new_values l.initial.new_starts) (stored l.new_kinds l.new_values l.new_starts) l.at l.initial.last l.last (l.fn.part.end - l.inner) (l.fn.part.end - l._passed)

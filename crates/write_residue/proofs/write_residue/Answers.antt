@@ -20,13 +20,9 @@ returns-then-root-ge1024 c =
     let arrays : length c.args.kinds.now ≡ 1024 → length c.args.values.now ≡ 1024 → length c.args.starts.now ≡ 1024 → HasArrays nodes = λ k v t. record { kinds = k; values = v; starts = t } in
     let new-arrays : length c.args.new_kinds.now ≡ 1024 → length c.args.new_values.now ≡ 1024 → length c.args.new_starts.now ≡ 1024 → HasArrays news = λ k v t. record { kinds = k; values = v; starts = t } in
     let l = c.letter_count-letters.ensures in
-    wrote-cut c.fewer-from.ensures (new-arrays (omega arith) (omega arith) (omega arith))
+    wrote-cut c.min-from.ensures (new-arrays (omega arith) (omega arith) (omega arith))
     (wrote-known c.write_known.ensures (held-result (record { sfits = c.no_value_coded.type_inv }) c.no_value_coded.ensures)
     (no_node (arrays (omega arith) (omega arith) (omega arith)) seen _ c.args.root c.args.place c.if-root-ge1024.true))
-
-pub write_before-requires : goal.write_before-requires
-write_before-requires c =
-    record { end_within = omega (arith, c.if-root-ge1024.false); at_within = omega (arith, c.fewer-from.ensures); letters_places = c.letter_count-letters.ensures }
 
 pub returns : goal.returns
 returns c =
@@ -35,7 +31,7 @@ returns c =
     let seen : View = view c.args.window.now c.args.streams c.args.firsts.now c.args.whole in
     let arrays : length c.args.kinds.now ≡ 1024 → length c.args.values.now ≡ 1024 → length c.args.starts.now ≡ 1024 → HasArrays nodes = λ k v t. record { kinds = k; values = v; starts = t } in
     let new-arrays : length c.args.new_kinds.now ≡ 1024 → length c.args.new_values.now ≡ 1024 → length c.args.new_starts.now ≡ 1024 → HasArrays news = λ k v t. record { kinds = k; values = v; starts = t } in
-    wrote-cut c.fewer-from.ensures (new-arrays (omega arith) (omega arith) (omega arith))
+    wrote-cut c.min-from.ensures (new-arrays (omega arith) (omega arith) (omega arith))
     (wrote_as c.write_before.ensures
     (ap (λ k. residue_before nodes seen k (c.args.root + 1) c.args.place) c.letter_count-letters.ensures
     ∙ root_residue (arrays (omega arith) (omega arith) (omega arith)) seen _ c.args.root c.args.place (omega (arith, c.if-root-ge1024.false))))

@@ -16,25 +16,25 @@ count_is lefts rights p q = q ∙ ap (λ n. min n 32) p
 pub loop-j-init : goal.loop-j-init
 loop-j-init c =
     let s = c in
-    up_to-none (stored s.args.kinds.now s.args.values.now s.args.starts.now) (view s.args.window.now s.args.asked.streams s.args.firsts.now s.args.asked.whole) (length s.args.window.now / s.args.asked.streams) s.args.asked.place s.args.lefts.now s.args.rights.now (omega (arith, c.fewer-count.ensures))
+    up_to-none (stored s.args.kinds.now s.args.values.now s.args.starts.now) (view s.args.window.now s.args.asked.streams s.args.firsts.now s.args.asked.whole) (length s.args.window.now / s.args.asked.streams) s.args.asked.place s.args.lefts.now s.args.rights.now (omega (arith, c.min-count.ensures))
     (record { kinds = omega arith; values = omega arith; starts = omega arith }) (omega arith) (omega arith)
 
 pub write_constraint-ends-requires : goal.write_constraint-ends-requires
 write_constraint-ends-requires c =
     c.loop-j.invariant.room
 
-pub returns-then-full : goal.returns-then-full
-returns-then-full c =
+pub returns-then-ends-gt1024 : goal.returns-then-ends-gt1024
+returns-then-ends-gt1024 c =
     let s = c in
-    sides-refused (stored s.args.kinds.now s.args.values.now s.args.starts.now) (view s.args.window.now s.args.asked.streams s.args.firsts.now s.args.asked.whole) s.args.asked.place s.args.lefts.now s.args.rights.now (count_is s.args.lefts.now s.args.rights.now c.fewer.ensures c.fewer-count.ensures) c.write_constraint-ends.ensures.arrays
-    (no_room (stored s.args.kinds.now s.args.values.now s.args.starts.now) (view s.args.window.now s.args.asked.streams s.args.firsts.now s.args.asked.whole) (length s.args.window.now / s.args.asked.streams) s.args.asked.place s.args.lefts.now s.args.rights.now c.loop-j.invariant c.loop-j-test.true refl refl c.write_constraint-ends.ensures c.if-full.true)
+    sides-refused (stored s.args.kinds.now s.args.values.now s.args.starts.now) (view s.args.window.now s.args.asked.streams s.args.firsts.now s.args.asked.whole) s.args.asked.place s.args.lefts.now s.args.rights.now (count_is s.args.lefts.now s.args.rights.now c.min.ensures c.min-count.ensures) c.write_constraint-ends.ensures.arrays
+    (no_room (stored s.args.kinds.now s.args.values.now s.args.starts.now) (view s.args.window.now s.args.asked.streams s.args.firsts.now s.args.asked.whole) (length s.args.window.now / s.args.asked.streams) s.args.asked.place s.args.lefts.now s.args.rights.now c.loop-j.invariant c.loop-j-test.true refl refl c.write_constraint-ends.ensures c.if-ends-gt1024.true)
 
 pub loop-j-preserved : goal.loop-j-preserved
 loop-j-preserved c =
     let s = c in
-    up_to-more (stored s.args.kinds.now s.args.values.now s.args.starts.now) (view s.args.window.now s.args.asked.streams s.args.firsts.now s.args.asked.whole) (length s.args.window.now / s.args.asked.streams) s.args.asked.place s.args.lefts.now s.args.rights.now c.loop-j.invariant c.loop-j-test.true refl refl c.write_constraint-ends.ensures c.if-full.false
+    up_to-more (stored s.args.kinds.now s.args.values.now s.args.starts.now) (view s.args.window.now s.args.asked.streams s.args.firsts.now s.args.asked.whole) (length s.args.window.now / s.args.asked.streams) s.args.asked.place s.args.lefts.now s.args.rights.now c.loop-j.invariant c.loop-j-test.true refl refl c.write_constraint-ends.ensures c.if-ends-gt1024.false
 
 pub returns : goal.returns
 returns c =
     let s = c in
-    sides-done (stored s.args.kinds.now s.args.values.now s.args.starts.now) (view s.args.window.now s.args.asked.streams s.args.firsts.now s.args.asked.whole) s.args.asked.place s.args.lefts.now s.args.rights.now (count_is s.args.lefts.now s.args.rights.now c.fewer.ensures c.fewer-count.ensures) c.loop-j-test.false c.loop-j.invariant
+    sides-done (stored s.args.kinds.now s.args.values.now s.args.starts.now) (view s.args.window.now s.args.asked.streams s.args.firsts.now s.args.asked.whole) s.args.asked.place s.args.lefts.now s.args.rights.now (count_is s.args.lefts.now s.args.rights.now c.min.ensures c.min-count.ensures) c.loop-j-test.false c.loop-j.invariant

@@ -3,7 +3,6 @@ use Prim.Native.Nat.{◌≤◌, ◌<◌, ◌-◌, ◌*◌, ◌+◌}
 use mathlib.Core.Path.{sym, ◌∙◌}
 use native.Mathlib.Omega.{arith}
 use lib.ListN.{length}
-use native.Mathlib.Nat.{not-suc-le-zero}
 use Rattle.basics.proofs.Answers.{says_yes, says_no}
 use Rattle.sizes.specs.Room.{key_size}
 use Rattle.prepare.proofs.Parts.{part-size, part-long}
@@ -48,11 +47,8 @@ same-requires c =
 
 pub returns-then-same : goal.returns-then-same
 returns-then-same c =
-    let at-loop = c in
-    record {
-      here = λ h. (at-loop.loop-j.invariant.at_most, rw part-size at (says_yes c.if-same.true c.same.ensures));
-      nowhere = λ e. absurd (c.loop-j-test.true e);
-    }
+    let pos : 0 < c.loop-j.j = omega (arith, c.loop-j-test.true) in
+    (omega (arith, c.loop-j.invariant.at_most, pos), rw part-size at (says_yes c.if-same.true c.same.ensures))
 
 pub overflow_cast-j-in-loop-j : goal.overflow_cast-j-in-loop-j
 overflow_cast-j-in-loop-j c = omega (arith, c.type_inv.links (c.loop-j.j - 1))
@@ -70,8 +66,4 @@ loop-j-preserved c =
     left-next c.requires.key_tables in-loop.loop-j.invariant pos (rw part-size at (says_no c.if-same.false c.same.ensures))
 
 pub returns : goal.returns
-returns c =
-    record {
-      here = λ h. absurd (not-suc-le-zero h);
-      nowhere = λ e i h q. omega (arith, c.loop-j.invariant.all i h q, c.loop-j-test.false);
-    }
+returns c = λ i h q. omega (arith, c.loop-j.invariant.all i h q, c.loop-j-test.false)

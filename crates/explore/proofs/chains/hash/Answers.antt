@@ -2,7 +2,6 @@
 use Prim.Native.Nat.{ℕ, ◌≤◌, ◌<◌, ◌+◌}
 use mathlib.Core.Path.{◌≡◌, ◌∙◌}
 use mathlib.Core.List.{List}
-use native.Mathlib.Omega.{arith}
 use native.Mathlib.Numerals.{add-one}
 use lib.ListN.{length, get_or, drop, drop_of_length-le}
 use lib.Seq.{drop-cons}
@@ -17,15 +16,10 @@ over : (h i : ℕ) (key : List ℕ) → length key ≤ i → h ≡ hash_from h (
 unfolding hash_from
 over h i key le = rw (drop_of_length-le key le)
 
-pub loop-i-preserved : goal.loop-i-preserved
-loop-i-preserved c =
-    let at-loop = c in (
-      omega arith,
-      rw c.mix-h.ensures (turn at-loop.loop-i.h at-loop.loop-i.i at-loop.args.key.now c.loop-i-test.true)
-          ∙ at-loop.loop-i.invariant.1,
-    )
+pub loop-x-preserved : goal.loop-x-preserved
+loop-x-preserved c =
+    let loop = c.loop-x in
+    rw c.mix-h.ensures (turn loop.h loop.x-index c.args.key.now c.loop-x-test.true) ∙ loop.invariant
 
 pub returns : goal.returns
-returns c =
-    let at-loop = c in
-    over at-loop.loop-i.h at-loop.loop-i.i at-loop.args.key.now c.loop-i-test.false ∙ at-loop.loop-i.invariant.1
+returns c = over c.loop-x.h c.loop-x.x-index c.args.key.now c.loop-x-test.false ∙ c.loop-x.invariant

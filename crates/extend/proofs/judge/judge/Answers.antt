@@ -1,7 +1,6 @@
 -- `judge::judge` meets its contract. The loop's invariant: the constraints passed are judged and the marks of their untils are told, so the
 -- answer is what is told, joined with the answer for the rest.
 use mathlib.Core.Path.{sym, ◌∙◌}
-use native.Mathlib.Omega.{arith}
 use Rattle.extend.proofs.JudgeLaws.{told-start, weight_small, told-until, until-unlawful, told-sign, sign-unlawful, told-fits, told-end}
 use Rattle.extend.proofs.judge.judge.Goals as goal
 use Rattle.extend.proofs.judge.judge.Goals.{then-relation-eq-UNTIL_RELATION+else-not-is_permitted, else-relation-eq-UNTIL_RELATION+else-not-sides_hold}
@@ -9,17 +8,11 @@ use Rattle.extend.proofs.judge.judge.Goals.{then-relation-eq-UNTIL_RELATION+else
 pub loop-j-init : goal.loop-j-init
 loop-j-init c = rw c.begin-marking.ensures (told-start _ _ _ _ _)
 
-pub overflow_cast-left : goal.overflow_cast-left
-overflow_cast-left c = omega (arith, c.type_inv.lefts c.loop-j.j)
-
-pub overflow_cast-right : goal.overflow_cast-right
-overflow_cast-right c = omega (arith, c.type_inv.rights c.loop-j.j)
-
 pub returns-then-not-is_permitted : goal.returns-then-not-is_permitted
 returns-then-not-is_permitted c =
     let at-loop = c in
     let done = c.is_done-done in
-    c.unlawful.ensures ∙ until-unlawful _ _ _ _ _ _ _ c.loop-j-test.true at-loop.loop-j.invariant c.if-relation-eq-UNTIL_RELATION.true done.result done.ensures (sym c.is_permitted.ensures ∙ c.if-not-is_permitted.true)
+    until-unlawful _ _ _ _ _ _ _ c.loop-j-test.true at-loop.loop-j.invariant c.if-relation-eq-UNTIL_RELATION.true done.result done.ensures (sym c.is_permitted.ensures ∙ c.if-not-is_permitted.true)
 
 pub mark_on-marking-requires : goal.mark_on-marking-requires
 mark_on-marking-requires c = (c.loop-j.invariant.below, weight_small _ _ _ _ _ _ _ c.loop-j-test.true c.loop-j.invariant c.requires.2)
@@ -27,7 +20,7 @@ mark_on-marking-requires c = (c.loop-j.invariant.below, weight_small _ _ _ _ _ _
 pub returns-then-not-sides_hold : goal.returns-then-not-sides_hold
 returns-then-not-sides_hold c =
     let at-loop = c in
-    c.unlawful-then-not-sides_hold.ensures ∙ sign-unlawful _ _ _ _ _ _ _ c.loop-j-test.true at-loop.loop-j.invariant c.if-relation-eq-UNTIL_RELATION.false (sym c.sides_hold.ensures ∙ c.if-not-sides_hold.true)
+    sign-unlawful _ _ _ _ _ _ _ c.loop-j-test.true at-loop.loop-j.invariant c.if-relation-eq-UNTIL_RELATION.false (sym c.sides_hold.ensures ∙ c.if-not-sides_hold.true)
 
 pub loop-j-preserved : goal.loop-j-preserved
 loop-j-preserved c =
