@@ -45,6 +45,9 @@ impl<'a> PlacedText for PrintedCourse<'a> {
     // The names of the streams, then a line of values for each letter of the course; or the one line of a refusal.
     fn line_at(&self, place: usize, line: &mut [u8]) -> usize {
         if self.refusal != 0 {
+            if place != 0 {
+                return 0;
+            }
             return print::refusal_line(self.refusal, line);
         }
         if place == 0 {

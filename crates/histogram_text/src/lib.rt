@@ -68,7 +68,7 @@ fn line_at(
     line: &mut [u8],
 ) -> usize
     requires { length line.old ≡ line_room }
-    ensures { HoldsLine (histogram_at (record { refusal = refusal; total = total; names = names.now; lengths = lengths.now; lows = lows.now; highs = highs.now; counts = counts.now }) place) line.new result }
+    ensures { HoldsLine (histogram_at (record { refusal = refusal; total = total; names = names.now; lengths = lengths.now; lows = lows.now; highs = highs.now; counts = counts.now }) place) line_room line.new result }
 {
     if refusal != 0 {
         if place != 0 {

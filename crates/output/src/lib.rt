@@ -5,7 +5,10 @@
 ghost use Rattle.std.specs.Prelude.{take, cond, []};
 ghost use Rattle.output.specs.Output.{Hands, WritesWhole};
 
-use std::io::Write;
+use std::io::{ErrorKind, Write};
+
+// How many writes of a message there may be beyond one for each of its bytes, so that signals that interrupt writes do not keep it back.
+const MORE_WRITES: usize = 64;
 
 // How many bytes were taken by writes, and whether each write took all of its bytes.
 #[derive(Clone, Copy)]
@@ -53,12 +56,31 @@ pub fn write_front<W: Write>(out: &mut W, bytes: &[u8], size: usize) -> Handed
     }
 }
 
-// Writes a message where there is something to tell, and nothing where there is not; whether all that was to be written was.
+// Writes all of the bytes, as `write_whole` does, but makes a write that a signal interrupts again.
+fn write_again<W: Write>(out: &mut W, bytes: &[u8]) -> bool
+    ensures { WritesWhole (W.contents out.old) (W.contents out.new) bytes.now result }
+{
+    let mut done = 0;
+    for _ in 0..bytes.len().saturating_add(MORE_WRITES) {
+        if done == bytes.len() {
+            return true;
+        }
+        match out.write(&bytes[done..]) {
+            Ok(count) if 0 < count => done += count,
+            Err(error) if error.kind() == ErrorKind::Interrupted => {}
+            _ => return false,
+        }
+    }
+    done == bytes.len()
+}
+
+// Writes a message where there is something to tell, and nothing where there is not; whether all that was to be written was. A write that a signal interrupts is
+// made again, as std's `eprint` does.
 pub fn tell<W: Write>(out: &mut W, something: bool, message: &str) -> bool
     ensures { WritesWhole (W.contents out.old) (W.contents out.new) (cond something message.now []) result }
 {
     if !something {
         return true;
     }
-    write_whole(out, message.as_bytes())
+    write_again(out, message.as_bytes())
 }

@@ -2,4 +2,5 @@ pub mod Lines
 pub mod Placed
 pub mod Refused
 pub mod Handed
+pub mod Fitting
 pub mod Output

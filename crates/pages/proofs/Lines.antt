@@ -28,33 +28,33 @@ front-text {text} {out} p h =
     let size = w.1 ∙ (let e : 0 + length text ≡ length text = omega arith in e) in
     ap₂ take size w.0 ∙ written-front out text h
 
--- A text that is appended at the front of room for a line.
-pub appended-line : {text out out' : List ℕ} {r : ℕ} → length out ≡ line_room → Appends 0 text out out' r → HoldsLine text out' r
-appended-line {text} {out} {out'} {r} l p =
+-- A text that is appended at the front of so much room.
+pub appended-line : {text out out' : List ℕ} {room r : ℕ} → length out ≡ room → Appends 0 text out out' r → HoldsLine text room out' r
+appended-line {text} {out} {out'} {room} {r} l p =
     record {
       held = λ h. let w = p.written (omega arith) in let e : r ≡ length text = omega (arith, w.1) in (e, ap₂ take e w.0 ∙ written-front out text (omega arith));
       long = λ h. omega (arith, p.no_room (omega arith));
     }
 
 -- A line without text takes no bytes.
-pub empty-line : {text out : List ℕ} → [] ≡ text → HoldsLine text out 0
+pub empty-line : {text out : List ℕ} {room : ℕ} → [] ≡ text → HoldsLine text room out 0
 empty-line e = record { held = λ h. (ap length e, e); long = λ h. absurd (omega (arith, ap length e)) }
 
-module _ {text out : List ℕ} {size : ℕ} (h : HoldsLine text out size) where
+module _ {text out : List ℕ} {room size : ℕ} (h : HoldsLine text room out size) where
   -- A line that takes no more than there is room for is held, and one that takes more has no room.
-  pub line-held : size ≤ line_room → (size ≡ length text) × (take size out ≡ text)
-  line-held b = by (leb (length text) line_room) refl
+  pub line-held : size ≤ room → (size ≡ length text) × (take size out ≡ text)
+  line-held b = by (leb (length text) room) refl
     where
-      by : (t : Bool) → leb (length text) line_room ≡ t → (size ≡ length text) × (take size out ≡ text)
-      by true e = h.held (leb-true (length text) line_room e)
-      by false e = absurd (omega (arith, h.long (leb-false (length text) line_room e)))
+      by : (t : Bool) → leb (length text) room ≡ t → (size ≡ length text) × (take size out ≡ text)
+      by true e = h.held (leb-true (length text) room e)
+      by false e = absurd (omega (arith, h.long (leb-false (length text) room e)))
 
-  pub line-left : (room : ℕ) → min room line_room < size → min room line_room < length text
-  line-left room b = by (leb (length text) line_room) refl
+  pub line-left : (left : ℕ) → min left room < size → min left room < length text
+  line-left left b = by (leb (length text) room) refl
     where
-      by : (t : Bool) → leb (length text) line_room ≡ t → min room line_room < length text
-      by true e = omega (arith, (h.held (leb-true (length text) line_room e)).0)
-      by false e = omega (arith, leb-false (length text) line_room e)
+      by : (t : Bool) → leb (length text) room ≡ t → min left room < length text
+      by true e = omega (arith, (h.held (leb-true (length text) room e)).0)
+      by false e = omega (arith, leb-false (length text) room e)
 
 -- The first line, and the others.
 pub first-line : (f : ℕ → List ℕ) (n : ℕ) → lines_from f 0 (suc n) ≡ f 0 ++ lines_from (λ k. f (suc k)) 0 n
@@ -128,7 +128,7 @@ module _ (line : ℕ → List ℕ) where
           by k a b true e = h.short k a (ltb-true k next e)
           by k a b false e = let q : k ≡ next = omega (arith, ltb-false k next e) in omega (arith, ap (λ j. length (line j)) q)
 
-      module _ {buffer : List ℕ} {taken room : ℕ} (l : HoldsLine (line next) buffer taken) (r : room ≡ min (length out' - size) line_room) where
+      module _ {buffer : List ℕ} {taken room : ℕ} (l : HoldsLine (line next) line_room buffer taken) (r : room ≡ min (length out' - size) line_room) where
         -- The line that a buffer holds is copied behind the others if there is room for it.
         pub copied-line : next < count → taken ≤ room → {out'' : List ℕ} → out'' ≡ sets out' size (take taken buffer) → HoldsLines line count from out out'' (size + taken) (next + 1)
         copied-line less fits {out''} e =
@@ -161,7 +161,23 @@ module _ (line : ℕ → List ℕ) where
       let e : m + (n - m) ≡ n = omega arith in
       omega (arith, length-append (lines_from line 0 m) (lines_from line (0 + m) (n - m)), ap length (lines-append 0 m (n - m) ∙ ap (lines_from line 0) e))
 
+  -- No line of a text is longer than the text.
+  line-inside : (from n k : ℕ) → from ≤ k → k < from + n → length (line k) ≤ length (lines_from line from n)
+  unfolding lines_from
+  line-inside from zero k a b = absurd (omega arith)
+  line-inside from (suc n) k a b = by (line-inside from n k a) (ltb k (from + n)) refl
+    where
+      by : (k < from + n → length (line k) ≤ length (lines_from line from n)) → (t : Bool) → ltb k (from + n) ≡ t → length (line k) ≤ length (lines_from line from (suc n))
+      by before true e = omega (arith, length-append (lines_from line from n) (line (from + n)), before (ltb-true k (from + n) e))
+      by before false e =
+          let q : k ≡ from + n = omega (arith, ltb-false k (from + n) e) in
+          omega (arith, length-append (lines_from line from n) (line (from + n)), ap (λ j. length (line j)) q)
+
   module _ {count from : ℕ} {out out' : List ℕ} {r : Page} (p : IsPage line count from out out' r) where
+    -- Each line of a page is no longer than the page, and than there is room for.
+    pub page_fits : (k : ℕ) → from ≤ k → k < r.next → length (line k) ≤ min (length out) line_room
+    page_fits k a b = omega (arith, p.holds.onward, p.holds.short k a b, p.holds.long, p.holds.room, line-inside from (r.next - from) k a (omega arith))
+
     -- The text before a page and that of the page are the text before the next page.
     pub page_continues : length (lines_from line 0 from) + r.size ≡ length (lines_from line 0 r.next)
     page_continues =

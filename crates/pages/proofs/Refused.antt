@@ -25,10 +25,6 @@ module _ (refusal : ℕ) where
   unfolding places_or
   given-places given count = sym (ap (λ t. cond t count 1) (eq-eqb refusal 0 given))
 
-  -- A refusal has one place.
-  pub only-place : (refusal ≡ 0 → ⊥) → (count : ℕ) {place : ℕ} → place < places_or refusal count → place ≡ 0
-  only-place refused count h = omega (arith, refused-places refused count)
-
   pub few-places : {count most : ℕ} → 1 ≤ most → count ≤ most → places_or refusal count ≤ most
   unfolding places_or
   few-places {count} {most} some few = cond_cases (λ n. n ≤ most) (eqb refusal 0) {x = count} {y = 1} (λ t. few) (λ t. some)

@@ -1,6 +1,7 @@
 -- Texts by their places, each a line or nothing, and a page of them: lent bytes that hold whole lines from a place on.
-use Rattle.std.specs.Prelude.{ℕ, zero, suc, ◌-◌, ◌≤◌, ◌<◌, min, ◌≡◌, ◌⊎◌, cond, List, [], eqb, length, take}
+use Rattle.std.specs.Prelude.{ℕ, zero, suc, ◌-◌, ◌≤◌, ◌<◌, min, ◌≡◌, ◌⊎◌, cond, Bool, List, [], eqb, length, take}
 use Rattle.std.proofs.lemmas.List.Edits.{sets}
+use Rattle.output.specs.Output.{Hands}
 use Rattle.print.specs.Text.{refusal_line}
 use Rattle.print.specs.Lines.{lines_from}
 use Rattle.pages.specs.declared.Page.{Page}
@@ -26,14 +27,10 @@ places_or refusal count = cond (eqb refusal 0) count 1
 abbrev pub line_room : ℕ
 line_room = 256
 
--- So many lines at most has a text that is written page by page.
-abbrev pub most_lines : ℕ
-most_lines = 65536
-
--- The line stands at the front of the bytes and takes so many of them; or it is too long, and the number is more than there is room for.
-pub record HoldsLine (line out : List ℕ) (size : ℕ) : Type 0 where
-  pub held : length line ≤ line_room → (size ≡ length line) × (take size out ≡ line)
-  pub long : line_room < length line → line_room < size
+-- The line stands at the front of the bytes and takes so many of them; or it is longer than the room, and the number is more than there is room for.
+pub record HoldsLine (line : List ℕ) (room : ℕ) (out : List ℕ) (size : ℕ) : Type 0 where
+  pub held : length line ≤ room → (size ≡ length line) × (take size out ≡ line)
+  pub long : room < length line → room < size
 
 -- The texts of the places from `from` to before `next` stand at the front of the lent bytes, and what stood behind them stays.
 pub record HoldsLines (line : ℕ → List ℕ) (count from : ℕ) (out out' : List ℕ) (size next : ℕ) : Type 0 where
@@ -49,3 +46,13 @@ pub record HoldsLines (line : ℕ → List ℕ) (count from : ℕ) (out out' : L
 pub record IsPage (line : ℕ → List ℕ) (count from : ℕ) (out out' : List ℕ) (r : Page) : Type 0 where
   pub holds : HoldsLines line count from out out' r.size r.next
   pub ends : (count ≤ r.next) ⊎ (min (length out - r.size) line_room < length (line r.next))
+
+-- ---- pages one after the other
+
+-- The lines before the first one that is longer than the room, or all lines, are handed over.
+pub record HandsFitting (line : ℕ → List ℕ) (count room size : ℕ) (whole : Bool) : Type 0 where
+  pub next : ℕ
+  pub inside : next ≤ count
+  pub fit : (k : ℕ) → k < next → length (line k) ≤ room
+  pub ends : (next ≡ count) ⊎ (room < length (line next))
+  pub hands : Hands (lines_from line 0 next) size whole

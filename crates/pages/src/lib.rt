@@ -2,11 +2,10 @@
 // has the heading, or the line of a refusal, and the places after it have the lines of the entries, or nothing where an entry is 65,535.
 #![tactic(auto)]
 
-ghost use Rattle.std.specs.Prelude.{◌≡◌, ℕ, ◌≤◌, ◌<◌, List, length};
+ghost use Rattle.std.specs.Prelude.{◌≡◌, ℕ, min, List, length};
 ghost use Rattle.output.specs.Output.{Hands};
 ghost use Rattle.print.specs.Text.{refusal_line};
-ghost use Rattle.print.specs.Lines.{lines_from};
-ghost use Rattle.pages.specs.Lines.{line_room, most_lines, HoldsLine, IsPage};
+ghost use Rattle.pages.specs.Lines.{line_room, HoldsLine, IsPage, HandsFitting};
 ghost use Rattle.pages.specs.Output.{printout_of_table, output_at, places_of};
 
 use output::Handed;
@@ -29,11 +28,9 @@ pub trait PlacedText {
     fn place_count(&self) -> usize
         ensures { result ≡ count self.now };
 
-    // Writes the line at a place to the front of the bytes and gives its length.
+    // Writes the line at a place to the front of the bytes and gives its length; for a line that is longer than the bytes, a number that is more than their count.
     fn line_at(&self, place: usize, out: &mut [u8]) -> usize
-        requires room { length out.old ≡ line_room }
-        requires inside { place < count self.now }
-        ensures { HoldsLine (line self.now place) out.new result };
+        ensures { HoldsLine (line self.now place) (length out.old) out.new result };
 }
 
 // What `sluice` prints: a refusal's number, or 0 and the table of so many states. A name is stored as eight bytes and a length.
@@ -64,6 +61,9 @@ impl<'a> PlacedText for Table<'a> {
 
     fn line_at(&self, place: usize, out: &mut [u8]) -> usize {
         if self.refusal != 0 {
+            if place != 0 {
+                return 0;
+            }
             return print::refusal_line(self.refusal, out);
         }
         if place == 0 {
@@ -111,12 +111,10 @@ pub fn write_refusal<W: Write>(out: &mut W, refusal: u32) -> Handed
     output::write_front(out, &line, size)
 }
 
-// Writes all lines, page by page, and stops at a write that fails. So few short lines have so few bytes that they are counted exactly.
+// Writes the lines, page by page, and stops before a line that is longer than the page or than 256 bytes, at a write that fails, and where the bytes are more than a
+// `usize` counts.
 pub fn write_pages<T: PlacedText, W: Write>(out: &mut W, text: &T, page: &mut [u8]) -> Handed
-    requires room { line_room ≤ length page.old }
-    requires short { (k : ℕ) → length (T.line text.now k) ≤ line_room }
-    requires few { T.count text.now ≤ most_lines }
-    ensures { Hands (lines_from (T.line text.now) 0 (T.count text.now)) result.size result.whole }
+    ensures { HandsFitting (T.line text.now) (T.count text.now) (min (length page.old) line_room) result.size result.whole }
 {
     let mut size = 0;
     let mut from = 0;
@@ -129,7 +127,10 @@ pub fn write_pages<T: PlacedText, W: Write>(out: &mut W, text: &T, page: &mut [u
         if !handed.whole {
             return Handed { size, whole: false };
         }
-        size += handed.size;
+        size = match size.checked_add(handed.size) {
+            Some(sum) => sum,
+            None => return Handed { size, whole: false },
+        };
         from = filled.next;
     }
 }

@@ -2,16 +2,17 @@
 -- From the definitions, the laws of a text or a refusal (pages) and those of the crate print.
 use Prim.Native.Nat.{ℕ, zero, suc, ◌+◌, ◌-◌, ◌*◌, ◌/◌, ◌≤◌, ◌<◌, min}
 use native.Mathlib.Omega.{arith}
-use native.Mathlib.Nat.{div-lt_iff_lt-mul}
-use mathlib.Core.Path.{◌≡◌, sym, ◌∙◌, ap, ap₂}
+use native.Mathlib.Nat.{div-zero, div-lt_iff_lt-mul}
+use mathlib.Core.Path.{◌≡◌, refl, sym, ◌∙◌, ap, ap₂}
 use mathlib.Core.Logic.{◌⊎◌, inl, inr, ◌≢◌}
-use mathlib.Core.Bool.{cond}
+use mathlib.Core.Bool.{Bool, true, false, cond}
 use mathlib.Core.List.{List, [], ◌++◌, map, append_assoc, append-nil}
 use lib.Arith.{digits_div}
-use lib.Dec.{eqb}
+use lib.Dec.{eqb, leb}
 use lib.IntN.{ℤ}
 use lib.ListN.{length, get_or, get_or-eq_default}
-use borrow.Author.Tests.{eq-eqb, ne_eqb}
+use borrow.Author.Tests.{eq-eqb, ne_eqb, leb-true, leb-false}
+use Rattle.std.specs.Prelude.{Option, None, Some, SomeIff, unwrap_or}
 use Rattle.basics.proofs.Tests.{cond_cases}
 use Rattle.meaning.specs.Expression.{Stream}
 use Rattle.meaning.specs.Letter.{letter_count}
@@ -26,7 +27,7 @@ use Rattle.letters.specs.Described.{described, cut_count}
 use Rattle.letters.proofs.Streams.{letter_count-unnamed}
 use Rattle.table_text.specs.Table.{place_text}
 use Rattle.print.specs.Lines.{lines_from, AllFit}
-use Rattle.table_text.proofs.Places.{get_or-inside}
+use Rattle.table_text.proofs.Places.{get_or-inside, nothing-beyond}
 use Rattle.table_text.proofs.Table.{place-text, heading_stored}
 use Rattle.print.proofs.Lengths.{heading_length}
 use Rattle.pages.specs.Lines.{line_room}
@@ -36,6 +37,11 @@ use Rattle.play_text.specs.Play.{held_line, choices_text, states_text, play_text
 use Rattle.play_text.specs.Output.{PlayPrintout, held_text, play_line, play_at, play_places, play_output}
 
 -- ---- what is held at a place
+
+-- The quotient is 0 where there is no divisor.
+pub quotient : (r : Option ℕ) (n d : ℕ) → SomeIff r (0 < d) (n / d) → unwrap_or r 0 ≡ n / d
+quotient (Some q) n d h = h.1
+quotient None n d h = let z : d ≡ 0 = omega (arith, h) in sym (ap (n /◌) z ∙ div-zero n)
 
 module _ (choices : ℕ) (lows highs : List ℤ) (entries finals play : List ℕ) (place : ℕ) where
   -- the text of a number that stands there
@@ -57,6 +63,29 @@ module _ (choices : ℕ) (lows highs : List ℤ) (entries finals play : List ℕ
     held-letter n e =
         ap (λ k. place_text lows highs entries finals (place / choices * k + get_or play place 0)) e
         ∙ sym (ap text_of (get_or-inside play place no_state 0 inside) ∙ ap (λ b. cond b [] (place_text lows highs entries finals (place / choices * cut_count (letter_count (described lows highs)) + get_or play place 0))) (ne_eqb (get_or play place 0) no_state n))
+
+    -- A number that does not fit is that of no entry, and so is the largest.
+    pub held-fitting : get_or play place 0 ≢ no_state → length entries < 18446744073709551616 → {state letters row held : ℕ} → letters ≡ cut_count (letter_count (described lows highs)) → state ≡ place / choices
+        → row ≡ min (state * letters) 18446744073709551615 → held ≡ min (row + get_or play place 0) 18446744073709551615
+        → place_text lows highs entries finals held ≡ held_text choices lows highs entries finals play place
+    held-fitting n size {state} {letters} {row} {held} e s r h = by (leb (length entries) held) refl
+      where
+        whole : ℕ
+        whole = place / choices * letters + get_or play place 0
+
+        cut : held ≡ min whole 18446744073709551615
+        cut = let m : state * letters ≡ place / choices * letters = ap (◌* letters) s in omega arith
+
+        by : (t : Bool) → leb (length entries) held ≡ t → place_text lows highs entries finals held ≡ held_text choices lows highs entries finals play place
+        by true t =
+            let beyond = leb-true (length entries) held t in
+            nothing-beyond lows highs entries finals held beyond
+            ∙ sym (nothing-beyond lows highs entries finals whole (omega (arith, cut)))
+            ∙ held-letter n e
+        by false t =
+            let inside = leb-false (length entries) held t in
+            let same : held ≡ whole = omega (arith, cut) in
+            ap (place_text lows highs entries finals) same ∙ held-letter n e
 
 -- ---- the places
 

@@ -2,7 +2,6 @@
 // letter that the play table holds, or nothing where it holds 65,535.
 #![tactic(auto)]
 
-ghost use Rattle.std.specs.Prelude.{◌/◌, ◌<◌};
 ghost use Rattle.print.specs.Append.{Appends};
 ghost use Rattle.play_text.specs.Output.{held_text, printout_of_play, play_at, play_places};
 
@@ -27,15 +26,17 @@ fn held_line(
     place: usize,
     line: &mut [u8],
 ) -> usize
-    requires { (0 < choices) × (place / choices < 4294967296) }
     ensures { Appends 0 (held_text choices lows.now highs.now entries.now finals.now play.now place) line.old line.new result }
 {
     if play.len() <= place || play[place] == 65535 {
         return 0;
     }
     let letters = letters::letter_count(lows, highs) as usize;
-    let state = place / choices as usize;
-    let held = state * letters + usize::from(play[place]);
+    // Without choices the first state is taken. A number that does not fit is that of no entry, and so is the largest.
+    let state = place.checked_div(choices as usize).unwrap_or(0);
+    let held = state
+        .saturating_mul(letters)
+        .saturating_add(usize::from(play[place]));
     table_text::entry_text(entries, finals, lows, highs, held, line)
 }
 
@@ -55,6 +56,9 @@ impl<'a> PlacedText for PrintedPlay<'a> {
     fn line_at(&self, place: usize, line: &mut [u8]) -> usize {
         let table = self.table;
         if table.refusal != 0 {
+            if place != 0 {
+                return 0;
+            }
             return print::refusal_line(table.refusal, line);
         }
         if place == 0 {

@@ -33,20 +33,15 @@ fn digit(value: u64) -> u8
     b'0' + value as u8
 }
 
-// The digits of a number. They are found from the last one to the first, in room for the 20 of the largest number.
+// The digits of a number, those of its tenth first.
 pub fn append_natural(out: &mut [u8], at: usize, value: u64) -> usize
     ensures { Appends at (digits value) out.old out.new result }
 {
-    let mut room = [0u8; 20];
-    let mut first = 19;
-    let mut rest = value;
-    while 10 <= rest {
-        room[first] = digit(rest % 10);
-        rest /= 10;
-        first -= 1;
+    if value < 10 {
+        return append_bytes(out, at, &[digit(value)]);
     }
-    room[first] = digit(rest);
-    append_bytes(out, at, &room[first..])
+    let to = append_natural(out, at, value / 10);
+    append_bytes(out, to, &[digit(value % 10)])
 }
 
 // An integer in decimal.
@@ -93,10 +88,9 @@ pub fn append_each<N: Number>(
     numbers: &[N],
     after: &[u8],
 ) -> usize
-    requires { at ≤ suc (length out.old) }
     ensures { Appends at (each before.now N.text numbers.now after.now) out.old out.new result }
 {
-    let mut to = at;
+    let mut to = at.min(out.len() + 1);
     for number in numbers {
         let number_at = append_bytes(out, to, before);
         let end = number.append(out, number_at);

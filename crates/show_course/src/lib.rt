@@ -1,5 +1,5 @@
 // Prints what `shortest` prints for a sheet and a state: the best course to a final state, or the line of a refusal. The crate `course_text` gives the
-// bytes; what is left here is the call for the course and the loop that writes the bytes and counts those that it hands over.
+// bytes, and the crate `pages` writes them; what is left here are the calls.
 #![tactic(auto)]
 
 ghost use Rattle.std.specs.Prelude.{◌≡◌, ◌*◌, ◌≤◌, min, length, take};

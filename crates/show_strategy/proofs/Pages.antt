@@ -1,4 +1,4 @@
--- No line that `show_strategy` writes is longer than there is room for, and there are so few lines that the bytes handed over are counted exactly.
+-- No line that `show_strategy` writes is longer than there is room for, and there are few lines.
 use Prim.Native.Nat.{ℕ, ◌≤◌, ◌<◌}
 use native.Mathlib.Omega.{arith}
 use mathlib.Core.List.{List}

@@ -1,5 +1,5 @@
-// Prints what `strategy` prints for a sheet: its play table, or the line of a refusal. The crate `play_text` gives the bytes; what is left here is the call for the
-// play table and the loop that writes the bytes and counts those that it hands over.
+// Prints what `strategy` prints for a sheet: its play table, or the line of a refusal. The crate `play_text` gives the bytes, and the crate `pages` writes them; what
+// is left here are the calls.
 #![tactic(auto)]
 
 ghost use Rattle.std.specs.Prelude.{◌≤◌, length};

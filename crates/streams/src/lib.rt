@@ -37,11 +37,13 @@ impl StreamsDescription {
         }
     }
 
-    // The bytes of a stream's name: as many as its length says, and at most the eight that are kept for it.
+    // The bytes of a stream's name: as many as its length says, and at most the eight that are kept for it. No bytes are kept for a ninth stream.
     pub fn name(&self, stream: usize) -> &[u8]
-        requires { stream < 8 }
         ensures { result.now ≡ name_in self.now.names self.now.lengths stream }
     {
+        if 8 <= stream {
+            return &[];
+        }
         let start = stream * 8;
         let end = start + usize::from(self.lengths[stream].min(8));
         &self.names[start..end]

@@ -1,5 +1,4 @@
--- No line of a table is longer than there is room for, and there are so few lines that the bytes handed over are counted exactly; the ranges of streams that an
--- accepted sheet could have are numbers of the machine.
+-- No line of a table is longer than there is room for, and there are few lines; the ranges of streams that an accepted sheet could have are numbers of the machine.
 use Prim.Native.Nat.{ℕ, ◌≤◌, ◌<◌, min}
 use native.Mathlib.Omega.{arith}
 use mathlib.Core.Path.{◌≡◌, sym, ap, subst, ◌∙◌}
@@ -23,10 +22,10 @@ abbrev pub cut_to : StreamsDescription → (states : ℕ) (entries finals : List
 cut_to d states entries finals count =
     record { refusal = 0; states = states; names = d.names; lengths = d.lengths; lows = take count d.lows; highs = take count d.highs; entries = entries; finals = finals }
 
-pub lines-short : (d : StreamsDescription) (states : ℕ) (entries finals : List ℕ) {count : ℕ} → count ≡ min d.count 8 → RangesHeld d → ((i : ℕ) → get_or entries i 0 < 65536)
-    → ((i : ℕ) → get_or finals i 0 < 256) → length entries ≤ 32768 → (k : ℕ) → length (output_at (cut_to d states entries finals count) k) ≤ line_room
-lines-short d states entries finals {count} cut held e f n =
-    line-short (cut_to d states entries finals count) (omega arith) (subst (λ k. AllFit (take k d.lows)) (sym cut) held.lows) (subst (λ k. AllFit (take k d.highs)) (sym cut) held.highs) e f (omega arith)
+pub lines-short : (d : StreamsDescription) {refusal : ℕ} (states : ℕ) (entries finals : List ℕ) → RangesHeld d → refusal < 4294967296 → ((i : ℕ) → get_or entries i 0 < 65536)
+    → ((i : ℕ) → get_or finals i 0 < 256) → length entries ≤ 32768 → (k : ℕ) → length (output_at (described_printout d refusal states entries finals) k) ≤ line_room
+lines-short d {refusal} states entries finals held r e f n =
+    line-short (described_printout d refusal states entries finals) r held.lows held.highs e f (omega arith)
 
 pub few-lines : (p : Printout) → length p.entries ≤ 32768 → places_of p ≤ 32769
 few-lines p h = few-places p.refusal (omega arith) (omega arith)

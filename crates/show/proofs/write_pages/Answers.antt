@@ -1,23 +1,19 @@
--- The ranges cut to the streams are numbers of the machine, and the table has so few lines (Pages) that the bytes handed over are counted exactly.
+-- The ranges cut to the streams are numbers of the machine, so that each line has room (Pages), and what is handed over is the text of all lines.
+use Prim.Native.Nat.{ℕ}
 use native.Mathlib.Omega.{arith}
 use mathlib.Core.Path.{refl, subst}
+use lib.ListN.{replicate}
+use Rattle.std.proofs.lemmas.List.{length-replicate}
 use Rattle.output.specs.Output.{Hands}
 use Rattle.pages.specs.Output.{output_text}
-use Rattle.show.proofs.Pages.{cut_to, lines-short, few-lines}
+use Rattle.pages.proofs.Fitting.{hands_all}
+use Rattle.show.proofs.Pages.{cut_to, lines-short}
 use Rattle.show.proofs.write_pages.Goals as goal
-
-pub write_pages-handed-requires-clause-short : goal.write_pages-handed-requires-clause-short
-write_pages-handed-requires-clause-short g c =
-    let a = c.args in
-    lines-short a.states a.entries.now a.finals.now c.min-streams.result c.requires.0 (omega arith) (λ i. omega (arith, c.type_inv.entries i)) (λ i. omega (arith, c.type_inv.finals i)) c.requires.1
-
-pub write_pages-handed-requires-clause-few : goal.write_pages-handed-requires-clause-few
-write_pages-handed-requires-clause-few g c =
-    let a = c.args in
-    omega (arith, few-lines (cut_to a.sheet a.refusal a.states a.entries.now a.finals.now c.min-streams.result) c.requires.1)
 
 pub returns : goal.returns
 returns g c =
     let a = c.args in
     let r = c.write_pages-handed.result in
-    record { number = refl; hands = subst (λ n. Hands (output_text (cut_to a.sheet a.refusal a.states a.entries.now a.finals.now n)) r.size r.whole) c.min-streams.ensures c.write_pages-handed.ensures }
+    let short = lines-short {stored = a.sheet} {refusal = a.refusal} a.states a.entries.now a.finals.now c.min-streams.result c.requires.0 (omega arith) (λ i. omega (arith, c.type_inv.entries i)) (λ i. omega (arith, c.type_inv.finals i)) c.requires.1 in
+    let hands = hands_all (replicate 65536 0) (omega (arith, length-replicate {A = ℕ} 65536 0)) short c.write_pages-handed.ensures in
+    record { number = refl; hands = subst (λ n. Hands (output_text (cut_to a.sheet a.refusal a.states a.entries.now a.finals.now n)) r.size r.whole) c.min-streams.ensures hands }
