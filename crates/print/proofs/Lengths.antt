@@ -1,9 +1,9 @@
 -- How long the lines can be: at most 32 bytes for a refusal and for two numbers, 128 for a heading, 256 for an entry and for a name with numbers and a
 -- count, and for the names and the values of eight streams 73 and 169.
-use Prim.Native.Nat.{ℕ, zero, suc, ◌+◌, ◌*◌, ◌/◌, ◌%◌, ◌≤◌, ◌<◌, min}
+use Prim.Native.Nat.{ℕ, zero, suc, ◌+◌, ◌*◌, ◌/◌, ◌%◌, ◌^◌, ◌≤◌, ◌<◌, min}
 use native.Mathlib.Omega.{arith}
-use native.Mathlib.Nat.{div-lt_iff_lt-mul}
-use mathlib.Core.Path.{◌≡◌, refl, ◌∙◌, ap}
+use native.Mathlib.Nat.{div-one, div-lt_iff_lt-mul, le-div_iff_mul-le, div-div-eq-div-mul, pow-succ', one-le-pow}
+use mathlib.Core.Path.{◌≡◌, refl, sym, ◌∙◌, ap}
 use mathlib.Core.Bool.{Bool, true, false}
 use mathlib.Core.List.{List, [], ◌∷◌, ◌++◌, map}
 use lib.Dec.{ltb}
@@ -40,6 +40,24 @@ some-digit n = by (ltb n 10) refl
     by : (t : Bool) → ltb n 10 ≡ t → 1 ≤ length (digits n)
     by true e = let o = one-digit n (ltb-true n 10 e) in omega arith
     by false e = let m = more-digits n (ltb-false n 10 e) in omega arith
+
+-- A number from 10 to the power of k on has k digits more than what is left without the last k.
+pub without-last : (k n : ℕ) → 10 ^ k ≤ n → length (digits n) ≡ length (digits (n / 10 ^ k)) + k
+without-last zero n h = let e = ap (λ r. length (digits r)) (div-one n) in omega arith
+without-last (suc k) n h =
+    let some = one-le-pow k 10 (omega arith) in
+    let p = pow-succ' 10 k in
+    let m = more-digits n (omega arith) in
+    let again = without-last k (n / 10) ((le-div_iff_mul-le {k = 10} {x = 10 ^ k} {y = n} (omega arith)).1 (omega arith)) in
+    let e = ap (λ r. length (digits r)) (div-div-eq-div-mul n 10 (10 ^ k) ∙ ap (n /◌) (sym p)) in
+    omega arith
+
+-- Below ten times that power it has k digits and one more.
+pub between-powers : (k n : ℕ) → 10 ^ k ≤ n → n < 10 * 10 ^ k → length (digits n) ≡ suc k
+between-powers k n h b =
+    let m = without-last k n h in
+    let o = one-digit (n / 10 ^ k) ((div-lt_iff_lt-mul {k = 10 ^ k} {x = n} {y = 10} (one-le-pow k 10 (omega arith))).1 b) in
+    omega arith
 
 -- A number below 10 to the power of k has at most k digits, where k is not 0.
 pub digits-length : (k n : ℕ) → n < tens (suc k) → length (digits n) ≤ suc k

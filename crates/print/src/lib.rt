@@ -4,6 +4,7 @@
 #![tactic(auto)]
 
 ghost use Rattle.std.specs.Prelude.{◌≡◌, [], ◌∷◌, ◌++◌, map, suc, ◌+◌, ◌<◌, ◌≤◌, min, pos, List, ℕ, length, get_or};
+ghost use Rattle.std.proofs.lemmas.List.Edits.{sets};
 ghost use Rattle.print.specs.Append.{Appends};
 ghost use Rattle.print.specs.Text.{digits, decimal, spaced, line, tokens_line, heading_line, entry_line, refusal_line};
 ghost use Rattle.print.specs.Lines.{each, stored_names};
@@ -33,15 +34,50 @@ fn digit(value: u64) -> u8
     b'0' + value as u8
 }
 
-// The digits of a number, those of its tenth first.
+// How many digits a number has. They are counted three at a time, since a division takes longer than a comparison.
+fn digit_count(value: u64) -> usize
+    ensures { (result ≡ length (digits value)) × (result ≤ 20) }
+{
+    let mut rest = value;
+    let mut count = 1;
+    while 10 <= rest {
+        if rest < 100 {
+            return count + 1;
+        }
+        if rest < 1000 {
+            return count + 2;
+        }
+        rest /= 1000;
+        count += 3;
+    }
+    count
+}
+
+// Stores the digits of a number, the last one first.
+fn put_digits(out: &mut [u8], at: usize, count: usize, value: u64)
+    requires { (count ≡ length (digits value)) × (at + count ≤ length out.old) }
+    ensures { out.new ≡ sets out.old at (digits value) }
+{
+    let mut rest = value;
+    let mut to = at + count - 1;
+    while 10 <= rest {
+        out[to] = digit(rest % 10);
+        rest /= 10;
+        to -= 1;
+    }
+    out[to] = digit(rest);
+}
+
+// The digits of a number. They are counted first, and each is put in its place at once: short ones found elsewhere and then copied take over twice as long.
 pub fn append_natural(out: &mut [u8], at: usize, value: u64) -> usize
     ensures { Appends at (digits value) out.old out.new result }
 {
-    if value < 10 {
-        return append_bytes(out, at, &[digit(value)]);
+    let count = digit_count(value);
+    if out.len() - at.min(out.len()) < count {
+        return out.len() + 1;
     }
-    let to = append_natural(out, at, value / 10);
-    append_bytes(out, to, &[digit(value % 10)])
+    put_digits(out, at, count, value);
+    at + count
 }
 
 // An integer in decimal.
